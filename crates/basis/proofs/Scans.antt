@@ -1,0 +1,94 @@
+-- Laws of `every`, `each` and `mem`: what they say at an index, and what a scanning loop needs at its start, at a turn, where it breaks off and at its end.
+-- Assumes nothing.
+use Prim.Native.Nat.{ℕ, zero, suc, _+_, _≤_, _<_}
+use mathlib.Core.Path.{_≡_, refl, sym, ap, _∙_}
+use mathlib.Core.Logic.{⊎-elim}
+use mathlib.Core.Bool.{Bool, true, false, _&&_, _||_}
+use mathlib.Core.List.{List, [], _∷_}
+use native.Mathlib.Omega.{arith}
+use native.Mathlib.Nat.{not-suc-le-zero, le-of-suc-le-suc, eq-or-lt-of-le}
+use native.Mathlib.Numerals.{add-one}
+use lib.ListN.{length, getD}
+use lib.Dec.{eqb, ltb}
+use borrow.Author.Tests.{eq-eqb, ne-eqb, eqb-true, ltb-true, lt-ltb}
+use Rattle.basis.specs.Scan.{every, each, allBelow, mem}
+use Rattle.basis.proofs.Tests.{clash, false-of, same-test, and-first, and-second, and-both, or-first, or-second}
+
+-- ---- every number below a bound
+module _ (p : ℕ → Bool) where
+  pub every-none : every 0 p ≡ true
+  unfolding every
+  every-none = refl
+
+  pub every-more : (i : ℕ) → every i p ≡ true → p i ≡ true → every (i + 1) p ≡ true
+  unfolding every
+  every-more i a h = ap (λ (k : ℕ). every k p) (add-one i) ∙ and-both a h
+
+  pub every-at : (n i : ℕ) → i < n → every n p ≡ true → p i ≡ true
+  unfolding every
+  every-at zero i l a = absurd (not-suc-le-zero l)
+  every-at (suc n) i l a =
+      ⊎-elim (λ e. ap p e ∙ and-second (every n p) (p n) a) (λ g. every-at n i g (and-first (every n p) (p n) a)) (eq-or-lt-of-le (le-of-suc-le-suc l))
+
+  pub every-of : (n : ℕ) → ((i : ℕ) → i < n → p i ≡ true) → every n p ≡ true
+  unfolding every
+  every-of zero h = refl
+  every-of (suc n) h = and-both (every-of n (λ i l. h i (omega arith))) (h n (omega arith))
+
+  pub every-fail : (n i : ℕ) → i < n → p i ≡ false → every n p ≡ false
+  every-fail n i l h = false-of (every n p) (λ e. clash (every-at n i l e) h)
+
+  -- the scan is over
+  pub every-end : (n i : ℕ) → n ≤ i → i ≤ n → every i p ≡ true → true ≡ every n p
+  every-end n i a b h = let e : i ≡ n = omega arith in sym (ap (λ (k : ℕ). every k p) (sym e) ∙ h)
+
+-- ---- each member of a list
+module _ {A : Type 0} (p : A → Bool) (z : A) where
+  pub each-at : (l : List A) → each p l ≡ true → (i : ℕ) → i < length l → p (getD l i z) ≡ true
+  unfolding each
+  each-at [] h i g = absurd (not-suc-le-zero g)
+  each-at (x ∷ l) h zero g = and-first (p x) (each p l) h
+  each-at (x ∷ l) h (suc i) g = each-at l (and-second (p x) (each p l) h) i (omega arith)
+
+  pub each-of : (l : List A) → ((i : ℕ) → i < length l → p (getD l i z) ≡ true) → each p l ≡ true
+  unfolding each
+  each-of [] h = refl
+  each-of (x ∷ l) h = and-both (h 0 (omega arith)) (each-of l (λ i g. h (suc i) (omega arith)))
+
+  pub each-fail : (l : List A) (i : ℕ) → i < length l → p (getD l i z) ≡ false → each p l ≡ false
+  each-fail l i g h = false-of (each p l) (λ e. clash (each-at l e i g) h)
+
+  -- a loop over the list is a loop over its places
+  pub each-every : (l : List A) → every (length l) (λ i. p (getD l i z)) ≡ each p l
+  each-every l =
+      same-test (every (length l) (λ i. p (getD l i z))) (each p l)
+      (λ h. each-of l (λ i g. every-at (λ i. p (getD l i z)) (length l) i g h))
+      (λ h. every-of (λ i. p (getD l i z)) (length l) (λ i g. each-at l h i g))
+
+pub below-at : (n : ℕ) (l : List ℕ) → allBelow n l ≡ true → (i : ℕ) → i < length l → getD l i 0 < n
+below-at n l h i g = ltb-true (getD l i 0) n (each-at (λ x. ltb x n) 0 l h i g)
+
+pub below-of : (n : ℕ) (l : List ℕ) → ((i : ℕ) → i < length l → getD l i 0 < n) → allBelow n l ≡ true
+below-of n l h = each-of (λ x. ltb x n) 0 l (λ i g. lt-ltb (getD l i 0) n (h i g))
+
+-- ---- membership
+pub mem-index : (x : ℕ) (l : List ℕ) (i : ℕ) → i < length l → getD l i 0 ≡ x → mem x l ≡ true
+unfolding mem
+mem-index x [] i g e = absurd (not-suc-le-zero g)
+mem-index x (y ∷ l) zero g e = or-first (eqb x y) (mem x l) (eq-eqb x y (sym e))
+mem-index x (y ∷ l) (suc i) g e = or-second (eqb x y) (mem x l) (mem-index x l i (omega arith) e)
+
+pub mem-none : (x : ℕ) (l : List ℕ) → ((i : ℕ) → i < length l → getD l i 0 ≡ x → ⊥) → mem x l ≡ false
+unfolding mem
+mem-none x [] h = refl
+mem-none x (y ∷ l) h = rw (ne-eqb x y (λ e. h 0 (omega arith) (sym e))) (mem-none x l (λ i g e. h (suc i) (omega arith) e))
+
+-- what holds of each member holds of a member
+pub each-mem : (p : ℕ → Bool) (l : List ℕ) → each p l ≡ true → (x : ℕ) → mem x l ≡ true → p x ≡ true
+unfolding each mem
+each-mem p [] h x m = clash m refl
+each-mem p (y ∷ l) h x m = by (eqb x y) refl m (each-mem p l (and-second (p y) (each p l) h) x)
+  where
+    by : (t : Bool) → eqb x y ≡ t → (t || mem x l) ≡ true → (mem x l ≡ true → p x ≡ true) → p x ≡ true
+    by true e k f = ap p (eqb-true x y e) ∙ and-first (p y) (each p l) h
+    by false e k f = f k

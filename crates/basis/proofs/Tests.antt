@@ -1,0 +1,43 @@
+-- Laws of tests: what a conjunction of tests says of each, and a test by its two cases. Assumes nothing.
+use mathlib.Core.Path.{_≡_, refl, sym, ap, _∙_}
+use mathlib.Core.Bool.{Bool, true, false, _&&_, _||_, false≢true}
+
+-- a test that is both ways proves anything
+pub clash {ℓ} : {X : Type ℓ} {t : Bool} → t ≡ true → t ≡ false → X
+clash h g = absurd (false≢true (sym g ∙ h))
+
+pub false-of : (t : Bool) → (t ≡ true → ⊥) → t ≡ false
+false-of true h = absurd (h refl)
+false-of false h = refl
+
+pub bool-cases {ℓ} : (t : Bool) (X : Type ℓ) → (t ≡ true → X) → (t ≡ false → X) → X
+bool-cases true X f g = f refl
+bool-cases false X f g = g refl
+
+-- two tests that follow from each other are the same
+pub same-test : (s t : Bool) → (s ≡ true → t ≡ true) → (t ≡ true → s ≡ true) → s ≡ t
+same-test true t f g = sym (f refl)
+same-test false true f g = g refl
+same-test false false f g = refl
+
+pub and-first : (s t : Bool) → (s && t) ≡ true → s ≡ true
+and-first true t h = refl
+and-first false t h = h
+
+pub and-second : (s t : Bool) → (s && t) ≡ true → t ≡ true
+and-second true t h = h
+and-second false t h = clash h refl
+
+pub and-both : {s t : Bool} → s ≡ true → t ≡ true → (s && t) ≡ true
+and-both {s} {t} h g = ap (λ (x : Bool). x && t) h ∙ g
+
+pub and-off : (s t : Bool) → t ≡ false → (s && t) ≡ false
+and-off true t h = h
+and-off false t h = refl
+
+pub or-first : (s t : Bool) → s ≡ true → (s || t) ≡ true
+or-first s t h = ap (λ (x : Bool). x || t) h
+
+pub or-second : (s t : Bool) → t ≡ true → (s || t) ≡ true
+or-second true t h = refl
+or-second false t h = h

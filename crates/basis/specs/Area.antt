@@ -1,0 +1,27 @@
+-- What stands in a lent area.
+use Prim.Native.Nat.{ℕ, zero, suc, _-_}
+use mathlib.Core.List.{List, [], _∷_, _++_}
+use lib.IntN.{ℤ, pos}
+use lib.ListN.{length, replicate}
+
+-- f s, f (s + 1), .. : n values
+unfoldable pub column : {A : Type 0} → (ℕ → A) → ℕ → ℕ → List A
+column f s zero = []
+column f s (suc n) = f s ∷ column f (suc s) n
+
+-- "places beyond the ones used are zero": a list in an area of the given size, with z behind it
+abbrev pub padWith : {A : Type 0} → A → ℕ → List A → List A
+padWith z size l = l ++ replicate (size - length l) z
+
+abbrev pub pad : ℕ → List ℕ → List ℕ
+pad size l = padWith 0 size l
+
+abbrev pub padZ : ℕ → List ℤ → List ℤ
+padZ size l = padWith (pos 0) size l
+
+-- "fill every area lent for writing with zero"
+abbrev pub cleared : List ℕ → List ℕ
+cleared l = replicate (length l) 0
+
+abbrev pub clearedZ : List ℤ → List ℤ
+clearedZ l = replicate (length l) (pos 0)

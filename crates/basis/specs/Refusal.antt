@@ -1,0 +1,77 @@
+-- 01 "Refusal numbers": what a call says, in the paper's numbers.
+use Prim.Native.Nat.{ℕ}
+use Rattle.basis.specs.declared.refusal.Refusal.{Refusal}
+
+-- "A refusal returns its number, a file number and a line counted from 1"
+abbrev pub at : ℕ → ℕ → ℕ → Refusal
+at number file line = record { number = number; file = file; line = line }
+
+-- "or 0 where no line applies": a refusal that meets no line
+abbrev pub plain : ℕ → Refusal
+plain number = at number 0 0
+
+-- "a line or count passes its limit, or the sheet is too long"
+abbrev pub tooMany : ℕ
+tooMany = 1
+
+-- "a line or sheet has the wrong form"
+abbrev pub badForm : ℕ
+badForm = 2
+
+-- "a well-formed number is outside -2^63 to 2^63-1"
+abbrev pub outOfRange : ℕ
+outOfRange = 3
+
+-- "a line is not above the one before it"
+abbrev pub notAbove : ℕ
+notAbove = 4
+
+-- "an edge joins a vertex to itself"
+abbrev pub selfEdge : ℕ
+selfEdge = 5
+
+-- "undirected, and the first number is the larger"
+abbrev pub largerFirst : ℕ
+largerFirst = 6
+
+-- "an edge names a vertex not in the vertex file"
+abbrev pub unknownVertex : ℕ
+unknownVertex = 7
+
+-- "a lent area is too short, or the two areas of a book differ in length or pass 65,536"
+abbrev pub noRoom : ℕ
+noRoom = 8
+
+-- "a lent graph or book is unsound"
+abbrev pub unsound : ℕ
+unsound = 9
+
+-- "a BFS root or a book vertex isn't there"
+abbrev pub notThere : ℕ
+notThere = 10
+
+-- "CDLP iterations are negative or above 1,000"
+abbrev pub badRounds : ℕ
+badRounds = 11
+
+-- "a mode or kernel number is unknown"
+abbrev pub unknownNumber : ℕ
+unknownNumber = 12
+
+-- "a file number (1 vertex, 2 edge, 3 claim, 4 sheet, 0 none)"
+abbrev pub vertexFile : ℕ
+vertexFile = 1
+
+abbrev pub edgeFile : ℕ
+edgeFile = 2
+
+abbrev pub claimFile : ℕ
+claimFile = 3
+
+abbrev pub sheetFile : ℕ
+sheetFile = 4
+
+-- "a definition that gives this paper's number and values for each of its cases": a call gives its values, with number 0, or refuses
+pub data Said (A : Type 0) : Type 0 where
+  gives : A → Said A
+  refuses : Refusal → Said A

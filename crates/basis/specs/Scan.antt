@@ -1,0 +1,24 @@
+-- Tests of many: of every number below a bound, of each member of a list.
+use Prim.Native.Nat.{ℕ, zero, suc}
+use mathlib.Core.Bool.{Bool, true, false, _&&_, _||_}
+use mathlib.Core.List.{List, [], _∷_}
+use lib.Dec.{eqb, ltb}
+
+-- p holds of every number below n
+unfoldable pub every : ℕ → (ℕ → Bool) → Bool
+every zero p = true
+every (suc n) p = every n p && p n
+
+-- p holds of each member of a list
+unfoldable pub each : {A : Type 0} → (A → Bool) → List A → Bool
+each p [] = true
+each p (x ∷ l) = p x && each p l
+
+-- each member of a list is below n
+abbrev pub allBelow : ℕ → List ℕ → Bool
+allBelow n l = each (λ x. ltb x n) l
+
+-- x is a member of a list
+unfoldable pub mem : ℕ → List ℕ → Bool
+mem x [] = false
+mem x (y ∷ l) = eqb x y || mem x l

@@ -1,0 +1,6 @@
+// What every layer of the engine says: refusals, the order of signed numbers, one element of an area, an area filled or cleared.
+pub mod area;
+pub mod order;
+pub mod refusal;
+
+pub use refusal::Refusal;
