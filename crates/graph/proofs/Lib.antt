@@ -1,0 +1,3 @@
+-- Laws of parts and of sound graphs.
+pub mod Parts
+pub mod Sounds

@@ -1,0 +1,4 @@
+-- The graph layer's meaning, in reading order.
+pub mod Part
+pub mod Arcs
+pub mod Sound

@@ -1,0 +1,15 @@
+-- 01 "The loaded graph": one vertex's part of a target area.
+use Prim.Native.Nat.{ℕ, _+_, _-_}
+use mathlib.Core.Bool.{Bool, true, false, cond, _&&_}
+use mathlib.Core.List.{List, []}
+use lib.ListN.{length, getD, take, drop}
+use lib.Dec.{ltb, leb}
+
+-- the targets from one offset to the next; "an empty part where its two offsets fall, or pass the target area"
+unfoldable pub between : List ℕ → ℕ → ℕ → List ℕ
+between targets from to = cond (leb from to && leb to (length targets)) (take (to - from) (drop from targets)) []
+
+-- "one vertex's part of it, or an empty part where the number isn't below n or its two offsets are missing from the offsets area"
+unfoldable pub partOf : ℕ → List ℕ → List ℕ → ℕ → List ℕ
+partOf n offsets targets v =
+    cond (ltb v n && ltb (v + 1) (length offsets)) (between targets (getD offsets v 0) (getD offsets (v + 1) 0)) []

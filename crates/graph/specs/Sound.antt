@@ -1,0 +1,80 @@
+-- 01 "The loaded graph": what a lent graph is, and when it is sound, as a test that computes.
+use Prim.Native.Nat.{ℕ, _+_}
+use mathlib.Core.Bool.{Bool, true, false, not, _&&_}
+use mathlib.Core.List.{List}
+use lib.IntN.{ℤ}
+use lib.ListN.{length, getD, take}
+use lib.Dec.{eqb, leb, ltb}
+use Rattle.basis.specs.Order.{rising, risingZ}
+use Rattle.basis.specs.Scan.{every, each, mem}
+use Rattle.graph.specs.declared.Size.{Size}
+use Rattle.graph.specs.Part.{partOf}
+
+-- "Library limits: 65,536 vertices, .. 2,097,152 stored arcs"
+abbrev pub mostVertices : ℕ
+mostVertices = 65536
+
+abbrev pub mostArcs : ℕ
+mostArcs = 2097152
+
+-- "Outward offsets and targets, and inward offsets and sources, are lent areas of whole numbers"
+pub record Graph : Type 0 where
+  pub vertices : ℕ
+  pub arcs : ℕ
+  pub ids : List ℤ
+  pub outOffsets : List ℕ
+  pub outTargets : List ℕ
+  pub inOffsets : List ℕ
+  pub inSources : List ℕ
+
+-- the graph of a stated size that stands in five lent areas
+abbrev pub lent : Size → List ℤ → List ℕ → List ℕ → List ℕ → List ℕ → Graph
+lent size ids oo ot io is =
+    record { vertices = size .vertices; arcs = size .arcs; ids = ids; outOffsets = oo; outTargets = ot; inOffsets = io; inSources = is }
+
+-- the vertices that v's arcs lead to, and those whose arcs lead to v
+abbrev pub outward : Graph → ℕ → List ℕ
+outward g v = partOf (g .vertices) (g .outOffsets) (g .outTargets) v
+
+abbrev pub inward : Graph → ℕ → List ℕ
+inward g v = partOf (g .vertices) (g .inOffsets) (g .inSources) v
+
+-- the identifiers of the graph's vertices
+abbrev pub names : Graph → List ℤ
+names g = take (g .vertices) (g .ids)
+
+-- "whose areas are too short for its stated counts", and "Identifiers strictly rise"
+unfoldable pub soundIds : Graph → Bool
+soundIds g = leb (g .vertices) (length (g .ids)) && risingZ (names g)
+
+-- "Offsets begin at 0, never fall and end at the arc count"
+unfoldable pub soundOffsets : ℕ → ℕ → List ℕ → Bool
+soundOffsets n m off = eqb (getD off 0 0) 0 && eqb (getD off n 0) m && every n (λ v. leb (getD off v 0) (getD off (v + 1) 0))
+
+-- "names only other vertices below n"
+abbrev pub other : ℕ → ℕ → ℕ → Bool
+other n v w = ltb w n && not (eqb w v)
+
+-- "Each vertex's part strictly rises, names only other vertices below n"
+abbrev pub soundPart : ℕ → ℕ → List ℕ → Bool
+soundPart n v l = rising l && each (other n v) l
+
+-- one way of a graph of n vertices and m arcs
+unfoldable pub soundSide : ℕ → ℕ → List ℕ → List ℕ → Bool
+soundSide n m off tgt =
+    (ltb n (length off) && leb m (length tgt)) && soundOffsets n m off && every n (λ v. soundPart n v (partOf n off tgt v))
+
+-- each arc from u, by the first view, stands at its other end in the second
+unfoldable pub mirrored : ℕ → (ℕ → List ℕ) → (ℕ → List ℕ) → Bool
+mirrored n from back = every n (λ u. each (λ w. mem u (back w)) (from u))
+
+-- "the inward arcs are exactly the outward ones reversed"
+abbrev pub reversed : Graph → Bool
+reversed g = mirrored (g .vertices) (outward g) (inward g) && mirrored (g .vertices) (inward g) (outward g)
+
+-- "A graph that breaks any of this, or a limit, or whose areas are too short for its stated counts, is unsound (9)"
+unfoldable pub soundGraph : Graph → Bool
+soundGraph g =
+    (leb (g .vertices) mostVertices && leb (g .arcs) mostArcs) && soundIds g
+    && (soundSide (g .vertices) (g .arcs) (g .outOffsets) (g .outTargets) && soundSide (g .vertices) (g .arcs) (g .inOffsets) (g .inSources))
+    && reversed g
