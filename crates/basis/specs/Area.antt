@@ -3,6 +3,7 @@ use Prim.Native.Nat.{ℕ, zero, suc, _-_}
 use mathlib.Core.List.{List, [], _∷_, _++_}
 use lib.IntN.{ℤ, pos}
 use lib.ListN.{length, replicate}
+use Rattle.basis.specs.Refusal.{Said, gives, refuses}
 
 -- f s, f (s + 1), .. : n values
 unfoldable pub column : {A : Type 0} → (ℕ → A) → ℕ → ℕ → List A
@@ -25,3 +26,8 @@ cleared l = replicate (length l) 0
 
 abbrev pub clearedZ : List ℤ → List ℤ
 clearedZ l = replicate (length l) (pos 0)
+
+-- what a call leaves in an area of the given size: its list with z behind it, or z throughout where it is refused
+abbrev pub leaves : {A B : Type 0} → Said B → A → ℕ → List A → List A
+leaves (gives x) z size l = padWith z size l
+leaves (refuses r) z size l = replicate size z

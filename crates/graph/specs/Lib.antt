@@ -2,3 +2,4 @@
 pub mod Part
 pub mod Arcs
 pub mod Sound
+pub mod Find
