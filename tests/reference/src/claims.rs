@@ -1,0 +1,151 @@
+//! "Claims and verdicts".
+
+use crate::big::Big;
+use crate::lists::{self, Graph, Line};
+use crate::{at, kernels, plain, Limits, Refusal};
+use std::cmp::Ordering;
+
+/// A plain or scientific decimal, exactly: digits · 10^up / 10^down.
+#[derive(Clone, Copy, Debug, PartialEq, Eq)]
+pub struct Decimal {
+    pub digits: u64,
+    pub up: u32,
+    pub down: u32,
+}
+
+/// `0` or digits without a leading zero, optionally `.` and at least one digit, optionally `e`, a sign and two digits; at most 15 digits before any `e`.
+pub fn decimal(word: &[u8]) -> Option<Decimal> {
+    let (mantissa, exponent) = match word.iter().position(|&b| b == b'e') {
+        Some(i) => (&word[..i], Some(&word[i + 1..])),
+        None => (word, None),
+    };
+    let (whole, fraction) = match mantissa.iter().position(|&b| b == b'.') {
+        Some(i) => (&mantissa[..i], Some(&mantissa[i + 1..])),
+        None => (mantissa, None),
+    };
+    let all_digits = |w: &[u8]| !w.is_empty() && w.iter().all(u8::is_ascii_digit);
+    if !all_digits(whole) || (whole.len() > 1 && whole[0] == b'0') || !fraction.map_or(true, all_digits) {
+        return None;
+    }
+    let fraction = fraction.unwrap_or(b"");
+    if whole.len() + fraction.len() > 15 {
+        return None;
+    }
+    let digits = whole.iter().chain(fraction).fold(0u64, |n, b| n * 10 + u64::from(b - b'0'));
+    let (mut up, mut down) = (0, fraction.len() as u32);
+    if let Some(e) = exponent {
+        if e.len() != 3 || !all_digits(&e[1..]) {
+            return None;
+        }
+        let k = u32::from(e[1] - b'0') * 10 + u32::from(e[2] - b'0');
+        match e[0] {
+            b'+' => up += k,
+            b'-' => down += k,
+            _ => return None,
+        }
+    }
+    Some(Decimal { digits, up, down })
+}
+
+/// 10,000 times |r-s| at most r, with r = a/b: both sides times b · 10^down.
+pub fn close(a: u64, b: u64, s: Decimal) -> bool {
+    let r = Big::of(a).times_power_of_ten(s.down);
+    let s = Big::of(s.digits).times_power_of_ten(s.up).times(b as u32);
+    r.apart(&s).times(10_000).order(&r) != Ordering::Greater
+}
+
+/// A verdict: 0, 20 or 21 with its line.
+#[derive(Clone, Copy, Debug, PartialEq, Eq)]
+pub struct Verdict {
+    pub number: u64,
+    pub line: usize,
+}
+
+enum Values {
+    Numbers(Vec<(i64, i64)>),
+    Decimals(Vec<(i64, Decimal)>),
+}
+
+fn coefficient_line(line: &Line) -> Result<(i64, Decimal), u64> {
+    let space = line.bytes.iter().position(|&b| b == b' ');
+    let cut = space.filter(|_| line.ended).ok_or(2u64)?;
+    let value = decimal(&line.bytes[cut + 1..]).ok_or(2u64)?;
+    Ok((lists::idents(&[&line.bytes[..cut]])?[0], value))
+}
+
+fn read(claim: &[u8], coefficients: bool, most: usize) -> Result<Values, Refusal> {
+    let (mut numbers, mut decimals) = (Vec::new(), Vec::new());
+    for (i, line) in lists::lines(claim).iter().enumerate() {
+        let refused = |number| at(number, 3, i + 1);
+        if i >= most {
+            return Err(refused(1));
+        }
+        if coefficients {
+            decimals.push(coefficient_line(line).map_err(refused)?);
+        } else {
+            numbers.push(lists::edge_line(line).map_err(refused)?);
+        }
+    }
+    Ok(if coefficients { Values::Decimals(decimals) } else { Values::Numbers(numbers) })
+}
+
+/// The first line whose identifier isn't the graph's at that place, or the first missing or surplus line.
+fn incomplete(ids: &[i64], named: &[i64]) -> Option<usize> {
+    let places = ids.len().max(named.len());
+    (0..places).find(|&i| ids.get(i) != named.get(i)).map(|i| i + 1)
+}
+
+/// The smallest line that disagrees in kind with some earlier line.
+pub fn first_unlike(components: &[i64], claimed: &[i64]) -> Option<usize> {
+    (0..claimed.len()).find(|&i| (0..i).any(|j| (components[i] == components[j]) != (claimed[i] == claimed[j]))).map(|i| i + 1)
+}
+
+fn first_other(results: &[i64], claimed: &[i64]) -> Option<usize> {
+    (0..claimed.len()).find(|&i| results[i] != claimed[i]).map(|i| i + 1)
+}
+
+fn settle(ids: &[i64], named: &[i64], mismatch: impl FnOnce() -> Option<usize>) -> Verdict {
+    if let Some(line) = incomplete(ids, named) {
+        return Verdict { number: 20, line };
+    }
+    match mismatch() {
+        Some(line) => Verdict { number: 21, line },
+        None => Verdict { number: 0, line: 0 },
+    }
+}
+
+/// The verdict on a sound graph: 12, 10 or 11, then the claim.
+pub fn verdict(g: &Graph, kernel: u64, parameter: i64, claim: &[u8], limits: Limits) -> Result<Verdict, Refusal> {
+    let results = match kernel {
+        1 => kernels::bfs(g, parameter)?,
+        2 => kernels::wcc(g),
+        3 => kernels::cdlp(g, parameter)?,
+        4 => Vec::new(),
+        _ => return Err(plain(12)),
+    };
+    match read(claim, kernel == 4, limits.claims)? {
+        Values::Numbers(lines) => {
+            let (named, claimed): (Vec<i64>, Vec<i64>) = lines.into_iter().unzip();
+            Ok(settle(&g.ids, &named, || if kernel == 2 { first_unlike(&results, &claimed) } else { first_other(&results, &claimed) }))
+        }
+        Values::Decimals(lines) => {
+            let (named, claimed): (Vec<i64>, Vec<Decimal>) = lines.into_iter().unzip();
+            let exact = kernels::lcc(g);
+            Ok(settle(&g.ids, &named, || (0..claimed.len()).find(|&i| !close(exact[i].0, exact[i].1, claimed[i])).map(|i| i + 1)))
+        }
+    }
+}
+
+/// The host call's number: number × 1,000,000 + file × 100,000 + line, at desk limits.
+pub fn host_verdict(vertices: &[u8], edges: &[u8], claim: &[u8], mode: u64, kernel: u64, parameter: i64) -> u64 {
+    let coded = |number: u64, file: u64, line: u64| number * 1_000_000 + file * 100_000 + line;
+    if mode > 1 || !(1..=4).contains(&kernel) {
+        return coded(12, 0, 0);
+    }
+    let judged = lists::load(mode, vertices, edges, crate::DESK, lists::ROOM_ENOUGH)
+        .and_then(|g| verdict(&g, kernel, parameter, claim, crate::DESK));
+    match judged {
+        Ok(v) => coded(v.number, 3, v.line as u64),
+        Err(r) => coded(r.number, r.file, r.line),
+    }
+}
