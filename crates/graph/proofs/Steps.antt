@@ -11,10 +11,10 @@ use lib.ListN.{length, getD, take, length-take}
 use lib.Seq.{getD-take}
 use lib.Dec.{eqb, leb, ltb}
 use lib.Signed.{ltZ}
-use borrow.Author.Tests.{lt-ltb, le-ltb, le-leb, lt-leb, eq-eqb, ne-eqb}
+use borrow.Author.Tests.{lt-ltb, le-ltb, le-leb, lt-leb, eq-eqb, ne-eqb, not-false}
 use Rattle.basis.specs.Order.{rising, risingBy, risingZ}
 use Rattle.basis.specs.Scan.{every, each, mem}
-use Rattle.basis.proofs.Tests.{clash, false-of, and-off}
+use Rattle.basis.proofs.Tests.{and-second, and-off}
 use Rattle.basis.proofs.Scans.{every-at, every-more, every-fail, every-end, each-fail, each-every, mem-index, mem-none}
 use Rattle.basis.proofs.Orders.{risingBy-of, risingBy-fail, number-order}
 use Rattle.graph.specs.declared.Size.{Size}
@@ -22,10 +22,10 @@ use Rattle.graph.specs.declared.find.Found.{Found}
 use Rattle.graph.specs.declared.find.Found.the-variants.{At, Missing}
 use Rattle.graph.specs.Part.{partOf}
 use Rattle.graph.specs.Find.{bisectBy}
-use Rattle.graph.specs.Sound.{Graph, lent, other, soundOffsets, soundPart, soundSide, mirrored, soundGraph}
+use Rattle.graph.specs.Sound.{lent, soundIds, other, soundOffsets, soundPart, soundSide, mirrored, soundGraph}
 use Rattle.graph.specs.Steps.{idsRise, neverFall, soundParts, located, bisectFinds, answered}
 use Rattle.graph.proofs.Parts.{part-far}
-use Rattle.graph.proofs.Sounds.{Sound, sound-of, part-rises}
+use Rattle.graph.proofs.Sounds.{part-rises}
 use Rattle.graph.proofs.Finds.{Halving, halving-here, halving-end, Right, bisect-finds}
 
 -- ---- neighbours in a list
@@ -86,12 +86,12 @@ module _ (n v : ℕ) (l : List ℕ) (i : ℕ) (g : i < length l) where
   others-self e = members-stop (other n v) l i g (rw (eq-eqb (getD l i 0) v e) (and-off (ltb (getD l i 0) n) false refl))
 
 -- ---- a part
-module _ (n v : ℕ) (l : List ℕ) (t : Bool) (e : t ≡ rising l) where
-  pub part-stop : t ≡ false → false ≡ soundPart n v l
-  part-stop h = rw (← e, h)
+module _ (n v : ℕ) (l : List ℕ) where
+  pub part-stop : rising l ≡ false → false ≡ soundPart n v l
+  part-stop h = rw h
 
-  pub part-rest : t ≡ true → (s : Bool) → s ≡ each (other n v) l → s ≡ soundPart n v l
-  part-rest h s q = rw (← e, h) q
+  pub part-rest : rising l ≡ true → (t : Bool) → t ≡ each (other n v) l → t ≡ soundPart n v l
+  part-rest h t e = rw h e
 
 -- ---- "Offsets begin at 0, never fall and end at the arc count"
 module _ (n m : ℕ) (off : List ℕ) where
@@ -109,15 +109,15 @@ module _ (n m : ℕ) (off : List ℕ) where
     offsets-rest g t e = rw (eq-eqb (getD off 0 0) 0 h, eq-eqb (getD off n 0) m g) e
 
 -- ---- one way of a graph
+-- a scan of the parts; l is v's
+module _ (n : ℕ) (off tgt : List ℕ) (v : ℕ) (l : List ℕ) (q : l ≡ partOf n off tgt v) (t : Bool) (e : t ≡ soundPart n v l) where
+  pub parts-more : t ≡ true → soundPart n v (partOf n off tgt v) ≡ true
+  parts-more h = rw (← q, ← e) h
+
+  pub parts-stop : v < n → t ≡ false → false ≡ soundParts n off tgt
+  parts-stop g h = sym (every-fail (λ v. soundPart n v (partOf n off tgt v)) n v g (rw (← q, ← e) h))
+
 module _ (n m : ℕ) (off tgt : List ℕ) where
-  -- a scan of the parts; l is v's
-  module _ (v : ℕ) (l : List ℕ) (q : l ≡ partOf n off tgt v) (t : Bool) (e : t ≡ soundPart n v l) where
-    pub parts-more : every v (λ v. soundPart n v (partOf n off tgt v)) ≡ true → t ≡ true → every (v + 1) (λ v. soundPart n v (partOf n off tgt v)) ≡ true
-    parts-more a h = every-more (λ v. soundPart n v (partOf n off tgt v)) v a (rw (← q, ← e) h)
-
-    pub parts-stop : v < n → t ≡ false → false ≡ soundParts n off tgt
-    parts-stop g h = sym (every-fail (λ v. soundPart n v (partOf n off tgt v)) n v g (rw (← q, ← e) h))
-
   pub side-offsets : length off ≤ n → false ≡ soundSide n m off tgt
   unfolding soundSide
   side-offsets h = rw (le-ltb n (length off) h)
@@ -127,14 +127,18 @@ module _ (n m : ℕ) (off tgt : List ℕ) where
     unfolding soundSide
     side-targets h = rw (lt-ltb n (length off) g, lt-leb m (length tgt) h)
 
-    module _ (h : m ≤ length tgt) (t : Bool) (e : t ≡ soundOffsets n m off) where
-      pub side-stop : t ≡ false → false ≡ soundSide n m off tgt
+    module _ (h : m ≤ length tgt) where
+      pub side-stop : soundOffsets n m off ≡ false → false ≡ soundSide n m off tgt
       unfolding soundSide
-      side-stop k = rw (lt-ltb n (length off) g, le-leb m (length tgt) h, ← e, k)
+      side-stop k = rw (lt-ltb n (length off) g, le-leb m (length tgt) h, k)
 
-      pub side-rest : t ≡ true → (s : Bool) → s ≡ soundParts n off tgt → s ≡ soundSide n m off tgt
+      pub side-rest : soundOffsets n m off ≡ true → (t : Bool) → t ≡ soundParts n off tgt → t ≡ soundSide n m off tgt
       unfolding soundSide
-      side-rest k s q = rw (lt-ltb n (length off) g, le-leb m (length tgt) h, ← e, k) q
+      side-rest k t e = rw (lt-ltb n (length off) g, le-leb m (length tgt) h, k) e
+
+  pub side-parts : (t : Bool) → t ≡ soundSide n m off tgt → not t ≡ false → soundParts n off tgt ≡ true
+  unfolding soundSide
+  side-parts t e h = and-second ((ltb n (length off) && leb m (length tgt)) && soundOffsets n m off) (soundParts n off tgt) (sym e ∙ not-false t h)
 
 -- ---- "the inward arcs are exactly the outward ones reversed"
 module _ (l : List ℕ) (x low high : ℕ) (h : Halving ltb 0 l x low high) where
@@ -165,8 +169,8 @@ module _ (n : ℕ) (off tgt : List ℕ) (u : ℕ) (m : List ℕ) where
     stands : t ≡ mem u (partOf n off tgt (getD m i 0))
     stands = e ∙ finds-member l u (rw q (parts-rise n off tgt s (getD m i 0))) ∙ ap (mem u) q
 
-    pub answered-more : every i (λ i. mem u (partOf n off tgt (getD m i 0))) ≡ true → t ≡ true → every (i + 1) (λ i. mem u (partOf n off tgt (getD m i 0))) ≡ true
-    answered-more a h = every-more (λ i. mem u (partOf n off tgt (getD m i 0))) i a (sym stands ∙ h)
+    pub answered-more : t ≡ true → mem u (partOf n off tgt (getD m i 0)) ≡ true
+    answered-more h = sym stands ∙ h
 
     pub answered-stop : i < length m → t ≡ false → false ≡ answered n off tgt u m
     answered-stop g h = members-stop (λ w. mem u (partOf n off tgt w)) m i g (sym stands ∙ h)
@@ -174,9 +178,8 @@ module _ (n : ℕ) (off tgt : List ℕ) (u : ℕ) (m : List ℕ) where
 -- a scan of the parts of one way; l is u's
 module _ (n : ℕ) (from back : List ℕ) (from′ back′ : List ℕ) where
   module _ (u : ℕ) (l : List ℕ) (q : l ≡ partOf n from′ from u) (t : Bool) (e : t ≡ answered n back′ back u l) where
-    pub mirrored-more : every u (λ u. answered n back′ back u (partOf n from′ from u)) ≡ true → t ≡ true
-        → every (u + 1) (λ u. answered n back′ back u (partOf n from′ from u)) ≡ true
-    mirrored-more a h = every-more (λ u. answered n back′ back u (partOf n from′ from u)) u a (rw (← q, ← e) h)
+    pub mirrored-more : t ≡ true → answered n back′ back u (partOf n from′ from u) ≡ true
+    mirrored-more h = rw (← q, ← e) h
 
     pub mirrored-stop : u < n → t ≡ false → false ≡ mirrored n (partOf n from′ from) (partOf n back′ back)
     unfolding mirrored
@@ -189,20 +192,37 @@ module _ (n : ℕ) (from back : List ℕ) (from′ back′ : List ℕ) where
 
 -- ---- the whole graph
 module _ (size : Size) (ids : List ℤ) (oo ot io is : List ℕ) where
-  abbrev n : ℕ
-  n = size .vertices
+  pub graph-vertices : 65536 < size .vertices → false ≡ soundGraph (lent size ids oo ot io is)
+  unfolding soundGraph
+  graph-vertices h = rw (lt-leb (size .vertices) 65536 h)
 
-  abbrev m : ℕ
-  m = size .arcs
+  module _ (a : size .vertices ≤ 65536) where
+    pub graph-arcs : 2097152 < size .arcs → false ≡ soundGraph (lent size ids oo ot io is)
+    unfolding soundGraph
+    graph-arcs h = rw (le-leb (size .vertices) 65536 a, lt-leb (size .arcs) 2097152 h)
 
-  abbrev g : Graph
-  g = lent size ids oo ot io is
+    module _ (b : size .arcs ≤ 2097152) where
+      pub graph-ids : idsRise (size .vertices) ids ≡ false → false ≡ soundGraph (lent size ids oo ot io is)
+      unfolding soundGraph soundIds
+      graph-ids h = rw (le-leb (size .vertices) 65536 a, le-leb (size .arcs) 2097152 b, h)
 
-  unsound : (Sound g → ⊥) → false ≡ soundGraph g
-  unsound h = sym (false-of (soundGraph g) (λ e. h (sound-of g e)))
+      module _ (i : idsRise (size .vertices) ids ≡ true) where
+        pub graph-out : soundSide (size .vertices) (size .arcs) oo ot ≡ false → false ≡ soundGraph (lent size ids oo ot io is)
+        unfolding soundGraph soundIds
+        graph-out h = rw (le-leb (size .vertices) 65536 a, le-leb (size .arcs) 2097152 b, i, h)
 
-  pub graph-vertices : 65536 < n → false ≡ soundGraph g
-  graph-vertices h = unsound (λ s. let e = s .fewVertices in omega arith)
+        module _ (c : soundSide (size .vertices) (size .arcs) oo ot ≡ true) where
+          pub graph-in : soundSide (size .vertices) (size .arcs) io is ≡ false → false ≡ soundGraph (lent size ids oo ot io is)
+          unfolding soundGraph soundIds
+          graph-in h = rw (le-leb (size .vertices) 65536 a, le-leb (size .arcs) 2097152 b, i, c, h)
 
-  pub graph-arcs : 2097152 < m → false ≡ soundGraph g
-  graph-arcs h = unsound (λ s. let e = s .fewArcs in omega arith)
+          module _ (d : soundSide (size .vertices) (size .arcs) io is ≡ true) where
+            pub graph-back : mirrored (size .vertices) (partOf (size .vertices) oo ot) (partOf (size .vertices) io is) ≡ false
+                → false ≡ soundGraph (lent size ids oo ot io is)
+            unfolding soundGraph soundIds
+            graph-back h = rw (le-leb (size .vertices) 65536 a, le-leb (size .arcs) 2097152 b, i, c, d, h)
+
+            pub graph-rest : mirrored (size .vertices) (partOf (size .vertices) oo ot) (partOf (size .vertices) io is) ≡ true
+                → (t : Bool) → t ≡ mirrored (size .vertices) (partOf (size .vertices) io is) (partOf (size .vertices) oo ot) → t ≡ soundGraph (lent size ids oo ot io is)
+            unfolding soundGraph soundIds
+            graph-rest h t e = rw (le-leb (size .vertices) 65536 a, le-leb (size .arcs) 2097152 b, i, c, d, h) e

@@ -161,7 +161,13 @@ fn finds(members: &[usize], x: usize) -> bool
 }
 
 // Each arc from u to one of a part's members stands at its other end in the other way's areas.
-fn part_answered(members: &[usize], u: usize, targets: &[usize], offsets: &[usize], n: usize) -> bool
+fn part_answered(
+    members: &[usize],
+    u: usize,
+    targets: &[usize],
+    offsets: &[usize],
+    n: usize,
+) -> bool
     requires { ⌜ soundParts n (now offsets) (now targets) ≡ true ⌝ }
     ensures { λ r. ⌜ r ≡ answered n (now (offsets .entry)) (now (targets .entry)) u (now (members .entry)) ⌝ }
 {
@@ -176,11 +182,15 @@ fn part_answered(members: &[usize], u: usize, targets: &[usize], offsets: &[usiz
 }
 
 // Each arc of one way stands in the other.
-fn side_answered(from: &[usize], from_offsets: &[usize], back: &[usize], back_offsets: &[usize], n: usize) -> bool
+fn side_answered(
+    from: &[usize],
+    from_offsets: &[usize],
+    back: &[usize],
+    back_offsets: &[usize],
+    n: usize,
+) -> bool
     requires { ⌜ soundParts n (now «back_offsets») (now back) ≡ true ⌝ }
-    ensures {
-        λ r. ⌜ r ≡ mirrored n (partOf n (now («from_offsets» .entry)) (now (from .entry))) (partOf n (now («back_offsets» .entry)) (now (back .entry))) ⌝
-    }
+    ensures { λ r. ⌜ r ≡ mirrored n (partOf n (now («from_offsets» .entry)) (now (from .entry))) (partOf n (now («back_offsets» .entry)) (now (back .entry))) ⌝ }
 {
     let mut u = 0;
     while u < n {
@@ -201,9 +211,7 @@ pub fn sound(
     in_offsets: &[usize],
     in_sources: &[usize],
 ) -> bool
-    ensures {
-        λ r. ⌜ r ≡ soundGraph (lent size (now (ids .entry)) (now («out_offsets» .entry)) (now («out_targets» .entry)) (now («in_offsets» .entry)) (now («in_sources» .entry))) ⌝
-    }
+    ensures { λ r. ⌜ r ≡ soundGraph (lent size (now (ids .entry)) (now («out_offsets» .entry)) (now («out_targets» .entry)) (now («in_offsets» .entry)) (now («in_sources» .entry))) ⌝ }
 {
     let n = size.vertices;
     let m = size.arcs;

@@ -11,8 +11,6 @@ use mathlib.Core.Path.{_≡_, refl, sym}
 use Prim.Native.Nat.{ℕ, _+_, _-_, _<_, _≤_}
 use Rattle.graph.proofs.sound.finds.Statement.{statement}
 use Rattle.graph.proofs.sound.finds.Tie as tie
-use Rattle.graph.proofs.sound.finds.Reads as reads
-use Rattle.graph.proofs.sound.finds.Lts as lts
 
 abbrev Inv-loop : tie.InvT-loop
 Inv-loop members x low₀ high₀ low high = (high ≤ length members) × Halving ltb 0 members x low high
@@ -20,51 +18,39 @@ Inv-loop members x low₀ high₀ low high = (high ≤ length members) × Halvin
 abbrev μ-loop : tie.MeasureT-loop
 μ-loop members x low₀ high₀ low high = high - low
 
--- src/sound.rt:145:5
 loop-holds : tie.Need-loop-holds Inv-loop μ-loop
 loop-holds c = (omega arith, halving-start _ _ _ _)
 
--- src/sound.rt:146:29
 sub-middle : tie.Need-sub-middle Inv-loop μ-loop
 sub-middle c = omega arith
 
--- src/sound.rt:146:22
 add-middle : tie.Need-add-middle Inv-loop μ-loop
 add-middle c = omega arith
 
--- src/sound.rt:147:21
 mul-there : tie.Need-mul-there Inv-loop μ-loop
 mul-there c = omega arith
 
--- src/sound.rt:147:21
 shared-slice-read-there : tie.Need-shared-slice-read-there Inv-loop μ-loop
 shared-slice-read-there c = omega arith
 
--- src/sound.rt:149:19
 add-low : tie.Need-add-low Inv-loop μ-loop
 add-low c = omega arith
 
--- src/sound.rt:145:5
 loop-less : tie.Need-loop-less Inv-loop μ-loop
 loop-less c = omega arith
 
--- src/sound.rt:145:5
 loop-again : tie.Need-loop-again Inv-loop μ-loop
 loop-again c = (omega arith, search (halving-up, lt-ltb))
 
--- src/sound.rt:145:5
 loop-less-2 : tie.Need-loop-less-2 Inv-loop μ-loop
 loop-less-2 c = omega arith
 
--- src/sound.rt:145:5
 loop-again-2 : tie.Need-loop-again-2 Inv-loop μ-loop
 loop-again-2 c = (omega arith, search (halving-down, lt-ltb, le-ltb))
 
--- src/sound.rt:154:17
 returns : tie.Need-returns Inv-loop μ-loop
 returns c = search (found-here, lt-ltb, le-ltb)
 
--- src/sound.rt:140:1
 returns-2 : tie.Need-returns-2 Inv-loop μ-loop
 returns-2 c = search found-none
 

@@ -11,8 +11,6 @@ use mathlib.Core.Path.{_≡_, refl, sym}
 use Prim.Native.Nat.{ℕ, _+_, _-_, _<_, _≤_}
 use Rattle.graph.proofs.sound.ids_rise.Statement.{statement}
 use Rattle.graph.proofs.sound.ids_rise.Tie as tie
-use Rattle.graph.proofs.sound.ids_rise.Reads as reads
-use Rattle.graph.proofs.sound.ids_rise.Lts as lts
 
 abbrev Inv-loop : tie.InvT-loop
 Inv-loop ids n i₀ i = (i ≤ n) × (every i (ascends ltZ (pos 0) ids) ≡ true)
@@ -20,55 +18,42 @@ Inv-loop ids n i₀ i = (i ≤ n) × (every i (ascends ltZ (pos 0) ids) ≡ true
 abbrev μ-loop : tie.MeasureT-loop
 μ-loop ids n i₀ i = n - i
 
--- src/sound.rt:19:9
 returns : tie.Need-returns Inv-loop μ-loop
 returns c = search ids-short
 
--- src/sound.rt:22:5
 loop-holds : tie.Need-loop-holds Inv-loop μ-loop
 loop-holds c = (omega arith, every-none _)
 
--- src/sound.rt:22:11
 add-loop : tie.Need-add-loop Inv-loop μ-loop
 add-loop c = search needs
 
--- src/sound.rt:23:20
 mul-here : tie.Need-mul-here Inv-loop μ-loop
 mul-here c = search needs
 
--- src/sound.rt:23:20
 shared-slice-copy-out-here : tie.Need-shared-slice-copy-out-here Inv-loop μ-loop
 shared-slice-copy-out-here c = search needs
 
--- src/sound.rt:24:24
 add-next : tie.Need-add-next Inv-loop μ-loop
 add-next c = search needs
 
--- src/sound.rt:24:20
 mul-next : tie.Need-mul-next Inv-loop μ-loop
 mul-next c = search needs
 
--- src/sound.rt:24:20
 shared-slice-copy-out-next : tie.Need-shared-slice-copy-out-next Inv-loop μ-loop
 shared-slice-copy-out-next c = search needs
 
--- src/sound.rt:26:13
 add-i : tie.Need-add-i Inv-loop μ-loop
 add-i c = search needs
 
--- src/sound.rt:22:5
 loop-less : tie.Need-loop-less Inv-loop μ-loop
 loop-less c = search needs
 
--- src/sound.rt:22:5
 loop-again : tie.Need-loop-again Inv-loop μ-loop
 loop-again c = (omega arith, search (needs, ids-more))
 
--- src/sound.rt:28:13
 returns-2 : tie.Need-returns-2 Inv-loop μ-loop
 returns-2 c = search (needs, ids-stop)
 
--- src/sound.rt:15:1
 returns-3 : tie.Need-returns-3 Inv-loop μ-loop
 returns-3 c = search ids-end
 

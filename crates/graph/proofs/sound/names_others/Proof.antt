@@ -10,8 +10,6 @@ use mathlib.Core.Path.{_≡_, refl, sym}
 use Prim.Native.Nat.{ℕ, _+_, _-_, _<_, _≤_}
 use Rattle.graph.proofs.sound.names_others.Statement.{statement}
 use Rattle.graph.proofs.sound.names_others.Tie as tie
-use Rattle.graph.proofs.sound.names_others.Reads as reads
-use Rattle.graph.proofs.sound.names_others.Lts as lts
 
 abbrev Inv-loop : tie.InvT-loop
 Inv-loop members v n i₀ i = (i ≤ length members) × (every i (λ i. other n v (getD members i 0)) ≡ true)
@@ -19,39 +17,30 @@ Inv-loop members v n i₀ i = (i ≤ length members) × (every i (λ i. other n 
 abbrev μ-loop : tie.MeasureT-loop
 μ-loop members v n i₀ i = length members - i
 
--- src/sound.rt:86:5
 loop-holds : tie.Need-loop-holds Inv-loop μ-loop
 loop-holds c = (omega arith, every-none _)
 
--- src/sound.rt:87:17
 mul-w : tie.Need-mul-w Inv-loop μ-loop
 mul-w c = search needs
 
--- src/sound.rt:87:17
 shared-slice-read-w : tie.Need-shared-slice-read-w Inv-loop μ-loop
 shared-slice-read-w c = search needs
 
--- src/sound.rt:89:13
 returns : tie.Need-returns Inv-loop μ-loop
 returns c = search others-far
 
--- src/sound.rt:92:13
 returns-2 : tie.Need-returns-2 Inv-loop μ-loop
 returns-2 c = search others-self
 
--- src/sound.rt:94:9
 add-i : tie.Need-add-i Inv-loop μ-loop
 add-i c = search needs
 
--- src/sound.rt:86:5
 loop-less : tie.Need-loop-less Inv-loop μ-loop
 loop-less c = search needs
 
--- src/sound.rt:86:5
 loop-again : tie.Need-loop-again Inv-loop μ-loop
 loop-again c = (omega arith, search (every-more, other-of))
 
--- src/sound.rt:82:1
 returns-3 : tie.Need-returns-3 Inv-loop μ-loop
 returns-3 c = search members-end
 

@@ -10,8 +10,6 @@ use mathlib.Core.Path.{_≡_, refl, sym}
 use Prim.Native.Nat.{ℕ, _+_, _-_, _<_, _≤_}
 use Rattle.graph.proofs.sound.never_fall.Statement.{statement}
 use Rattle.graph.proofs.sound.never_fall.Tie as tie
-use Rattle.graph.proofs.sound.never_fall.Reads as reads
-use Rattle.graph.proofs.sound.never_fall.Lts as lts
 
 abbrev Inv-loop : tie.InvT-loop
 Inv-loop offsets n v₀ v = (v ≤ n) × (every v (λ v. leb (getD offsets v 0) (getD offsets (v + 1) 0)) ≡ true)
@@ -19,47 +17,36 @@ Inv-loop offsets n v₀ v = (v ≤ n) × (every v (λ v. leb (getD offsets v 0) 
 abbrev μ-loop : tie.MeasureT-loop
 μ-loop offsets n v₀ v = n - v
 
--- src/sound.rt:38:5
 loop-holds : tie.Need-loop-holds Inv-loop μ-loop
 loop-holds c = (omega arith, every-none _)
 
--- src/sound.rt:39:20
 mul-from : tie.Need-mul-from Inv-loop μ-loop
 mul-from c = search needs
 
--- src/sound.rt:39:20
 shared-slice-read-from : tie.Need-shared-slice-read-from Inv-loop μ-loop
 shared-slice-read-from c = search needs
 
--- src/sound.rt:40:26
 add-to : tie.Need-add-to Inv-loop μ-loop
 add-to c = search needs
 
--- src/sound.rt:40:18
 mul-to : tie.Need-mul-to Inv-loop μ-loop
 mul-to c = search needs
 
--- src/sound.rt:40:18
 shared-slice-read-to : tie.Need-shared-slice-read-to Inv-loop μ-loop
 shared-slice-read-to c = search needs
 
--- src/sound.rt:42:13
 returns : tie.Need-returns Inv-loop μ-loop
 returns c = sym (search (every-fail, lt-leb))
 
--- src/sound.rt:44:9
 add-v : tie.Need-add-v Inv-loop μ-loop
 add-v c = search needs
 
--- src/sound.rt:38:5
 loop-less : tie.Need-loop-less Inv-loop μ-loop
 loop-less c = search needs
 
--- src/sound.rt:38:5
 loop-again : tie.Need-loop-again Inv-loop μ-loop
 loop-again c = (omega arith, search (every-more, le-leb))
 
--- src/sound.rt:33:1
 returns-2 : tie.Need-returns-2 Inv-loop μ-loop
 returns-2 c = search every-end
 

@@ -2,35 +2,25 @@ use Rattle.graph.proofs.Steps.{offsets-begin, offsets-end, offsets-rest
 use borrow.Author.Needs.{needs}
 use Rattle.graph.proofs.sound.offsets_sound.Statement.{statement}
 use Rattle.graph.proofs.sound.offsets_sound.Tie as tie
-use Rattle.graph.proofs.sound.offsets_sound.Reads as reads
-use Rattle.graph.proofs.sound.offsets_sound.Lts as lts
-use Rattle.graph.proofs.sound.never_fall.Reads as never-fall-reads
 
--- src/sound.rt:56:17
 shared-slice-read-first : tie.Need-shared-slice-read-first
 shared-slice-read-first c = search needs
 
--- src/sound.rt:58:9
 returns : tie.Need-returns
 returns c = search offsets-begin
 
--- src/sound.rt:60:16
 mul-last : tie.Need-mul-last
 mul-last c = search needs
 
--- src/sound.rt:60:16
 shared-slice-read-last : tie.Need-shared-slice-read-last
 shared-slice-read-last c = search needs
 
--- src/sound.rt:62:9
 returns-2 : tie.Need-returns-2
 returns-2 c = search offsets-end
 
--- src/sound.rt:64:5
 never-fall-requires : tie.Need-never-fall-requires
 never-fall-requires c κs = search needs
 
--- src/sound.rt:52:1
 returns-3 : tie.Need-returns-3
 returns-3 c = search offsets-rest
 

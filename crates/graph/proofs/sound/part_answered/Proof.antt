@@ -2,7 +2,7 @@ use borrow.Author.Tests.{not-true, not-false}
 use borrow.Author.Needs.{needs}
 use Rattle.graph.proofs.Steps.{members-end, answered-more, answered-stop}
 use Rattle.graph.specs.Part.{partOf}
-use Rattle.basis.proofs.Scans.{every-none}
+use Rattle.basis.proofs.Scans.{every-more, every-none}
 use Rattle.basis.specs.Scan.{mem}
 use Rattle.basis.specs.Scan.{every}
 use lib.ListN.{length, getD}
@@ -12,10 +12,6 @@ use mathlib.Core.Path.{_≡_, refl, sym}
 use Prim.Native.Nat.{ℕ, _+_, _-_, _<_, _≤_}
 use Rattle.graph.proofs.sound.part_answered.Statement.{statement}
 use Rattle.graph.proofs.sound.part_answered.Tie as tie
-use Rattle.graph.proofs.sound.part_answered.Reads as reads
-use Rattle.graph.proofs.sound.part_answered.Lts as lts
-use Rattle.graph.proofs.part.part.Reads as part-reads
-use Rattle.graph.proofs.sound.finds.Reads as finds-reads
 
 abbrev Inv-loop : tie.InvT-loop
 Inv-loop members u targets offsets n i₀ i = (i ≤ length members) × (every i (λ i. mem u (partOf n offsets targets (getD members i 0))) ≡ true)
@@ -23,43 +19,33 @@ Inv-loop members u targets offsets n i₀ i = (i ≤ length members) × (every i
 abbrev μ-loop : tie.MeasureT-loop
 μ-loop members u targets offsets n i₀ i = length members - i
 
--- src/sound.rt:169:5
 loop-holds : tie.Need-loop-holds Inv-loop μ-loop
 loop-holds c = (omega arith, every-none _)
 
--- src/sound.rt:170:45
 mul-part : tie.Need-mul-part Inv-loop μ-loop
 mul-part c = search needs
 
--- src/sound.rt:170:45
 shared-slice-read-part : tie.Need-shared-slice-read-part Inv-loop μ-loop
 shared-slice-read-part c = search needs
 
--- src/sound.rt:170:19
 part-requires : tie.Need-part-requires Inv-loop μ-loop
 part-requires c κs = search needs
 
--- src/sound.rt:170:13
 finds-requires : tie.Need-finds-requires Inv-loop μ-loop
 finds-requires c κs = search needs
 
--- src/sound.rt:171:13
 returns : tie.Need-returns Inv-loop μ-loop
 returns c = search (answered-stop, not-true)
 
--- src/sound.rt:173:9
 add-i : tie.Need-add-i Inv-loop μ-loop
 add-i c = search needs
 
--- src/sound.rt:169:5
 loop-less : tie.Need-loop-less Inv-loop μ-loop
 loop-less c = search needs
 
--- src/sound.rt:169:5
 loop-again : tie.Need-loop-again Inv-loop μ-loop
-loop-again c = (omega arith, search (answered-more, not-false))
+loop-again c = (omega arith, search (every-more, answered-more, not-false))
 
--- src/sound.rt:164:1
 returns-2 : tie.Need-returns-2 Inv-loop μ-loop
 returns-2 c = search members-end
 

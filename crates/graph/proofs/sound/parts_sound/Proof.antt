@@ -3,7 +3,7 @@ use borrow.Author.Needs.{needs}
 use Rattle.graph.proofs.Steps.{parts-more, parts-stop}
 use Rattle.graph.specs.Sound.{soundPart}
 use Rattle.graph.specs.Part.{partOf}
-use Rattle.basis.proofs.Scans.{every-none, every-end}
+use Rattle.basis.proofs.Scans.{every-more, every-none, every-end}
 use Rattle.basis.specs.Scan.{every}
 use lib.ListN.{length, getD}
 use native.Mathlib.Omega.{arith}
@@ -12,10 +12,6 @@ use mathlib.Core.Path.{_≡_, refl, sym}
 use Prim.Native.Nat.{ℕ, _+_, _-_, _<_, _≤_}
 use Rattle.graph.proofs.sound.parts_sound.Statement.{statement}
 use Rattle.graph.proofs.sound.parts_sound.Tie as tie
-use Rattle.graph.proofs.sound.parts_sound.Reads as reads
-use Rattle.graph.proofs.sound.parts_sound.Lts as lts
-use Rattle.graph.proofs.part.part.Reads as part-reads
-use Rattle.graph.proofs.sound.part_sound.Reads as part-sound-reads
 
 abbrev Inv-loop : tie.InvT-loop
 Inv-loop targets offsets n v₀ v = (v ≤ n) × (every v (λ v. soundPart n v (partOf n offsets targets v)) ≡ true)
@@ -23,35 +19,27 @@ Inv-loop targets offsets n v₀ v = (v ≤ n) × (every v (λ v. soundPart n v (
 abbrev μ-loop : tie.MeasureT-loop
 μ-loop targets offsets n v₀ v = n - v
 
--- src/sound.rt:116:5
 loop-holds : tie.Need-loop-holds Inv-loop μ-loop
 loop-holds c = (omega arith, every-none _)
 
--- src/sound.rt:117:24
 part-requires : tie.Need-part-requires Inv-loop μ-loop
 part-requires c κs = search needs
 
--- src/sound.rt:117:13
 part-sound-requires : tie.Need-part-sound-requires Inv-loop μ-loop
 part-sound-requires c κs = search needs
 
--- src/sound.rt:118:13
 returns : tie.Need-returns Inv-loop μ-loop
 returns c = search (parts-stop, not-true)
 
--- src/sound.rt:120:9
 add-v : tie.Need-add-v Inv-loop μ-loop
 add-v c = search needs
 
--- src/sound.rt:116:5
 loop-less : tie.Need-loop-less Inv-loop μ-loop
 loop-less c = search needs
 
--- src/sound.rt:116:5
 loop-again : tie.Need-loop-again Inv-loop μ-loop
-loop-again c = (omega arith, search (parts-more, not-false))
+loop-again c = (omega arith, search (every-more, parts-more, not-false))
 
--- src/sound.rt:112:1
 returns-2 : tie.Need-returns-2 Inv-loop μ-loop
 returns-2 c = search every-end
 

@@ -11,8 +11,6 @@ use mathlib.Core.Path.{_≡_, refl, sym}
 use Prim.Native.Nat.{ℕ, _+_, _-_, _<_, _≤_}
 use Rattle.graph.proofs.sound.rises.Statement.{statement}
 use Rattle.graph.proofs.sound.rises.Tie as tie
-use Rattle.graph.proofs.sound.rises.Reads as reads
-use Rattle.graph.proofs.sound.rises.Lts as lts
 
 abbrev Inv-loop : tie.InvT-loop
 Inv-loop members i₀ i = (i ≤ length members) × (every i (ascends ltb 0 members) ≡ true)
@@ -20,51 +18,39 @@ Inv-loop members i₀ i = (i ≤ length members) × (every i (ascends ltb 0 memb
 abbrev μ-loop : tie.MeasureT-loop
 μ-loop members i₀ i = length members - i
 
--- src/sound.rt:72:5
 loop-holds : tie.Need-loop-holds Inv-loop μ-loop
 loop-holds c = (omega arith, every-none _)
 
--- src/sound.rt:72:11
 add-loop : tie.Need-add-loop Inv-loop μ-loop
 add-loop c = search needs
 
--- src/sound.rt:73:20
 mul-here : tie.Need-mul-here Inv-loop μ-loop
 mul-here c = search needs
 
--- src/sound.rt:73:20
 shared-slice-read-here : tie.Need-shared-slice-read-here Inv-loop μ-loop
 shared-slice-read-here c = search needs
 
--- src/sound.rt:74:28
 add-next : tie.Need-add-next Inv-loop μ-loop
 add-next c = search needs
 
--- src/sound.rt:74:20
 mul-next : tie.Need-mul-next Inv-loop μ-loop
 mul-next c = search needs
 
--- src/sound.rt:74:20
 shared-slice-read-next : tie.Need-shared-slice-read-next Inv-loop μ-loop
 shared-slice-read-next c = search needs
 
--- src/sound.rt:76:13
 returns : tie.Need-returns Inv-loop μ-loop
 returns c = search (rises-stop, le-ltb)
 
--- src/sound.rt:78:9
 add-i : tie.Need-add-i Inv-loop μ-loop
 add-i c = search needs
 
--- src/sound.rt:72:5
 loop-less : tie.Need-loop-less Inv-loop μ-loop
 loop-less c = search needs
 
--- src/sound.rt:72:5
 loop-again : tie.Need-loop-again Inv-loop μ-loop
 loop-again c = (omega arith, search (every-more, lt-ltb))
 
--- src/sound.rt:68:1
 returns-2 : tie.Need-returns-2 Inv-loop μ-loop
 returns-2 c = search rises-end
 
