@@ -1,18 +1,18 @@
 -- Laws of the steps of the soundness check: one for each answer that a step gives, by the tests that the code makes. Assumes nothing.
-use Prim.Native.Nat.{ℕ, zero, suc, _+_, _-_, _/_, _≤_, _<_}
+use Prim.Native.Nat.{ℕ, suc, _+_, _-_, _/_, _≤_, _<_}
 use mathlib.Core.Path.{_≡_, refl, sym, ap, _∙_}
 use mathlib.Core.Bool.{Bool, true, false, not, _&&_}
-use mathlib.Core.List.{List, [], _∷_}
+use mathlib.Core.List.{List}
 use native.Mathlib.Omega.{arith}
 use native.Mathlib.Numerals.{add-one}
 use native.Mathlib.Decide.{decLt}
 use lib.IntN.{ℤ, pos}
 use lib.ListN.{length, getD, take, length-take}
 use lib.Seq.{getD-take}
-use lib.Dec.{eqb, leb, ltb}
+use lib.Dec.{leb, ltb}
 use lib.Signed.{ltZ}
 use borrow.Author.Tests.{lt-ltb, le-ltb, le-leb, lt-leb, eq-eqb, ne-eqb, not-false}
-use Rattle.basis.specs.Order.{rising, risingBy, risingZ}
+use Rattle.basis.specs.Order.{rising, risingBy}
 use Rattle.basis.specs.Scan.{every, each, mem}
 use Rattle.basis.proofs.Tests.{and-second, and-off}
 use Rattle.basis.proofs.Scans.{every-at, every-more, every-fail, every-end, each-fail, each-every, mem-index, mem-none}
