@@ -10,7 +10,7 @@ use native.Mathlib.Decide.{ℕ-discrete, decLt}
 use lib.IntN.{ℤ, pos}
 use lib.ListN.{length, getD}
 use borrow.Author.Tests.{lt-ltb, le-ltb, eqb-true}
-use Rattle.basis.specs.Order.{sameZ, rising, risingBy, risingZ}
+use Rattle.basis.specs.Order.{sameZ, risingBy, risingZ}
 use Rattle.basis.proofs.Tests.{clash, bool-cases}
 use Rattle.basis.proofs.Orders.{Order, less-trans, rising-less, same-places, signed-order}
 use Rattle.graph.specs.declared.find.Found.{Found}
