@@ -3,8 +3,7 @@ use borrow.Author.Needs.{needs}
 use Rattle.graph.proofs.Steps.{members-end, answered-more, answered-stop}
 use Rattle.graph.specs.Part.{partOf}
 use Rattle.basis.proofs.Scans.{every-more, every-none}
-use Rattle.basis.specs.Scan.{mem}
-use Rattle.basis.specs.Scan.{every}
+use Rattle.basis.specs.Scan.{every, mem}
 use lib.ListN.{length, getD}
 use native.Mathlib.Omega.{arith}
 use mathlib.Core.Bool.{true}
