@@ -1,0 +1,8 @@
+-- Laws of the book's rules, and the theorem about series of calls. `Held` is what layers above use.
+pub mod Checks
+pub mod Walks
+pub mod Tally
+pub mod Powers
+pub mod Calls
+pub mod Opens
+pub mod Joins
