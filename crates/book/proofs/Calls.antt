@@ -1,8 +1,11 @@
 -- Laws of the calls that read: for each `return` of the code what the call says, its premises the tests on the way there. Assumes nothing.
 use mathlib.Core.Path.{_≡_, refl, sym, ap, ap₂, _∙_}
-use mathlib.Core.Bool.{Bool, true, false, cond, _&&_}
-use Prim.Native.Nat.{ℕ, _+_, _≤_, _<_}
+use mathlib.Core.List.{List}
+use mathlib.Core.Bool.{Bool, true, false, not, _&&_}
+use Prim.Native.Nat.{ℕ, suc, _+_, _≤_, _<_}
 use native.Mathlib.Omega.{arith}
+use native.Mathlib.Numerals.{add-one}
+use lib.ListN.{getD}
 use lib.Dec.{leb, ltb, eqb}
 use borrow.Author.Tests.{ltb-true, leb-true, lt-ltb, le-ltb, le-leb, lt-leb, eq-eqb, ne-eqb}
 use Rattle.basis.specs.declared.refusal.Refusal.{Refusal}
@@ -12,10 +15,12 @@ use Rattle.book.specs.declared.Headed.{Headed}
 use Rattle.book.specs.declared.Pair.{Pair}
 use Rattle.book.specs.declared.Reading.{Reading}
 use Rattle.book.specs.Rules.{stop, View, Found, found, Heads, heads, check, onward, walkFrom, headOf, pair, headsOf, oneHead, sameGroup, sizeAt, groupSize, tally, isStop, groupCount, largest, limitOf, stepLimit}
+use Rattle.book.specs.Two.{nextIn}
 use Rattle.book.specs.Says.{saysHeaded, saysReading}
 use Rattle.book.specs.Steps.{saysPair}
-use Rattle.book.proofs.Checks.{refused-given, check-on, check-off, check-passed, onward-passed}
-use Rattle.book.proofs.Walks.{walkFrom-in}
+use Rattle.book.proofs.Checks.{failed, held, refused-given, check-on, check-off, check-passed, onward-passed}
+use Rattle.book.proofs.Walks.{walkFrom-in, next-head, next-other}
+use Rattle.book.proofs.Tally.{tally-yes, tally-no}
 
 -- ---- the head
 module _ (w : View) (v : ℕ) where
@@ -32,16 +37,16 @@ module _ (w : View) (v : ℕ) where
       (l .0, ltb-true v (w .count) (t .0), t .1)
 
   module _ (t : Bool) (e : t ≡ w .fit) where
-    pub head-unlent : (x : Refusal) → t ≡ false → x ≡ plain noRoom → refuses x ≡ headOf w v
+    pub head-unlent : (x : Refusal) → not t ≡ true → x ≡ plain noRoom → refuses x ≡ headOf w v
     unfolding headOf
-    head-unlent x f p = ap refuses p ∙ sym (check-off (w .fit) noRoom _ (sym e ∙ f))
+    head-unlent x f p = ap refuses p ∙ sym (check-off (w .fit) noRoom _ (sym e ∙ failed t f))
 
-    pub head-missing : (x : Refusal) → t ≡ true → w .count ≤ v → x ≡ plain notThere → refuses x ≡ headOf w v
+    pub head-missing : (x : Refusal) → not t ≡ false → w .count ≤ v → x ≡ plain notThere → refuses x ≡ headOf w v
     unfolding headOf
-    head-missing x f l p = ap refuses p ∙ sym (check-on (w .fit) noRoom _ (sym e ∙ f) ∙ check-off (ltb v (w .count)) notThere _ (le-ltb v (w .count) l))
+    head-missing x f l p = ap refuses p ∙ sym (check-on (w .fit) noRoom _ (sym e ∙ held t f) ∙ check-off (ltb v (w .count)) notThere _ (le-ltb v (w .count) l))
 
-    pub head-walked : (s : Said Found) → t ≡ true → v < w .count → s ≡ walkFrom (w .next) (w .count) v → s ≡ headOf w v
-    head-walked s f l p = p ∙ sym (head-walk (sym e ∙ f) l)
+    pub head-walked : (s : Said Found) → not t ≡ false → v < w .count → s ≡ walkFrom (w .next) (w .count) v → s ≡ headOf w v
+    head-walked s f l p = p ∙ sym (head-walk (sym e ∙ held t f) l)
 
 -- ---- the heads of two vertices
 module _ (w : View) (u v : ℕ) where
@@ -72,33 +77,33 @@ module _ (w : View) (u v : ℕ) where
   pub heads-below : (g h : ℕ) → headsOf w u v ≡ gives (heads g h) → (g < w .count) × (w .next g ≡ stop) × (h < w .count) × (w .next h ≡ stop)
   heads-below g h e =
       let t = heads-inside g h e in
-      let a = walkFrom-in (w .next) (w .count) u (found g (t .3)) (t .1) (t .5) in
-      let b = walkFrom-in (w .next) (w .count) v (found h (t .4)) (t .2) (t .6) in
+      let a = walkFrom-in (w .next) (w .count) u (found g (t .3 .0)) (t .1) (t .3 .2) in
+      let b = walkFrom-in (w .next) (w .count) v (found h (t .3 .1)) (t .2) (t .3 .3) in
       (a .0, a .1, b .0, b .1)
 
   module _ (t : Bool) (e : t ≡ w .fit) where
-    pub heads-unlent : (x : Refusal) → t ≡ false → x ≡ plain noRoom → refuses x ≡ headsOf w u v
+    pub heads-unlent : (x : Refusal) → not t ≡ true → x ≡ plain noRoom → refuses x ≡ headsOf w u v
     unfolding headsOf
-    heads-unlent x f p = ap refuses p ∙ sym (check-off (w .fit) noRoom _ (sym e ∙ f))
+    heads-unlent x f p = ap refuses p ∙ sym (check-off (w .fit) noRoom _ (sym e ∙ failed t f))
 
-    pub heads-missing : (x : Refusal) → t ≡ true → w .count ≤ u → x ≡ plain notThere → refuses x ≡ headsOf w u v
+    pub heads-missing : (x : Refusal) → not t ≡ false → w .count ≤ u → x ≡ plain notThere → refuses x ≡ headsOf w u v
     unfolding headsOf
-    heads-missing x f l p = ap refuses p ∙ sym (check-on (w .fit) noRoom _ (sym e ∙ f) ∙ check-off (ltb u (w .count)) notThere _ (le-ltb u (w .count) l))
+    heads-missing x f l p = ap refuses p ∙ sym (check-on (w .fit) noRoom _ (sym e ∙ held t f) ∙ check-off (ltb u (w .count)) notThere _ (le-ltb u (w .count) l))
 
-    pub heads-missing2 : (x : Refusal) → t ≡ true → u < w .count → w .count ≤ v → x ≡ plain notThere → refuses x ≡ headsOf w u v
+    pub heads-missing2 : (x : Refusal) → not t ≡ false → u < w .count → w .count ≤ v → x ≡ plain notThere → refuses x ≡ headsOf w u v
     unfolding headsOf
     heads-missing2 x f d l p =
         ap refuses p
-        ∙ sym (check-on (w .fit) noRoom _ (sym e ∙ f) ∙ check-on (ltb u (w .count)) notThere _ (lt-ltb u (w .count) d)
+        ∙ sym (check-on (w .fit) noRoom _ (sym e ∙ held t f) ∙ check-on (ltb u (w .count)) notThere _ (lt-ltb u (w .count) d)
         ∙ check-off (ltb v (w .count)) notThere _ (le-ltb v (w .count) l))
 
-    module _ (f : t ≡ true) (u-in : u < w .count) (v-in : v < w .count) (r : Headed) (a : saysHeaded r ≡ walkFrom (w .next) (w .count) u) where
+    module _ (f : not t ≡ false) (u-in : u < w .count) (v-in : v < w .count) (r : Headed) (a : saysHeaded r ≡ walkFrom (w .next) (w .count) u) where
       walked : (s : Headed) (y : Headed) → saysHeaded y ≡ walkFrom (w .next) (w .count) v → (z : Headed) → r ≡ s → y ≡ z → pair (saysHeaded s) (saysHeaded z) ≡ headsOf w u v
       walked s y b z p q =
-          sym (heads-walks (sym e ∙ f) u-in v-in ∙ ap₂ pair (sym a ∙ ap saysHeaded p) (sym b ∙ ap saysHeaded q))
+          sym (heads-walks (sym e ∙ held t f) u-in v-in ∙ ap₂ pair (sym a ∙ ap saysHeaded p) (sym b ∙ ap saysHeaded q))
 
       pub heads-lost : (x : Refusal) → r ≡ Headed.Refused x → refuses x ≡ headsOf w u v
-      heads-lost x p = sym (heads-walks (sym e ∙ f) u-in v-in ∙ ap (λ s. pair s (walkFrom (w .next) (w .count) v)) (sym a ∙ ap saysHeaded p))
+      heads-lost x p = sym (heads-walks (sym e ∙ held t f) u-in v-in ∙ ap (λ s. pair s (walkFrom (w .next) (w .count) v)) (sym a ∙ ap saysHeaded p))
 
       module _ (g k : ℕ) (p : r ≡ Headed.Head g k) (y : Headed) (b : saysHeaded y ≡ walkFrom (w .next) (w .count) v) where
         pub heads-lost2 : (x : Refusal) → y ≡ Headed.Refused x → refuses x ≡ headsOf w u v
@@ -107,7 +112,7 @@ module _ (w : View) (u v : ℕ) where
         pub heads-found : (h l : ℕ) → y ≡ Headed.Head h l → gives (heads g h) ≡ headsOf w u v
         heads-found h l q = walked (Headed.Head g k) y b (Headed.Head h l) p q
 
--- ---- whether two are of one group
+  -- ---- whether two are of one group
   module _ (r : Pair) (e : saysPair r ≡ headsOf w u v) where
     pub same-refused : (x : Refusal) → r ≡ Pair.Refused x → refuses x ≡ sameGroup w u v
     unfolding sameGroup
@@ -158,8 +163,7 @@ module _ (w : View) (v : ℕ) where
   size-inside s e =
       let t = onward-passed (headOf w v) (sizeAt w) s e in
       let k = check-passed (ltb 0 (w .size (t .0 .head)) && leb (w .size (t .0 .head)) (w .count)) unsound (gives (w .size (t .0 .head))) s (t .2) in
-      let q : w .size (t .0 .head) ≡ s = given-same (k .1) in
-      (
+      let q : w .size (t .0 .head) ≡ s = given-same (k .1) in (
         head-inside w v (t .0) (t .1) .0,
         rw q at (ltb-true 0 (w .size (t .0 .head)) (and-first _ _ (k .0))),
         rw q at (leb-true (w .size (t .0 .head)) (w .count) (and-second (ltb 0 (w .size (t .0 .head))) _ (k .0))),
@@ -168,7 +172,7 @@ module _ (w : View) (v : ℕ) where
       given-same : {a b : ℕ} → gives a ≡ gives b → a ≡ b
       given-same p = cc
 
--- ---- the step limit
+  -- ---- the step limit
   module _ (r : Reading) (e : saysReading r ≡ groupSize w v) where
     pub limit-refused : (x : Refusal) → r ≡ Reading.Refused x → refuses x ≡ stepLimit w v
     unfolding stepLimit
@@ -183,13 +187,20 @@ module _ (w : View) (v : ℕ) where
       limit-size = size-inside s (sym e ∙ ap saysReading f)
 
 -- ---- the count
-module _ (w : View) (t : Bool) (e : t ≡ w .fit) where
-  pub count-unlent : (x : Refusal) → t ≡ false → x ≡ plain noRoom → refuses x ≡ groupCount w
-  unfolding groupCount
-  count-unlent x f p = ap refuses p ∙ sym (check-off (w .fit) noRoom _ (sym e ∙ f))
+module _ (ps : List ℕ) (i : ℕ) where
+  pub count-head : getD ps i 0 ≡ i → tally (λ v. isStop (nextIn ps v)) (i + 1) ≡ suc (tally (λ v. isStop (nextIn ps v)) i)
+  count-head e = rw add-one (tally-yes (λ v. isStop (nextIn ps v)) i (ap isStop (next-head ps i e)))
 
-  pub count-is : (i k : ℕ) → t ≡ true → w .count ≤ i → i ≤ w .count → k ≡ tally (λ v. isStop (w .next v)) i → gives k ≡ groupCount w
+  pub count-other : (getD ps i 0 ≡ i → ⊥) → tally (λ v. isStop (nextIn ps v)) (i + 1) ≡ tally (λ v. isStop (nextIn ps v)) i
+  count-other e = rw add-one (tally-no (λ v. isStop (nextIn ps v)) i (ap isStop (next-other ps i e)))
+
+module _ (w : View) (t : Bool) (e : t ≡ w .fit) where
+  pub count-unlent : (x : Refusal) → not t ≡ true → x ≡ plain noRoom → refuses x ≡ groupCount w
+  unfolding groupCount
+  count-unlent x f p = ap refuses p ∙ sym (check-off (w .fit) noRoom _ (sym e ∙ failed t f))
+
+  pub count-is : (i k : ℕ) → not t ≡ false → w .count ≤ i → i ≤ w .count → k ≡ tally (λ v. isStop (w .next v)) i → gives k ≡ groupCount w
   unfolding groupCount
   count-is i k f a b p =
       let q : i ≡ w .count = omega arith in
-      sym (check-on (w .fit) noRoom _ (sym e ∙ f) ∙ ap gives (sym (p ∙ ap (tally (λ v. isStop (w .next v))) q)))
+      sym (check-on (w .fit) noRoom _ (sym e ∙ held t f) ∙ ap gives (sym (p ∙ ap (tally (λ v. isStop (w .next v))) q)))

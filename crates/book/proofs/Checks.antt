@@ -1,7 +1,7 @@
 -- Laws of what a call says: a check, a call that goes on from another, and the two areas' check. Assumes nothing.
 use mathlib.Core.Path.{_≡_, refl, sym, ap, _∙_}
 use mathlib.Core.List.{List}
-use mathlib.Core.Bool.{Bool, true, false, cond, _&&_}
+use mathlib.Core.Bool.{Bool, true, false, cond, not, _&&_, false≢true}
 use Prim.Native.Nat.{ℕ, _≤_, _<_}
 use native.Mathlib.Omega.{arith}
 use lib.ListN.{length}
@@ -12,6 +12,15 @@ use Rattle.basis.specs.Refusal.{Said, gives, refuses, plain}
 use Rattle.basis.proofs.Tests.{and-first, and-second, and-both}
 use Rattle.book.specs.Rules.{check, onward}
 use Rattle.book.specs.Two.{fits}
+
+-- a test of the code's `if !t`, taken and left
+pub failed : (t : Bool) → not t ≡ true → t ≡ false
+failed true e = absurd (false≢true e)
+failed false e = refl
+
+pub held : (t : Bool) → not t ≡ false → t ≡ true
+held true e = refl
+held false e = absurd (false≢true (sym e))
 
 pub refused-given {ℓ} : {X : Type ℓ} {A : Type 0} {r : Refusal} {x : A} → refuses r ≡ gives x → X
 refused-given e = absurd (let z : _≡_ {A = ℕ} 0 1 = cc in omega arith)

@@ -1,7 +1,7 @@
 -- Laws of a join: which head goes above, when two groups may merge, and for each `return` of the code what the join does. Assumes nothing.
 use mathlib.Core.Path.{_≡_, refl, sym, ap, _∙_}
 use mathlib.Core.List.{List}
-use mathlib.Core.Bool.{Bool, true, false, cond, _&&_}
+use mathlib.Core.Bool.{Bool, true, false, not, _&&_}
 use Prim.Native.Nat.{ℕ, zero, suc, _+_, _-_, _≤_, _<_}
 use native.Mathlib.Omega.{arith}
 use lib.ListN.{length, getD}
@@ -14,7 +14,7 @@ use Rattle.book.specs.declared.Pair.{Pair}
 use Rattle.book.specs.Rules.{View, Heads, heads, Step, already, merge, Joining, merged, same, Done, done, check, onward, above, mergeable, mergeHeads, linkHeads, headsOf, decide, writeBook, joinBook}
 use Rattle.book.specs.Two.{Areas, areas, two, twoBook}
 use Rattle.book.specs.Steps.{saysPair, linkTwo, hangTwo}
-use Rattle.book.proofs.Checks.{check-on, check-off, fits-same}
+use Rattle.book.proofs.Checks.{failed, held, check-on, check-off, fits-same}
 use Rattle.book.proofs.Calls.{heads-inside, heads-below}
 
 -- ---- which head goes above
@@ -91,20 +91,24 @@ module _ (ps ss : List ℕ) (g h : ℕ) where
   two-already e = rw (link-already (two ps ss) g h e)
 
   module _ (apart : g ≡ h → ⊥) (t : Bool) (e : t ≡ mergeable (length ps) (getD ss g 0) (getD ss h 0)) where
-    pub two-unsound : (x : Refusal) → t ≡ false → x ≡ plain unsound → done (refuses x) (areas ps ss) ≡ linkTwo ps ss g h
+    pub two-unsound : (x : Refusal) → not t ≡ true → x ≡ plain unsound → done (refuses x) (areas ps ss) ≡ linkTwo ps ss g h
     unfolding linkTwo writeBook two
-    two-unsound x f p = rw (link-unsound (two ps ss) g h apart (sym e ∙ f), p)
+    two-unsound x f p = rw (link-unsound (two ps ss) g h apart (sym e ∙ failed t f), p)
 
-    two-merges : t ≡ true → (s : Step) → mergeHeads (getD ss g 0) (getD ss h 0) g h ≡ s → writeBook twoBook (gives s) (areas ps ss) ≡ linkTwo ps ss g h
+    -- the sum does not pass the area's length
+    pub two-sum : not t ≡ false → getD ss g 0 + getD ss h 0 ≤ length ps
+    two-sum f = mergeable-sum (length ps) (getD ss g 0) (getD ss h 0) (sym e ∙ held t f)
+
+    two-merges : not t ≡ false → (s : Step) → mergeHeads (getD ss g 0) (getD ss h 0) g h ≡ s → writeBook twoBook (gives s) (areas ps ss) ≡ linkTwo ps ss g h
     unfolding linkTwo two
-    two-merges f s q = sym (ap (λ d. writeBook twoBook d (areas ps ss)) (link-merges (two ps ss) g h apart (sym e ∙ f) ∙ ap gives q))
+    two-merges f s q = sym (ap (λ d. writeBook twoBook d (areas ps ss)) (link-merges (two ps ss) g h apart (sym e ∙ held t f) ∙ ap gives q))
 
-    pub two-above : (k : Bool) (d : Done Joining Areas) → t ≡ true → k ≡ above (getD ss g 0) (getD ss h 0) g h → k ≡ true
+    pub two-above : (k : Bool) (d : Done Joining Areas) → not t ≡ false → k ≡ above (getD ss g 0) (getD ss h 0) g h → k ≡ true
         → d ≡ hangTwo ps ss g h (getD ss g 0 + getD ss h 0) → d ≡ linkTwo ps ss g h
     unfolding hangTwo
     two-above k d f p q r = r ∙ two-merges f _ (merge-above (getD ss g 0) (getD ss h 0) g h (sym p ∙ q))
 
-    pub two-below : (k : Bool) (d : Done Joining Areas) → t ≡ true → k ≡ above (getD ss g 0) (getD ss h 0) g h → k ≡ false
+    pub two-below : (k : Bool) (d : Done Joining Areas) → not t ≡ false → k ≡ above (getD ss g 0) (getD ss h 0) g h → k ≡ false
         → d ≡ hangTwo ps ss h g (getD ss g 0 + getD ss h 0) → d ≡ linkTwo ps ss g h
     unfolding hangTwo
     two-below k d f p q r = r ∙ two-merges f _ (merge-below (getD ss g 0) (getD ss h 0) g h (sym p ∙ q))

@@ -4,5 +4,12 @@ pub mod Walks
 pub mod Tally
 pub mod Powers
 pub mod Calls
-pub mod Opens
+pub mod Areas
 pub mod Joins
+pub mod Forest
+pub mod Faithful
+pub mod Book
+pub mod Series
+pub mod TwoBook
+pub mod Held
+pub mod Worked

@@ -1,7 +1,9 @@
 // Joining the groups of two vertices.
+use super::Joined;
+use super::Pair;
+use super::heads;
 use basis::Refusal;
 use basis::refusal::UNSOUND;
-use super::{Joined, Pair, heads};
 ghost use mathlib.Core.Path.{_≡_};
 ghost use Prim.Native.Nat.{_<_};
 ghost use lib.ListN.{length};
@@ -11,7 +13,13 @@ ghost use Rattle.book.specs.Says.{saysJoined};
 ghost use Rattle.book.specs.Steps.{linkTwo, hangTwo};
 
 // Puts the head `under` under the head `top`, whose size becomes `total`. The old head's size entry stays.
-fn hang(parents: &mut [usize], sizes: &mut [usize], top: usize, under: usize, total: usize) -> Joined
+fn hang(
+    parents: &mut [usize],
+    sizes: &mut [usize],
+    top: usize,
+    under: usize,
+    total: usize,
+) -> Joined
     requires { ⌜ (under < length (now parents)) × (top < length (now sizes)) ⌝ }
     ensures { λ r. ⌜ done (saysJoined r) (areas (now (parents .exit)) (now (sizes .exit))) ≡ hangTwo (now (parents .entry)) (now (sizes .entry)) top under total ⌝ }
 {

@@ -1,7 +1,9 @@
 // The group book: groups of vertices that grow join by join, in two areas that the caller lends, `parents` and `sizes`.
 // A head is its own parent, and `sizes` at a head is its group's size. Here are the answers, and the walks that the calls share.
 use basis::Refusal;
-use basis::refusal::{NOT_THERE, NO_ROOM, UNSOUND};
+use basis::refusal::NO_ROOM;
+use basis::refusal::NOT_THERE;
+use basis::refusal::UNSOUND;
 ghost use mathlib.Core.Path.{_≡_};
 ghost use Prim.Native.Nat.{_<_};
 ghost use lib.ListN.{length};

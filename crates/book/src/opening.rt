@@ -1,7 +1,8 @@
 // Opening the book.
+use super::Opened;
+use super::well_lent;
 use basis::Refusal;
 use basis::refusal::NO_ROOM;
-use super::{Opened, well_lent};
 ghost use mathlib.Core.Path.{_≡_};
 ghost use Rattle.book.specs.Rules.{done, openBook};
 ghost use Rattle.book.specs.Two.{areas, twoBook};

@@ -1,7 +1,15 @@
 // The calls that read the book.
+use super::Compared;
+use super::Headed;
+use super::Pair;
+use super::Reading;
+use super::heads;
+use super::walk;
+use super::well_lent;
 use basis::Refusal;
-use basis::refusal::{NOT_THERE, NO_ROOM, UNSOUND};
-use super::{Compared, Headed, Pair, Reading, heads, walk, well_lent};
+use basis::refusal::NO_ROOM;
+use basis::refusal::NOT_THERE;
+use basis::refusal::UNSOUND;
 ghost use mathlib.Core.Path.{_≡_};
 ghost use Prim.Native.Nat.{_≤_, _<_};
 ghost use Rattle.book.specs.Rules.{headOf, sameGroup, groupSize, groupCount, stepLimit, largest};

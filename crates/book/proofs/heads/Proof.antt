@@ -1,75 +1,62 @@
+use Rattle.book.specs.Two.{two}
+use Rattle.book.proofs.Calls.{heads-unlent, heads-missing, heads-missing2, heads-lost, heads-lost2, heads-found}
 use borrow.Author.Needs.{needs}
 use Rattle.book.proofs.heads.Statement.{statement}
 use Rattle.book.proofs.heads.Tie as tie
-use Rattle.book.proofs.heads.Reads as reads
-use Rattle.book.proofs.heads.Lts as lts
-use Rattle.basis.proofs.refusal.Refusal.plain.Reads as plain-reads
-use Rattle.book.proofs.walk.Reads as walk-reads
-use Rattle.book.proofs.well_lent.Reads as well-lent-reads
 
--- src/lib.rt:91:9
 well-lent-requires : tie.Need-well-lent-requires
 well-lent-requires c κs = search needs
 
--- src/lib.rt:92:30
 plain-requires : tie.Need-plain-requires
 plain-requires c κs = search needs
 
--- src/lib.rt:92:9
 returns : tie.Need-returns
-returns c = ?
+unfolding two
+returns c = search heads-unlent
 
--- src/lib.rt:95:30
 plain-requires-2 : tie.Need-plain-requires-2
 plain-requires-2 c κs = search needs
 
--- src/lib.rt:95:9
 returns-2 : tie.Need-returns-2
-returns-2 c = ?
+unfolding two
+returns-2 c = search heads-missing
 
--- src/lib.rt:98:30
 plain-requires-3 : tie.Need-plain-requires-3
 plain-requires-3 c κs = search needs
 
--- src/lib.rt:98:9
 returns-3 : tie.Need-returns-3
-returns-3 c = ?
+unfolding two
+returns-3 c = search heads-missing2
 
--- src/lib.rt:100:19
 walk-requires : tie.Need-walk-requires
 walk-requires c κs = search needs
 
--- src/lib.rt:101:22
 enum-known-g : tie.Need-enum-known-g
 enum-known-g c = search needs
 
--- src/lib.rt:102:25
 enum-known-r : tie.Need-enum-known-r
 enum-known-r c = search needs
 
--- src/lib.rt:102:31
 returns-4 : tie.Need-returns-4
-returns-4 c = ?
+unfolding two
+returns-4 c = search heads-lost
 
--- src/lib.rt:104:11
 walk-requires-2 : tie.Need-walk-requires-2
 walk-requires-2 c κs = search needs
 
--- src/lib.rt:105:22
 enum-known-h : tie.Need-enum-known-h
 enum-known-h c = search needs
 
--- src/lib.rt:106:25
 enum-known-r-2 : tie.Need-enum-known-r-2
 enum-known-r-2 c = search needs
 
--- src/lib.rt:88:1
 returns-5 : tie.Need-returns-5
-returns-5 c = ?
+unfolding two
+returns-5 c = search heads-found
 
--- src/lib.rt:88:1
 returns-6 : tie.Need-returns-6
-returns-6 c = ?
+unfolding two
+returns-6 c = search heads-lost2
 
 pub heads-spec : {M : Type 1} → statement M
 heads-spec =

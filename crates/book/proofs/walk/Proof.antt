@@ -8,9 +8,6 @@ use Rattle.book.specs.Two.{nextIn}
 use Rattle.book.proofs.Walks.{loop-found, loop-late, loop-out, loop-moves}
 use Rattle.book.proofs.walk.Statement.{statement}
 use Rattle.book.proofs.walk.Tie as tie
-use Rattle.book.proofs.walk.Reads as reads
-use Rattle.book.proofs.walk.Lts as lts
-use Rattle.basis.proofs.refusal.Refusal.plain.Reads as plain-reads
 
 abbrev Inv-loop : tie.InvT-loop
 Inv-loop parents v at₀ moves₀ at moves = (at < length parents) × (moves ≤ 16) × (walkFrom (nextIn parents) (length parents) v ≡ walk (nextIn parents) (length parents) (16 - moves) moves at)
@@ -20,7 +17,7 @@ abbrev μ-loop : tie.MeasureT-loop
 
 loop-holds : tie.Need-loop-holds Inv-loop μ-loop
 unfolding walkFrom
-loop-holds c = (c .pre, omega arith, refl)
+loop-holds c = (search needs, omega arith, refl)
 
 mul-p : tie.Need-mul-p Inv-loop μ-loop
 mul-p c = search needs

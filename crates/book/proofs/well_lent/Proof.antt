@@ -2,8 +2,6 @@ use borrow.Author.Needs.{needs}
 use Rattle.book.proofs.Checks.{fits-long, fits-lengths}
 use Rattle.book.proofs.well_lent.Statement.{statement}
 use Rattle.book.proofs.well_lent.Tie as tie
-use Rattle.book.proofs.well_lent.Reads as reads
-use Rattle.book.proofs.well_lent.Lts as lts
 
 returns : tie.Need-returns
 returns c = search fits-long

@@ -2,8 +2,6 @@ use borrow.Author.Needs.{needs}
 use Rattle.book.proofs.Joins.{above-larger, above-smaller, above-equal}
 use Rattle.book.proofs.joining.goes_above.Statement.{statement}
 use Rattle.book.proofs.joining.goes_above.Tie as tie
-use Rattle.book.proofs.joining.goes_above.Reads as reads
-use Rattle.book.proofs.joining.goes_above.Lts as lts
 
 returns : tie.Need-returns
 returns c = search above-larger

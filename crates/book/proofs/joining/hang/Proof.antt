@@ -3,8 +3,6 @@ use Rattle.book.specs.Steps.{hangTwo}
 use borrow.Author.Needs.{needs}
 use Rattle.book.proofs.joining.hang.Statement.{statement}
 use Rattle.book.proofs.joining.hang.Tie as tie
-use Rattle.book.proofs.joining.hang.Reads as reads
-use Rattle.book.proofs.joining.hang.Lts as lts
 
 mul-parents : tie.Need-mul-parents
 mul-parents c = search needs

@@ -1,13 +1,8 @@
-use Rattle.book.proofs.Joins.{two-already, two-unsound, two-above, two-below, mergeable-sum}
+use native.Mathlib.Omega.{arith}
+use Rattle.book.proofs.Joins.{two-already, two-unsound, two-above, two-below, two-sum}
 use borrow.Author.Needs.{needs}
 use Rattle.book.proofs.joining.link.Statement.{statement}
 use Rattle.book.proofs.joining.link.Tie as tie
-use Rattle.book.proofs.joining.link.Reads as reads
-use Rattle.book.proofs.joining.link.Lts as lts
-use Rattle.basis.proofs.refusal.Refusal.plain.Reads as plain-reads
-use Rattle.book.proofs.joining.goes_above.Reads as goes-above-reads
-use Rattle.book.proofs.joining.hang.Reads as hang-reads
-use Rattle.book.proofs.joining.may_merge.Reads as may-merge-reads
 
 returns : tie.Need-returns
 returns c = search two-already
@@ -37,7 +32,10 @@ goes-above-requires : tie.Need-goes-above-requires
 goes-above-requires c κs = search needs
 
 add-hang : tie.Need-add-hang
-add-hang c = search needs
+add-hang c =
+    let a = c .before .before .before .before .before .before .before .before .before .before .before .args in
+    let m = c .before .before .before .before .before .may-merge in
+    omega (arith, two-sum (a .parents .now) (a .sizes .now) (a .g) (a .h) (c .before .before .before .before .before .before .before .before .if1 .left) (m .result) (m .ensures) (c .before .before .before .before .if2 .left))
 
 hang-requires : tie.Need-hang-requires
 hang-requires c κs = search needs
@@ -52,7 +50,10 @@ returns-3 : tie.Need-returns-3
 returns-3 c = search two-above
 
 add-hang-2 : tie.Need-add-hang-2
-add-hang-2 c = search needs
+add-hang-2 c =
+    let a = c .before .before .before .before .before .before .before .before .before .before .before .args in
+    let m = c .before .before .before .before .before .may-merge in
+    omega (arith, two-sum (a .parents .now) (a .sizes .now) (a .g) (a .h) (c .before .before .before .before .before .before .before .before .if1 .left) (m .result) (m .ensures) (c .before .before .before .before .if2 .left))
 
 hang-requires-2 : tie.Need-hang-requires-2
 hang-requires-2 c κs = search needs

@@ -2,8 +2,6 @@ use borrow.Author.Needs.{needs}
 use Rattle.book.proofs.Joins.{mergeable-zero, mergeable-zero2, mergeable-large, mergeable-rest}
 use Rattle.book.proofs.joining.may_merge.Statement.{statement}
 use Rattle.book.proofs.joining.may_merge.Tie as tie
-use Rattle.book.proofs.joining.may_merge.Reads as reads
-use Rattle.book.proofs.joining.may_merge.Lts as lts
 
 returns : tie.Need-returns
 returns c = search mergeable-zero

@@ -6,13 +6,9 @@ use native.Mathlib.Omega.{arith}
 use lib.ListN.{length, drop, length-set}
 use Rattle.basis.specs.Area.{column}
 use Rattle.basis.proofs.Areas.{column-none, column-more}
-use Rattle.book.proofs.Opens.{open-unlent, open-lengths, open-ready}
+use Rattle.book.proofs.Areas.{open-unlent, open-lengths, open-ready}
 use Rattle.book.proofs.opening.open_book.Statement.{statement}
 use Rattle.book.proofs.opening.open_book.Tie as tie
-use Rattle.book.proofs.opening.open_book.Reads as reads
-use Rattle.book.proofs.opening.open_book.Lts as lts
-use Rattle.basis.proofs.refusal.Refusal.plain.Reads as plain-reads
-use Rattle.book.proofs.well_lent.Reads as well-lent-reads
 
 abbrev Inv-loop : tie.InvT-loop
 Inv-loop parents₀ sizes₀ n i₀ parents sizes i = (i ≤ n) × (n ≡ length parents₀) × (length sizes₀ ≡ n) × (length parents ≡ n) × (length sizes ≡ n) × (parents ≡ column (λ v. v) 0 i ++ drop i parents₀) × (sizes ≡ column (λ v. 1) 0 i ++ drop i sizes₀)

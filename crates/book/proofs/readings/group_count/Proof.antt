@@ -1,20 +1,14 @@
 use borrow.Author.Needs.{needs}
-use mathlib.Core.Path.{_≡_, refl, ap}
+use mathlib.Core.Path.{_≡_, refl}
 use mathlib.Core.Logic.{⊎-elim}
 use Prim.Native.Nat.{_≤_, _-_}
 use native.Mathlib.Omega.{arith}
-use native.Mathlib.Numerals.{add-one}
 use Rattle.book.specs.Rules.{tally, isStop}
 use Rattle.book.specs.Two.{nextIn, two}
-use Rattle.book.proofs.Walks.{next-head, next-other}
-use Rattle.book.proofs.Tally.{tally-yes, tally-no, tally-le}
-use Rattle.book.proofs.Calls.{count-unlent, count-is}
+use Rattle.book.proofs.Tally.{tally-le}
+use Rattle.book.proofs.Calls.{count-unlent, count-head, count-other, count-is}
 use Rattle.book.proofs.readings.group_count.Statement.{statement}
 use Rattle.book.proofs.readings.group_count.Tie as tie
-use Rattle.book.proofs.readings.group_count.Reads as reads
-use Rattle.book.proofs.readings.group_count.Lts as lts
-use Rattle.basis.proofs.refusal.Refusal.plain.Reads as plain-reads
-use Rattle.book.proofs.well_lent.Reads as well-lent-reads
 
 abbrev Inv-loop : tie.InvT-loop
 Inv-loop parents sizes n count₀ i₀ count i = (i ≤ n) × (count ≡ tally (λ v. isStop (nextIn parents v)) i)
@@ -43,7 +37,9 @@ shared-slice-read-if2 : tie.Need-shared-slice-read-if2 Inv-loop μ-loop
 shared-slice-read-if2 c = search needs
 
 add-count : tie.Need-add-count Inv-loop μ-loop
-add-count c = search needs
+add-count c =
+    let ps = c .before .before .before .before .before .before .before .before .args .parents .now in
+    omega (arith, tally-le (λ v. isStop (nextIn ps v)) (c .before .before .before .loop .i))
 
 add-i : tie.Need-add-i Inv-loop μ-loop
 add-i c = search needs
@@ -52,7 +48,10 @@ loop-less : tie.Need-loop-less Inv-loop μ-loop
 loop-less c = search needs
 
 loop-again : tie.Need-loop-again Inv-loop μ-loop
-loop-again c = search needs
+loop-again c =
+    let ps = c .before .before .before .before .before .before .before .before .args .parents .now in
+    let l = c .before .before .before .loop in
+    (omega arith, ⊎-elim (λ w. omega (arith, w .1, l .inv .1, count-head ps (l .i) (w .0 .taken))) (λ w. omega (arith, w .1, l .inv .1, count-other ps (l .i) (w .0 .left))) (c .if2 .came))
 
 returns-2 : tie.Need-returns-2 Inv-loop μ-loop
 unfolding two

@@ -3,8 +3,6 @@ use Rattle.book.proofs.Powers.{largest-leading}
 use borrow.Author.Needs.{needs}
 use Rattle.book.proofs.readings.power_below.Statement.{statement}
 use Rattle.book.proofs.readings.power_below.Tie as tie
-use Rattle.book.proofs.readings.power_below.Reads as reads
-use Rattle.book.proofs.readings.power_below.Lts as lts
 
 sub-result : tie.Need-sub-result
 sub-result c = omega (arith, largest-leading (c .args .size) (c .pre .0) (c .pre .1))
