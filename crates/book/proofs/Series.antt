@@ -1,0 +1,172 @@
+-- Demand 3 of every form of book that meets the equations of `Faithful.antt`. Assumes nothing.
+use mathlib.Core.Path.{_≡_, refl, sym, ap, ap₂, _∙_, subst}
+use mathlib.Core.List.{List, [], _∷_}
+use mathlib.Core.Bool.{Bool, true, false}
+use mathlib.Core.Logic.{_⊎_, inl, inr, ⊎-elim, _↔_}
+use Prim.Native.Nat.{ℕ, zero, suc, _+_, _-_, _^_, _≤_, _<_}
+use native.Mathlib.Omega.{arith}
+use native.Mathlib.Decide.{decLe, decLt, ℕ-discrete}
+use lib.ListN.{length, getD, replicate}
+use lib.Dec.{eqb}
+use Rattle.basis.specs.declared.refusal.Refusal.{Refusal}
+use Rattle.basis.specs.Refusal.{Said, gives, refuses, plain, notThere}
+use Rattle.book.specs.Rules.{View, Machine, found, Step, Joining, merged, same, Done, done, walkFrom, openBook, joinBook, writeBook, decide, largest}
+use Rattle.book.specs.Series.{Call, Answer, Slip, slip, State, state, Linked, Kept, Demand3, after, afterJoin, answer, run, headIn, movesIn, headAt, movesAt, members}
+use Rattle.book.proofs.Checks.{refused-given}
+use Rattle.book.proofs.Walks.{walk-head}
+use Rattle.book.proofs.Powers.{largest-low, largest-high, largest-most}
+use Rattle.book.proofs.Tally.{tally-same, tally-le}
+use Rattle.book.proofs.Forest.{Forest}
+use Rattle.book.proofs.Faithful.{Faithful}
+use Rattle.book.proofs.Book.{Sound, Joins, joins, sound-already, sound-merged, sound-open, join-outside, head-in, walk-is, head-answer, same-answer, size-answer, limit-answer, count-answer, linked-iff, size-group, size-pos}
+
+-- the state's book keeps the invariant
+abbrev pub Whole : (M : Machine) → ℕ → State (M .Area) → Type 0
+Whole M n s = Sound n (M .view (s .area)) (s .slips) (s .merges)
+
+-- areas that are well lent are opened
+pub open-is : (M : Machine) (a : M .Area) → M .view a .fit ≡ true → openBook M a ≡ done (gives tt) (M .opened a)
+unfolding openBook
+open-is M a f = simp f
+
+module _ (M : Machine) (L : Faithful M) (n : ℕ) where
+  pub after-whole : (s : State (M .Area)) → Whole M n s → (c : Call) → Whole M n (after M s c)
+  unfolding after
+  after-whole s W Call.opening = rw (open-is M (s .area) (W .fit)) (sound-open M L n (s .area) [] 0 (W .fit) (W .count))
+  after-whole s W (Call.joining u v) = go (decLt u n) (decLt v n)
+    where
+      w : View
+      w = M .view (s .area)
+
+      kept : u < n → v < n → Joins n (M .view (s .area)) (s .slips) (s .merges) (W .forest .head) u v → Whole M n (after M s (Call.joining u v))
+      kept k l (inl t) =
+          let e : joinBook M (s .area) u v ≡ done (gives same) (s .area) = unfold joinBook writeBook in ap (λ d. writeBook M d (s .area)) (t .0) in
+          rw e (sound-already n w _ _ W u v k l (t .1))
+      kept k l (inr t) =
+          let e : joinBook M (s .area) u v ≡ done (gives merged) (M .merged (t .0) (t .1) (w .size (t .0) + w .size (t .1)) (s .area))
+          = unfold joinBook writeBook in ap (λ d. writeBook M d (s .area)) (t .2) in
+          rw e (sound-merged M L n (s .area) _ _ W u v k l (t .0) (t .1) (t .3) (t .4) (t .5))
+
+      out : (n ≤ u) ⊎ (n ≤ v) → Whole M n (after M s (Call.joining u v))
+      out o =
+          let e : joinBook M (s .area) u v ≡ done (refuses (plain notThere)) (s .area) = unfold joinBook writeBook in ap (λ d. writeBook M d (s .area)) (join-outside n w _ _ W u v o) in
+          rw e W
+
+      go : Dec (u < n) → Dec (v < n) → Whole M n (after M s (Call.joining u v))
+      go (yes k) (yes l) = kept k l (joins n w _ _ W u v k l)
+      go (yes k) (no l) = out (inr (omega arith))
+      go (no k) d = out (inl (omega arith))
+  after-whole s W (Call.heading v) = W
+  after-whole s W (Call.comparing u v) = W
+  after-whole s W (Call.sizing v) = W
+  after-whole s W Call.counting = W
+  after-whole s W (Call.limiting v) = W
+
+  pub run-whole : (s : State (M .Area)) → Whole M n s → (cs : List Call) → Whole M n (run M s cs)
+  unfolding run
+  run-whole s W [] = W
+  run-whole s W (c ∷ cs) = run-whole (after M s c) (after-whole s W c) cs
+
+-- ---- what holds of a book that keeps the invariant
+
+module _ (M : Machine) (n : ℕ) (s : State (M .Area)) (W : Whole M n s) where
+  head-is : (v : ℕ) → v < n → headAt (M .view (s .area)) v ≡ W .forest .head v
+  head-is v l = ap headIn (walk-is n _ _ _ W v l)
+
+  moves-are : (v : ℕ) → v < n → movesAt (M .view (s .area)) v ≡ W .forest .depth v
+  moves-are v l = ap movesIn (walk-is n _ _ _ W v l)
+
+  members-are : (v : ℕ) → v < n → members (M .view (s .area)) v ≡ M .view (s .area) .size (W .forest .head v)
+  members-are v l =
+      rw (W .count) (tally-same (λ x. eqb (headIn (walkFrom (M .view (s .area) .next) n x)) (headIn (walkFrom (M .view (s .area) .next) n v))) (λ x. eqb (W .forest .head x) (W .forest .head v)) n
+      (λ x k. ap₂ eqb (rw (W .count) at (head-is x k)) (rw (W .count) at (head-is v l)))
+      ∙ sym (size-group n _ _ _ W v l))
+
+  kept-linked : (u v : ℕ) → u < n → v < n → (headAt (M .view (s .area)) u ≡ headAt (M .view (s .area)) v) ↔ Linked (s .slips) u v
+  kept-linked u v k l = rw (head-is u k, head-is v l) (linked-iff n _ _ _ W u v k l)
+
+  kept-accepted : (u v : ℕ) → u < n → v < n → (r : Refusal) → answer M s (Call.joining u v) ≡ Answer.joins (refuses r) → ⊥
+  unfolding answer joinBook writeBook
+  kept-accepted u v i l r e = go (joins n _ _ _ W u v i l)
+    where
+      bad : (d : Said Step) → decide (M .view (s .area)) u v ≡ d → writeBook M d (s .area) .said ≡ refuses r
+      bad d f = ap (λ x. writeBook M x (s .area) .said) (sym f) ∙ cc
+
+      go : Joins n (M .view (s .area)) (s .slips) (s .merges) (W .forest .head) u v → ⊥
+      go (inl t) = refused-given (sym (bad _ (t .0)))
+      go (inr t) = refused-given (sym (bad _ (t .2)))
+
+  size-range : (v : ℕ) → v < n → (0 < members (M .view (s .area)) v) × (members (M .view (s .area)) v ≤ 65536)
+  size-range v l = (
+    omega (arith, members-are v l, size-pos n _ _ _ W v l),
+    omega (arith, W .within, W .count, tally-le (λ x. eqb (headAt (M .view (s .area)) x) (headAt (M .view (s .area)) v)) (M .view (s .area) .count)),
+  )
+
+  kept-limited : (v : ℕ) → v < n
+      → (k : ℕ) × (answer M s (Call.limiting v) ≡ Answer.reads (gives k)) × (2 ^ k ≤ members (M .view (s .area)) v) × (members (M .view (s .area)) v < 2 ^ suc k)
+      × (movesAt (M .view (s .area)) v ≤ k)
+  unfolding answer
+  kept-limited v l =
+      let r = size-range v l in
+      let c = members (M .view (s .area)) v in (
+        largest 16 c,
+        ap Answer.reads (limit-answer n _ _ _ W v l ∙ ap (λ (x : ℕ). gives (largest 16 x)) (sym (members-are v l))),
+        largest-low c (r .0) (r .1),
+        largest-high c (r .0) (r .1),
+        largest-most c (movesAt (M .view (s .area)) v) (r .0) (r .1) (rw (moves-are v l, members-are v l) (W .forest .deep v l)),
+      )
+
+  kept-settled : (v : ℕ) → v < n → headAt (M .view (s .area)) (headAt (M .view (s .area)) v) ≡ headAt (M .view (s .area)) v
+  kept-settled v l =
+      let e : walkFrom (M .view (s .area) .next) (M .view (s .area) .count) (W .forest .head v) ≡ gives (found (W .forest .head v) 0)
+      = unfold walkFrom in walk-head (M .view (s .area) .next) (M .view (s .area) .count) 16 0 (W .forest .head v) (head-in n _ _ _ W v l .1) in
+      rw (head-is v l) (ap headIn e)
+
+  pub whole-kept : s .latest ≡ gives tt → Kept M n s (M .view (s .area))
+  unfolding answer
+  whole-kept ready = record {
+    opened = ready;
+    fit = W .fit;
+    count = W .count;
+    headed = λ v l. ap Answer.heads (head-answer n _ _ _ W v l ∙ ap₂ (λ (h k : ℕ). gives (found h k)) (sym (head-is v l)) (sym (moves-are v l)));
+    inside = λ v l. omega (arith, head-is v l, head-in n _ _ _ W v l .0);
+    settled = kept-settled;
+    linked = kept-linked;
+    compared = λ u v k l. ap Answer.compares (same-answer n _ _ _ W u v k l ∙ ap₂ (λ (g h : ℕ). gives (eqb g h)) (sym (head-is u k)) (sym (head-is v l)));
+    accepted = kept-accepted;
+    sized = λ v l. ap Answer.reads (size-answer n _ _ _ W v l ∙ ap gives (sym (members-are v l)));
+    limited = kept-limited;
+    counted = (ap Answer.reads (count-answer n _ _ _ W), omega (arith, W .forest .counted));
+  }
+
+-- ---- the theorem
+
+-- what the latest opening said, after calls on a book that keeps the invariant
+module _ (M : Machine) (L : Faithful M) (n : ℕ) where
+  after-latest : (s : State (M .Area)) → Whole M n s → s .latest ≡ gives tt → (c : Call) → after M s c .latest ≡ gives tt
+  unfolding after
+  after-latest s W e Call.opening = rw (open-is M (s .area) (W .fit))
+  after-latest s W e (Call.joining u v) = go (joinBook M (s .area) u v .said)
+    where
+      go : (d : Said Joining) → afterJoin u v d (joinBook M (s .area) u v .area) s .latest ≡ gives tt
+      go (gives merged) = e
+      go (gives same) = e
+      go (refuses r) = e
+  after-latest s W e (Call.heading v) = e
+  after-latest s W e (Call.comparing u v) = e
+  after-latest s W e (Call.sizing v) = e
+  after-latest s W e Call.counting = e
+  after-latest s W e (Call.limiting v) = e
+
+  run-latest : (s : State (M .Area)) → Whole M n s → s .latest ≡ gives tt → (cs : List Call) → run M s cs .latest ≡ gives tt
+  unfolding run
+  run-latest s W e [] = e
+  run-latest s W e (c ∷ cs) = run-latest (after M s c) (after-whole M L n s W c) (after-latest s W e c) cs
+
+pub demand3 : (M : Machine) → Faithful M → Demand3 M
+unfolding run after
+demand3 M L s f cs =
+    let n = M .view (s .area) .count in
+    let W : Whole M n (after M s Call.opening) = rw (open-is M (s .area) f) (sound-open M L n (s .area) [] 0 f refl) in
+    let e : after M s Call.opening .latest ≡ gives tt = rw (open-is M (s .area) f) in
+    whole-kept M n _ (run-whole M L n _ W cs) (run-latest M L n _ W e cs)

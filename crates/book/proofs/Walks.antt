@@ -1,0 +1,86 @@
+-- Laws of the walk, a move at a time. Assumes nothing.
+use mathlib.Core.Path.{_≡_, refl, sym, ap, _∙_}
+use mathlib.Core.List.{List}
+use mathlib.Core.Bool.{Bool, true, false}
+use Prim.Native.Nat.{ℕ, zero, suc, _+_, _-_, _≤_, _<_}
+use native.Mathlib.Omega.{arith}
+use native.Mathlib.Decide.{decLt}
+use lib.ListN.{length, getD}
+use lib.Dec.{ltb}
+use borrow.Author.Tests.{ltb-true, lt-ltb, le-ltb, eq-eqb, ne-eqb}
+use Rattle.basis.specs.declared.refusal.Refusal.{Refusal}
+use Rattle.basis.specs.Refusal.{Said, gives, refuses, plain, unsound}
+use Rattle.book.specs.Rules.{Next, stop, to, Found, found, check, walk, walkFrom}
+use Rattle.book.specs.Two.{nextIn}
+use Rattle.book.proofs.Checks.{refused-given, check-on, check-off, check-passed}
+
+module _ (next : ℕ → Next) (n : ℕ) where
+  pub walk-head : (left moves at : ℕ) → next at ≡ stop → walk next n left moves at ≡ gives (found at moves)
+  unfolding walk
+  walk-head zero moves at e = simp e
+  walk-head (suc left) moves at e = simp e
+
+  step-check : (left moves at p : ℕ) → next at ≡ to p → walk next n (suc left) moves at ≡ check (ltb p n) unsound (walk next n left (moves + 1) p)
+  unfolding walk
+  step-check left moves at p e = simp e
+
+  pub walk-move : (left moves at p : ℕ) → next at ≡ to p → p < n → walk next n (suc left) moves at ≡ walk next n left (moves + 1) p
+  walk-move left moves at p e l = step-check left moves at p e ∙ check-on (ltb p n) unsound (walk next n left (moves + 1) p) (lt-ltb p n l)
+
+  pub walk-late : (moves at p : ℕ) → next at ≡ to p → walk next n zero moves at ≡ refuses (plain unsound)
+  unfolding walk
+  walk-late moves at p e = simp e
+
+  pub walk-out : (left moves at p : ℕ) → next at ≡ to p → n ≤ p → walk next n left moves at ≡ refuses (plain unsound)
+  walk-out zero moves at p e l = walk-late moves at p e
+  walk-out (suc left) moves at p e l = step-check left moves at p e ∙ check-off (ltb p n) unsound (walk next n left (moves + 1) p) (le-ltb p n l)
+
+  head-here : (left moves at : ℕ) (f : Found) → at < n → walk next n left moves at ≡ gives f → next at ≡ stop → (f .head < n) × (next (f .head) ≡ stop)
+  head-here left moves at f l e q = let i : at ≡ f .head = cc (walk-head left moves at q) in (rw i at l, rw i at q)
+
+  -- where a walk ends there is a head, in the area
+  pub walk-in : (left moves at : ℕ) (f : Found) → at < n → walk next n left moves at ≡ gives f → (f .head < n) × (next (f .head) ≡ stop)
+  walk-in zero moves at f l e = go (next at) refl
+    where
+      go : (x : Next) → next at ≡ x → (f .head < n) × (next (f .head) ≡ stop)
+      go stop q = head-here zero moves at f l e q
+      go (to p) q = refused-given (sym (walk-late moves at p q) ∙ e)
+  walk-in (suc left) moves at f l e = go (next at) refl (λ p k d. walk-in left (moves + 1) p f k d)
+    where
+      go : (x : Next) → next at ≡ x → ((p : ℕ) → p < n → walk next n left (moves + 1) p ≡ gives f → (f .head < n) × (next (f .head) ≡ stop)) → (f .head < n) × (next (f .head) ≡ stop)
+      go stop q ih = head-here (suc left) moves at f l e q
+      go (to p) q ih =
+          let t = check-passed (ltb p n) unsound (walk next n left (moves + 1) p) f (sym (step-check left moves at p q) ∙ e) in
+          ih p (ltb-true p n (t .0)) (t .1)
+
+  pub walkFrom-in : (v : ℕ) (f : Found) → v < n → walkFrom next n v ≡ gives f → (f .head < n) × (next (f .head) ≡ stop)
+  unfolding walkFrom
+  walkFrom-in v f l e = walk-in 16 0 v f l e
+
+pub next-head : (ps : List ℕ) (v : ℕ) → getD ps v 0 ≡ v → nextIn ps v ≡ stop
+unfolding nextIn
+next-head ps v e = simp (eq-eqb _ _ e)
+
+pub next-other : (ps : List ℕ) (v : ℕ) → (getD ps v 0 ≡ v → ⊥) → nextIn ps v ≡ to (getD ps v 0)
+unfolding nextIn
+next-other ps v d = simp (ne-eqb _ _ d)
+
+-- ---- the code's loop, where the rest of the walk from `at` is the walk from v
+module _ (ps : List ℕ) (v at moves : ℕ) (e : walkFrom (nextIn ps) (length ps) v ≡ walk (nextIn ps) (length ps) (16 - moves) moves at) where
+  pub loop-found : getD ps at 0 ≡ at → gives (found at moves) ≡ walkFrom (nextIn ps) (length ps) v
+  loop-found h = sym (e ∙ walk-head (nextIn ps) (length ps) (16 - moves) moves at (next-head ps at h))
+
+  module _ (other : getD ps at 0 ≡ at → ⊥) where
+    pub loop-late : (x : Refusal) → 16 ≤ moves → x ≡ plain unsound → refuses x ≡ walkFrom (nextIn ps) (length ps) v
+    loop-late x l p =
+        let z : 16 - moves ≡ 0 = omega arith in
+        ap refuses p ∙ sym (e ∙ rw z (walk-late (nextIn ps) (length ps) moves at _ (next-other ps at other)))
+
+    pub loop-out : (x : Refusal) → length ps ≤ getD ps at 0 → x ≡ plain unsound → refuses x ≡ walkFrom (nextIn ps) (length ps) v
+    loop-out x l p = ap refuses p ∙ sym (e ∙ walk-out (nextIn ps) (length ps) (16 - moves) moves at _ (next-other ps at other) l)
+
+    pub loop-moves : moves < 16 → getD ps at 0 < length ps
+        → walkFrom (nextIn ps) (length ps) v ≡ walk (nextIn ps) (length ps) (16 - (moves + 1)) (moves + 1) (getD ps at 0)
+    loop-moves k l =
+        let z : 16 - moves ≡ suc (16 - (moves + 1)) = omega arith in
+        e ∙ rw z (walk-move (nextIn ps) (length ps) (16 - (moves + 1)) moves at _ (next-other ps at other) l)

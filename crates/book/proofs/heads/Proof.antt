@@ -1,0 +1,80 @@
+use Rattle.book.specs.Two.{two}
+use Rattle.book.proofs.Calls.{heads-unlent, heads-missing, heads-missing2, heads-lost, heads-lost2, heads-found}
+use borrow.Author.Needs.{needs}
+use Rattle.book.proofs.heads.Statement.{statement}
+use Rattle.book.proofs.heads.Tie as tie
+
+well-lent-requires : tie.Need-well-lent-requires
+well-lent-requires c κs = search needs
+
+plain-requires : tie.Need-plain-requires
+plain-requires c κs = search needs
+
+returns : tie.Need-returns
+unfolding two
+returns c = search heads-unlent
+
+plain-requires-2 : tie.Need-plain-requires-2
+plain-requires-2 c κs = search needs
+
+returns-2 : tie.Need-returns-2
+unfolding two
+returns-2 c = search heads-missing
+
+plain-requires-3 : tie.Need-plain-requires-3
+plain-requires-3 c κs = search needs
+
+returns-3 : tie.Need-returns-3
+unfolding two
+returns-3 c = search heads-missing2
+
+walk-requires : tie.Need-walk-requires
+walk-requires c κs = search needs
+
+enum-known-g : tie.Need-enum-known-g
+enum-known-g c = search needs
+
+enum-known-r : tie.Need-enum-known-r
+enum-known-r c = search needs
+
+returns-4 : tie.Need-returns-4
+unfolding two
+returns-4 c = search heads-lost
+
+walk-requires-2 : tie.Need-walk-requires-2
+walk-requires-2 c κs = search needs
+
+enum-known-h : tie.Need-enum-known-h
+enum-known-h c = search needs
+
+enum-known-r-2 : tie.Need-enum-known-r-2
+enum-known-r-2 c = search needs
+
+returns-5 : tie.Need-returns-5
+unfolding two
+returns-5 c = search heads-found
+
+returns-6 : tie.Need-returns-6
+unfolding two
+returns-6 c = search heads-lost2
+
+pub heads-spec : {M : Type 1} → statement M
+heads-spec =
+    tie.close
+    (tie.spec
+    well-lent-requires
+    plain-requires
+    returns
+    plain-requires-2
+    returns-2
+    plain-requires-3
+    returns-3
+    walk-requires
+    enum-known-g
+    enum-known-r
+    returns-4
+    walk-requires-2
+    enum-known-h
+    enum-known-r-2
+    returns-5
+    returns-6)

@@ -1,0 +1,68 @@
+use borrow.Author.Needs.{needs}
+use mathlib.Core.Path.{_≡_, refl}
+use Prim.Native.Nat.{_≤_, _<_, _-_}
+use native.Mathlib.Omega.{arith}
+use lib.ListN.{length}
+use Rattle.book.specs.Rules.{walk, walkFrom}
+use Rattle.book.specs.Two.{nextIn}
+use Rattle.book.proofs.Walks.{loop-found, loop-late, loop-out, loop-moves}
+use Rattle.book.proofs.walk.Statement.{statement}
+use Rattle.book.proofs.walk.Tie as tie
+
+abbrev Inv-loop : tie.InvT-loop
+Inv-loop parents v at₀ moves₀ at moves = (at < length parents) × (moves ≤ 16) × (walkFrom (nextIn parents) (length parents) v ≡ walk (nextIn parents) (length parents) (16 - moves) moves at)
+
+abbrev μ-loop : tie.MeasureT-loop
+μ-loop parents v at₀ moves₀ at moves = 16 - moves
+
+loop-holds : tie.Need-loop-holds Inv-loop μ-loop
+unfolding walkFrom
+loop-holds c = (search needs, omega arith, refl)
+
+mul-p : tie.Need-mul-p Inv-loop μ-loop
+mul-p c = search needs
+
+shared-slice-read-p : tie.Need-shared-slice-read-p Inv-loop μ-loop
+shared-slice-read-p c = search needs
+
+returns : tie.Need-returns Inv-loop μ-loop
+returns c = search loop-found
+
+plain-requires : tie.Need-plain-requires Inv-loop μ-loop
+plain-requires c κs = search needs
+
+returns-2 : tie.Need-returns-2 Inv-loop μ-loop
+returns-2 c = search loop-late
+
+plain-requires-2 : tie.Need-plain-requires-2 Inv-loop μ-loop
+plain-requires-2 c κs = search needs
+
+returns-3 : tie.Need-returns-3 Inv-loop μ-loop
+returns-3 c = search loop-out
+
+add-moves : tie.Need-add-moves Inv-loop μ-loop
+add-moves c = search needs
+
+loop-less : tie.Need-loop-less Inv-loop μ-loop
+loop-less c = search needs
+
+loop-again : tie.Need-loop-again Inv-loop μ-loop
+loop-again c = (omega arith, omega arith, search loop-moves)
+
+pub walk-spec : {M : Type 1} → statement M
+walk-spec =
+    tie.close
+    (tie.spec
+    Inv-loop
+    μ-loop
+    loop-holds
+    mul-p
+    shared-slice-read-p
+    returns
+    plain-requires
+    returns-2
+    plain-requires-2
+    returns-3
+    add-moves
+    loop-less
+    loop-again)

@@ -1,0 +1,6 @@
+-- The meaning of the group book, in reading order: what its areas show, the rules of its calls, the book of two areas, a series of calls and what holds after it.
+pub mod Rules
+pub mod Two
+pub mod Says
+pub mod Series
+pub mod Steps

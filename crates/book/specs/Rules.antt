@@ -1,0 +1,175 @@
+-- 01 "The group book": the rules of its calls, over what a book's areas show of a vertex and not over the areas.
+use mathlib.Core.Bool.{Bool, true, false, cond, _&&_}
+use Prim.Native.Nat.{ℕ, zero, suc, _+_, _^_}
+use lib.Dec.{leb, ltb, eqb}
+use Rattle.basis.specs.Refusal.{Said, gives, refuses, plain, noRoom, unsound, notThere}
+
+-- "A head is its own parent": a walk stops at a head, and goes from any other vertex to its parent
+pub data Next : Type 0 where
+  stop : Next
+  to : ℕ → Next
+
+-- what a book's areas show: whether they are well lent, how many vertices they have, where a walk goes from each, and the size that stands at a head
+pub record View : Type 0 where
+  pub fit : Bool
+  pub count : ℕ
+  pub next : ℕ → Next
+  pub size : ℕ → ℕ
+
+-- a check: what a call says where the test holds, else the refusal with its number
+abbrev pub check : {A : Type 0} → Bool → ℕ → Said A → Said A
+check t number s = cond t s (refuses (plain number))
+
+-- what a call says that goes on from what another gives, and is refused where that is
+abbrev pub onward : {A B : Type 0} → Said A → (A → Said B) → Said B
+onward (gives x) f = f x
+onward (refuses r) f = refuses r
+
+-- ---- the walk
+
+-- "head, with the number of moves from parent to parent that reach it"
+pub record Found : Type 0 where
+  pub head : ℕ
+  pub moves : ℕ
+
+abbrev pub found : ℕ → ℕ → Found
+found h k = record { head = h; moves = k }
+
+abbrev pub follow : Next → Said Found → (ℕ → Said Found) → Said Found
+follow stop here on = here
+follow (to p) here on = on p
+
+-- "a walk the call needs leaves the area or doesn't end in 16 steps": from `at` in an area of n, `left` moves allowed and `moves` made
+unfoldable pub walk : (ℕ → Next) → ℕ → ℕ → ℕ → ℕ → Said Found
+walk next n zero moves at = follow (next at) (gives (found at moves)) (λ p. refuses (plain unsound))
+walk next n (suc left) moves at = follow (next at) (gives (found at moves)) (λ p. check (ltb p n) unsound (walk next n left (moves + 1) p))
+
+unfoldable pub walkFrom : (ℕ → Next) → ℕ → ℕ → Said Found
+walkFrom next n v = walk next n 16 0 v
+
+-- ---- calls that read; "Checks: 8, then 10, then 9"
+
+unfoldable pub headOf : View → ℕ → Said Found
+headOf w v = check (w .fit) noRoom (check (ltb v (w .count)) notThere (walkFrom (w .next) (w .count) v))
+
+-- "finds both heads"
+pub record Heads : Type 0 where
+  pub first : ℕ
+  pub second : ℕ
+
+abbrev pub heads : ℕ → ℕ → Heads
+heads g h = record { first = g; second = h }
+
+abbrev pub pair : Said Found → Said Found → Said Heads
+pair (gives f) (gives g) = gives (heads (f .head) (g .head))
+pair (gives f) (refuses r) = refuses r
+pair (refuses r) s = refuses r
+
+unfoldable pub headsOf : View → ℕ → ℕ → Said Heads
+headsOf w u v =
+    check (w .fit) noRoom
+    (check (ltb u (w .count)) notThere
+    (check (ltb v (w .count)) notThere
+    (pair (walkFrom (w .next) (w .count) u) (walkFrom (w .next) (w .count) v))))
+
+abbrev pub oneHead : Heads → Said Bool
+oneHead p = gives (eqb (p .first) (p .second))
+
+-- "same group": whether the heads are the same
+unfoldable pub sameGroup : View → ℕ → ℕ → Said Bool
+sameGroup w u v = onward (headsOf w u v) oneHead
+
+-- "when size or step limit finds a head size of 0 or above the length"
+abbrev pub sizeAt : View → Found → Said ℕ
+sizeAt w f = check (ltb 0 (w .size (f .head)) && leb (w .size (f .head)) (w .count)) unsound (gives (w .size (f .head)))
+
+-- "group size"
+unfoldable pub groupSize : View → ℕ → Said ℕ
+groupSize w v = onward (headOf w v) (sizeAt w)
+
+-- how many numbers below n pass the test
+unfoldable pub tally : (ℕ → Bool) → ℕ → ℕ
+tally p zero = 0
+tally p (suc n) = cond (p n) (suc (tally p n)) (tally p n)
+
+abbrev pub isStop : Next → Bool
+isStop stop = true
+isStop (to p) = false
+
+-- "group count (heads in the area)"
+unfoldable pub groupCount : View → Said ℕ
+groupCount w = check (w .fit) noRoom (gives (tally (λ v. isStop (w .next v)) (w .count)))
+
+-- the largest j of 0 to k with 2 to the j at most s, for s above 0
+unfoldable pub largest : ℕ → ℕ → ℕ
+largest zero s = 0
+largest (suc k) s = cond (leb (2 ^ suc k) s) (suc k) (largest k s)
+
+abbrev pub limitOf : ℕ → Said ℕ
+limitOf s = gives (largest 16 s)
+
+-- "the step limit, which is the largest k with 2 to the k at most the group's size"
+unfoldable pub stepLimit : View → ℕ → Said ℕ
+stepLimit w v = onward (groupSize w v) limitOf
+
+-- ---- joining
+
+-- what an accepted join does: it finds one group, or puts the head `under` under the head `top`, whose size becomes `total`
+pub data Step : Type 0 where
+  already : Step
+  merge : ℕ → ℕ → ℕ → Step
+
+-- "the smaller group's head goes under the other; at equal sizes the higher-numbered head goes under the lower":
+-- whether head g, of a group of a vertices, goes above head h, of a group of b
+unfoldable pub above : ℕ → ℕ → ℕ → ℕ → Bool
+above a b g h = cond (ltb b a) true (cond (ltb a b) false (ltb g h))
+
+-- refused "when a join that would merge finds a head size of 0 or a sum above the length": else groups of a and b vertices may merge in a book of n
+unfoldable pub mergeable : ℕ → ℕ → ℕ → Bool
+mergeable n a b = ltb 0 a && ltb 0 b && leb (a + b) n
+
+-- "The new head's size becomes the sum"
+unfoldable pub mergeHeads : ℕ → ℕ → ℕ → ℕ → Step
+mergeHeads a b g h = cond (above a b g h) (merge g h (a + b)) (merge h g (a + b))
+
+-- "if equal, nothing changes and it is accepted"
+unfoldable pub linkHeads : View → Heads → Said Step
+linkHeads w p =
+    cond (eqb (p .first) (p .second)) (gives already)
+    (check (mergeable (w .count) (w .size (p .first)) (w .size (p .second))) unsound (gives (mergeHeads (w .size (p .first)) (w .size (p .second)) (p .first) (p .second))))
+
+unfoldable pub decide : View → ℕ → ℕ → Said Step
+decide w u v = onward (headsOf w u v) (linkHeads w)
+
+-- ---- a form of book: its areas, what they show, and what an opening and a merge write to them
+
+pub record Machine : Type 1 where
+  pub Area : Type 0
+  pub view : Area → View
+  pub opened : Area → Area
+  pub merged : ℕ → ℕ → ℕ → Area → Area
+
+-- what a call says, and the areas as it leaves them
+pub record Done (A B : Type 0) : Type 0 where
+  pub said : Said A
+  pub area : B
+
+abbrev pub done : {A B : Type 0} → Said A → B → Done A B
+done s a = record { said = s; area = a }
+
+-- "Refused book calls change nothing"
+unfoldable pub openBook : (M : Machine) → M .Area → Done (Unit {0}) (M .Area)
+openBook M a = cond (M .view a .fit) (done (gives tt) (M .opened a)) (done (refuses (plain noRoom)) a)
+
+-- what an accepted join says: that it merged two groups, or found one
+pub data Joining : Type 0 where
+  merged : Joining
+  same : Joining
+
+unfoldable pub writeBook : (M : Machine) → Said Step → M .Area → Done Joining (M .Area)
+writeBook M (gives already) a = done (gives same) a
+writeBook M (gives (merge top under total)) a = done (gives merged) (M .merged top under total a)
+writeBook M (refuses r) a = done (refuses r) a
+
+unfoldable pub joinBook : (M : Machine) → M .Area → ℕ → ℕ → Done Joining (M .Area)
+joinBook M a u v = writeBook M (decide (M .view a) u v) a

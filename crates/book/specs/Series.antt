@@ -1,0 +1,146 @@
+-- A series of calls on one book, and demand 3: what holds after every series.
+use mathlib.Core.Path.{_≡_}
+use mathlib.Core.List.{List, [], _∷_, List·Memᴰ}
+use mathlib.Core.Bool.{Bool, true, false}
+use mathlib.Core.Logic.{_↔_}
+use Prim.Native.Nat.{ℕ, zero, suc, _-_, _^_, _≤_, _<_}
+use lib.ListN.{length}
+use lib.Dec.{eqb}
+use Rattle.basis.specs.declared.refusal.Refusal.{Refusal}
+use Rattle.basis.specs.Refusal.{Said, gives, refuses}
+use Rattle.book.specs.Rules.{View, Machine, Found, found, Joining, merged, same, tally, walkFrom, openBook, joinBook, headOf, sameGroup, groupSize, groupCount, stepLimit}
+use Rattle.book.specs.Two.{Areas, twoBook}
+
+-- a call of the book
+pub data Call : Type 0 where
+  opening : Call
+  joining : ℕ → ℕ → Call
+  heading : ℕ → Call
+  comparing : ℕ → ℕ → Call
+  sizing : ℕ → Call
+  counting : Call
+  limiting : ℕ → Call
+
+-- what a call says
+pub data Answer : Type 0 where
+  opens : Said (Unit {0}) → Answer
+  joins : Said Joining → Answer
+  heads : Said Found → Answer
+  compares : Said Bool → Answer
+  reads : Said ℕ → Answer
+
+-- a join that was accepted
+pub record Slip : Type 0 where
+  pub left : ℕ
+  pub right : ℕ
+
+abbrev pub slip : ℕ → ℕ → Slip
+slip u v = record { left = u; right = v }
+
+-- The book's areas, what the latest opening said, and what the calls since the latest accepted opening have done:
+-- the joins accepted, the latest first, and how many of them merged two groups.
+pub record State (B : Type 0) : Type 0 where
+  pub area : B
+  pub latest : Said (Unit {0})
+  pub slips : List Slip
+  pub merges : ℕ
+
+abbrev pub state : {B : Type 0} → B → Said (Unit {0}) → List Slip → ℕ → State B
+state a o js m = record { area = a; latest = o; slips = js; merges = m }
+
+-- "opening again starts a new series"
+abbrev pub afterOpen : {B : Type 0} → Said (Unit {0}) → B → State B → State B
+afterOpen (gives x) a s = state a (gives x) [] 0
+afterOpen (refuses r) a s = state a (refuses r) (s .slips) (s .merges)
+
+abbrev pub afterJoin : {B : Type 0} → ℕ → ℕ → Said Joining → B → State B → State B
+afterJoin u v (gives merged) a s = state a (s .latest) (slip u v ∷ s .slips) (suc (s .merges))
+afterJoin u v (gives same) a s = state a (s .latest) (slip u v ∷ s .slips) (s .merges)
+afterJoin u v (refuses r) a s = state a (s .latest) (s .slips) (s .merges)
+
+unfoldable pub after : (M : Machine) → State (M .Area) → Call → State (M .Area)
+after M s opening = let d = openBook M (s .area) in afterOpen (d .said) (d .area) s
+after M s (joining u v) = let d = joinBook M (s .area) u v in afterJoin u v (d .said) (d .area) s
+after M s (heading v) = s
+after M s (comparing u v) = s
+after M s (sizing v) = s
+after M s counting = s
+after M s (limiting v) = s
+
+-- "After any series of calls"
+unfoldable pub run : (M : Machine) → State (M .Area) → List Call → State (M .Area)
+run M s [] = s
+run M s (c ∷ cs) = run M (after M s c) cs
+
+-- what a call says in a state
+unfoldable pub answer : (M : Machine) → State (M .Area) → Call → Answer
+answer M s opening = opens (openBook M (s .area) .said)
+answer M s (joining u v) = joins (joinBook M (s .area) u v .said)
+answer M s (heading v) = heads (headOf (M .view (s .area)) v)
+answer M s (comparing u v) = compares (sameGroup (M .view (s .area)) u v)
+answer M s (sizing v) = reads (groupSize (M .view (s .area)) v)
+answer M s counting = reads (groupCount (M .view (s .area)))
+answer M s (limiting v) = reads (stepLimit (M .view (s .area)) v)
+
+-- "a chain of accepted joins links them"
+pub data Linked (js : List Slip) : ℕ → ℕ → Type 0 where
+  itself : (v : ℕ) → Linked js v v
+  by : (u v : ℕ) → List·Memᴰ (slip u v) js → Linked js u v
+  back : {u v : ℕ} → Linked js u v → Linked js v u
+  on : {u v w : ℕ} → Linked js u v → Linked js v w → Linked js u w
+
+-- the head of a vertex and the moves to it, as its walk from parent to parent finds them
+abbrev pub headIn : Said Found → ℕ
+headIn (gives f) = f .head
+headIn (refuses r) = 0
+
+abbrev pub movesIn : Said Found → ℕ
+movesIn (gives f) = f .moves
+movesIn (refuses r) = 0
+
+abbrev pub headAt : View → ℕ → ℕ
+headAt w v = headIn (walkFrom (w .next) (w .count) v)
+
+abbrev pub movesAt : View → ℕ → ℕ
+movesAt w v = movesIn (walkFrom (w .next) (w .count) v)
+
+-- "the group's size": how many vertices have v's head
+abbrev pub members : View → ℕ → ℕ
+members w v = tally (λ x. eqb (headAt w x) (headAt w v)) (w .count)
+
+-- What holds of a book of n vertices in state s, whose areas show w; the words are those of demand 3.
+pub record Kept (M : Machine) (n : ℕ) (s : State (M .Area)) (w : View) : Type 0 where
+  -- "A group book of up to 65,536 vertices opens": the latest opening was accepted
+  pub opened : s .latest ≡ gives tt
+  -- it is well lent still, and its vertices are those opened
+  pub fit : w .fit ≡ true
+  pub count : w .count ≡ n
+  -- "and from then on refuses no join of its vertices"
+  pub accepted : (u v : ℕ) → u < n → v < n → (r : Refusal) → answer M s (joining u v) ≡ joins (refuses r) → ⊥
+  -- "two vertices have the same head exactly when a chain of accepted joins links them"
+  pub linked : (u v : ℕ) → u < n → v < n → (headAt w u ≡ headAt w v) ↔ Linked (s .slips) u v
+  -- and the same-group call says so
+  pub compared : (u v : ℕ) → u < n → v < n → answer M s (comparing u v) ≡ compares (gives (eqb (headAt w u) (headAt w v)))
+  -- the head call gives that head, with the moves of the walk to it
+  pub headed : (v : ℕ) → v < n → answer M s (heading v) ≡ heads (gives (found (headAt w v) (movesAt w v)))
+  -- a head is a vertex of the book, and its own head
+  pub inside : (v : ℕ) → v < n → headAt w v < n
+  pub settled : (v : ℕ) → v < n → headAt w (headAt w v) ≡ headAt w v
+  -- the size call gives the number of vertices with that head
+  pub sized : (v : ℕ) → v < n → answer M s (sizing v) ≡ reads (gives (members w v))
+  -- "a walk to the head takes at most k steps, k the largest with 2^k at most the group's size": k is what the step limit call gives
+  pub limited : (v : ℕ) → v < n
+      → (k : ℕ) × (answer M s (limiting v) ≡ reads (gives k)) × (2 ^ k ≤ members w v) × (members w v < 2 ^ suc k) × (movesAt w v ≤ k)
+  -- "the group count is the vertices less the joins that merged"
+  pub counted : (answer M s counting ≡ reads (gives (n - s .merges))) × (s .merges ≤ n)
+
+-- Demand 3, for every form of book: areas that are well lent, of any content and in any state before; "After any series of calls since its latest
+-- opening, refused ones included": an opening and every list of calls after it, further openings among them.
+abbrev pub Demand3 : Machine → Type 0
+Demand3 M = (s : State (M .Area)) → M .view (s .area) .fit ≡ true → (cs : List Call)
+    → Kept M (M .view (s .area) .count) (run M s (opening ∷ cs)) (M .view (run M s (opening ∷ cs) .area))
+
+-- the same of two areas of one length, "up to 65,536"
+abbrev pub Demand3Two : Type 0
+Demand3Two = (s : State Areas) → length (s .area .parents) ≤ 65536 → length (s .area .sizes) ≡ length (s .area .parents) → (cs : List Call)
+    → Kept twoBook (length (s .area .parents)) (run twoBook s (opening ∷ cs)) (twoBook .view (run twoBook s (opening ∷ cs) .area))

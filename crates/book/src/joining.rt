@@ -1,0 +1,86 @@
+// Joining the groups of two vertices.
+use super::Joined;
+use super::Pair;
+use super::heads;
+use basis::Refusal;
+use basis::refusal::UNSOUND;
+ghost use mathlib.Core.Path.{_≡_};
+ghost use Prim.Native.Nat.{_<_};
+ghost use lib.ListN.{length};
+ghost use Rattle.book.specs.Rules.{done, joinBook, above, mergeable};
+ghost use Rattle.book.specs.Two.{areas, twoBook};
+ghost use Rattle.book.specs.Says.{saysJoined};
+ghost use Rattle.book.specs.Steps.{linkTwo, hangTwo};
+
+// Puts the head `under` under the head `top`, whose size becomes `total`. The old head's size entry stays.
+fn hang(
+    parents: &mut [usize],
+    sizes: &mut [usize],
+    top: usize,
+    under: usize,
+    total: usize,
+) -> Joined
+    requires { ⌜ (under < length (now parents)) × (top < length (now sizes)) ⌝ }
+    ensures { λ r. ⌜ done (saysJoined r) (areas (now (parents .exit)) (now (sizes .exit))) ≡ hangTwo (now (parents .entry)) (now (sizes .entry)) top under total ⌝ }
+{
+    parents[under] = top;
+    sizes[top] = total;
+    Joined::Merged
+}
+
+// Whether the head `g`, of a group of `a` vertices, goes above the head `h`, of a group of `b`.
+fn goes_above(a: usize, b: usize, g: usize, h: usize) -> bool
+    ensures { λ r. ⌜ r ≡ above a b g h ⌝ }
+{
+    if b < a {
+        return true;
+    }
+    if a < b {
+        return false;
+    }
+    g < h
+}
+
+// Whether groups of `a` and `b` vertices may merge in a book of `n`. Damaged sizes could wrap, so the sum is not formed.
+fn may_merge(n: usize, a: usize, b: usize) -> bool
+    ensures { λ r. ⌜ r ≡ mergeable n a b ⌝ }
+{
+    if a == 0 {
+        return false;
+    }
+    if b == 0 {
+        return false;
+    }
+    if n < a {
+        return false;
+    }
+    b <= n - a
+}
+
+// Joins the groups of the heads `g` and `h`.
+fn link(parents: &mut [usize], sizes: &mut [usize], g: usize, h: usize) -> Joined
+    requires { ⌜ (length (now sizes) ≡ length (now parents)) × (g < length (now parents)) × (h < length (now parents)) ⌝ }
+    ensures { λ r. ⌜ done (saysJoined r) (areas (now (parents .exit)) (now (sizes .exit))) ≡ linkTwo (now (parents .entry)) (now (sizes .entry)) g h ⌝ }
+{
+    if g == h {
+        return Joined::Already;
+    }
+    let a = sizes[g];
+    let b = sizes[h];
+    if !may_merge(parents.len(), a, b) {
+        return Joined::Refused(Refusal::plain(UNSOUND));
+    }
+    if goes_above(a, b, g, h) {
+        return hang(parents, sizes, g, h, a + b);
+    }
+    hang(parents, sizes, h, g, a + b)
+}
+
+pub fn join(parents: &mut [usize], sizes: &mut [usize], u: usize, v: usize) -> Joined
+    ensures { λ r. ⌜ done (saysJoined r) (areas (now (parents .exit)) (now (sizes .exit))) ≡ joinBook twoBook (areas (now (parents .entry)) (now (sizes .entry))) u v ⌝ }
+{
+    match heads(parents, sizes, u, v) {
+        Pair::Heads(g, h) => link(parents, sizes, g, h),
+        Pair::Refused(r) => Joined::Refused(r),
+    }
+}

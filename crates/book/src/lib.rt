@@ -1,0 +1,110 @@
+// The group book: groups of vertices that grow join by join, in two areas that the caller lends, `parents` and `sizes`.
+// A head is its own parent, and `sizes` at a head is its group's size. Here are the answers, and the walks that the calls share.
+use basis::Refusal;
+use basis::refusal::NO_ROOM;
+use basis::refusal::NOT_THERE;
+use basis::refusal::UNSOUND;
+ghost use mathlib.Core.Path.{_≡_};
+ghost use Prim.Native.Nat.{_<_};
+ghost use lib.ListN.{length};
+ghost use Rattle.book.specs.Rules.{walkFrom, headsOf};
+ghost use Rattle.book.specs.Two.{nextIn, fits, two};
+ghost use Rattle.book.specs.Says.{saysHeaded};
+ghost use Rattle.book.specs.Steps.{saysPair};
+
+pub mod joining;
+pub mod opening;
+pub mod readings;
+
+pub enum Opened {
+    Ready,
+    Refused(Refusal),
+}
+
+// A join is accepted where it merged two groups or found one group.
+pub enum Joined {
+    Merged,
+    Already,
+    Refused(Refusal),
+}
+
+// The head and the number of moves that reach it.
+pub enum Headed {
+    Head(usize, usize),
+    Refused(Refusal),
+}
+
+pub enum Compared {
+    Together,
+    Apart,
+    Refused(Refusal),
+}
+
+// A number read off the book: a size, a count or a step limit.
+pub enum Reading {
+    Value(usize),
+    Refused(Refusal),
+}
+
+// The heads of two vertices.
+enum Pair {
+    Heads(usize, usize),
+    Refused(Refusal),
+}
+
+// Whether the two areas are of one length, at most 65,536.
+fn well_lent(parents: &[usize], sizes: &[usize]) -> bool
+    ensures { λ r. ⌜ r ≡ fits (now (parents .entry)) (now (sizes .entry)) ⌝ }
+{
+    let n = parents.len();
+    if 65536 < n {
+        return false;
+    }
+    sizes.len() == n
+}
+
+// The walk from `v` to its head, of at most 16 moves.
+fn walk(parents: &[usize], v: usize) -> Headed
+    requires { ⌜ v < length (now parents) ⌝ }
+    ensures { λ r. ⌜ saysHeaded r ≡ walkFrom (nextIn (now (parents .entry))) (length (now (parents .entry))) v ⌝ }
+{
+    let mut at = v;
+    let mut moves: usize = 0;
+    loop {
+        let p = parents[at];
+        if p == at {
+            return Headed::Head(at, moves);
+        }
+        if 16 <= moves {
+            return Headed::Refused(Refusal::plain(UNSOUND));
+        }
+        if parents.len() <= p {
+            return Headed::Refused(Refusal::plain(UNSOUND));
+        }
+        at = p;
+        moves += 1;
+    }
+}
+
+// The heads of two vertices, with the checks of a call that names both: both are checked before any walk.
+fn heads(parents: &[usize], sizes: &[usize], u: usize, v: usize) -> Pair
+    ensures { λ r. ⌜ saysPair r ≡ headsOf (two (now (parents .entry)) (now (sizes .entry))) u v ⌝ }
+{
+    if !well_lent(parents, sizes) {
+        return Pair::Refused(Refusal::plain(NO_ROOM));
+    }
+    if parents.len() <= u {
+        return Pair::Refused(Refusal::plain(NOT_THERE));
+    }
+    if parents.len() <= v {
+        return Pair::Refused(Refusal::plain(NOT_THERE));
+    }
+    let g = match walk(parents, u) {
+        Headed::Head(g, _) => g,
+        Headed::Refused(r) => return Pair::Refused(r),
+    };
+    match walk(parents, v) {
+        Headed::Head(h, _) => Pair::Heads(g, h),
+        Headed::Refused(r) => Pair::Refused(r),
+    }
+}
