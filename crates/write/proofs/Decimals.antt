@@ -1,0 +1,41 @@
+-- Laws of the text of a count. Assumes nothing.
+use Prim.Native.Nat.{ℕ, zero, suc, _+_, _*_, _/_, _%_, _^_, _≤_, _<_}
+use mathlib.Core.Path.{_≡_, refl, sym, ap, _∙_}
+use mathlib.Core.Bool.{Bool, true, false}
+use mathlib.Core.List.{List, [], _∷_, _++_}
+use native.Mathlib.Omega.{arith}
+use borrow.Author.Tests.{lt-ltb, le-ltb, ltb-true, ltb-false}
+use lib.Dec.{ltb}
+use lib.ListN.{length, length-append}
+use Rattle.basis.proofs.Tests.{bool-cases}
+use Rattle.write.specs.Decimal.{digits, decimal}
+
+-- ---- any two cuts that are not below the number give the same digits
+digits-small : (k n : ℕ) → n < 10 → digits k n ≡ (48 + n) ∷ []
+unfolding digits
+digits-small zero n h = refl
+digits-small (suc k) n h = rw (lt-ltb n 10 h, digits)
+
+digits-more : (k n : ℕ) → 10 ≤ n → digits (suc k) n ≡ digits k (n / 10) ++ ((48 + n % 10) ∷ [])
+unfolding digits
+digits-more k n h = rw (le-ltb n 10 h, digits)
+
+digits-cut : (k j n : ℕ) → n ≤ k → n ≤ j → digits k n ≡ digits j n
+digits-cut zero j n h g = digits-small zero n (omega arith) ∙ sym (digits-small j n (omega arith))
+digits-cut (suc k) zero n h g = digits-small (suc k) n (omega arith) ∙ sym (digits-small zero n (omega arith))
+digits-cut (suc k) (suc j) n h g =
+    bool-cases (ltb n 10) (digits (suc k) n ≡ digits (suc j) n)
+    (λ e. digits-small (suc k) n (ltb-true n 10 e) ∙ sym (digits-small (suc j) n (ltb-true n 10 e)))
+    (λ e. let m : 10 ≤ n = ltb-false n 10 e in
+      digits-more k n m ∙ ap (λ l. l ++ ((48 + n % 10) ∷ [])) (digits-cut k j (n / 10) (omega arith) (omega arith)) ∙ sym (digits-more j n m))
+
+-- ---- a number below 10 is its digit; another one is the digits of n / 10 and the digit of n % 10
+pub decimal-small : (n : ℕ) → n < 10 → decimal n ≡ (48 + n) ∷ []
+unfolding decimal
+decimal-small n h = digits-small n n h
+
+pub decimal-more : (n : ℕ) → 10 ≤ n → decimal n ≡ decimal (n / 10) ++ ((48 + n % 10) ∷ [])
+unfolding decimal
+decimal-more zero h = absurd (omega arith)
+decimal-more (suc k) h =
+    digits-more k (suc k) h ∙ ap (λ l. l ++ ((48 + suc k % 10) ∷ [])) (digits-cut k (suc k / 10) (suc k / 10) (omega arith) (omega arith))

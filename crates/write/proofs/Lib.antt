@@ -1,0 +1,3 @@
+-- Laws of the texts of numbers and of writing; whoever composes writers cites `Puts`.
+pub mod Puts
+pub mod Decimals

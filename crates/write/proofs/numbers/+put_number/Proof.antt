@@ -1,0 +1,141 @@
+use Prim.Native.Nat.{ℕ, _<_}
+use borrow.Fn.Kinds.{In}
+use borrow.Fn.PlainCycle.{Measures, is, falls, and}
+use Rattle.write.proofs.numbers.put_number.Reads as put-number
+use Rattle.write.proofs.numbers.put_number.Kinds as put-number-kinds
+use Rattle.write.proofs.numbers.+put_number.Lts-put_number as put-number-lts
+use Rattle.write.proofs.bytes.put.Reads as put-reads
+use Rattle.write.proofs.numbers.digit.Reads as digit-reads
+use Rattle.write.proofs.numbers.+put_number.{statement}
+use Rattle.write.proofs.numbers.+put_number.Tie.{close}
+
+abbrev μ-put-number : Measures 1 put-number-kinds.ps ℕ
+μ-put-number κs a = ?
+
+abbrev put-number-at : ℕ → In 1 put-number-kinds.ps
+put-number-at t =
+    and 1 put-number-kinds.ps (is 1 put-number-kinds.ps μ-put-number t) put-number.Pre
+
+abbrev put-number-below : ℕ → In 1 put-number-kinds.ps
+put-number-below t =
+    and 1 put-number-kinds.ps (falls 1 put-number-kinds.ps _<_ μ-put-number t) put-number.Pre
+
+-- src/numbers.rt:26:29
+put-number-digit-requires : (t : ℕ) → put-number-lts.Need-digit-requires (
+  digit-reads.Asked,
+  digit-reads.Learnt,
+  put-reads.Asked,
+  put-reads.Learnt,
+  put-number-below t,
+  put-number.Post,
+) (put-number-at t) put-number.Post
+put-number-digit-requires t c κs = ?
+
+-- src/numbers.rt:26:9
+put-number-put-requires : (t : ℕ) → put-number-lts.Need-put-requires (
+  digit-reads.Asked,
+  digit-reads.Learnt,
+  put-reads.Asked,
+  put-reads.Learnt,
+  put-number-below t,
+  put-number.Post,
+) (put-number-at t) put-number.Post
+put-number-put-requires t c κs = ?
+
+-- src/numbers.rt:26:9
+put-number-same-length : (t : ℕ) → put-number-lts.Need-same-length (
+  digit-reads.Asked,
+  digit-reads.Learnt,
+  put-reads.Asked,
+  put-reads.Learnt,
+  put-number-below t,
+  put-number.Post,
+) (put-number-at t) put-number.Post
+put-number-same-length t c = ?
+
+-- src/numbers.rt:26:9
+put-number-returns : (t : ℕ) → put-number-lts.Need-returns (
+  digit-reads.Asked,
+  digit-reads.Learnt,
+  put-reads.Asked,
+  put-reads.Learnt,
+  put-number-below t,
+  put-number.Post,
+) (put-number-at t) put-number.Post
+put-number-returns t c = ?
+
+-- src/numbers.rt:28:9
+put-number-put-number-requires : (t : ℕ) → put-number-lts.Need-put-number-requires (
+  digit-reads.Asked,
+  digit-reads.Learnt,
+  put-reads.Asked,
+  put-reads.Learnt,
+  put-number-below t,
+  put-number.Post,
+) (put-number-at t) put-number.Post
+put-number-put-number-requires t c κs = ?
+
+-- src/numbers.rt:29:20
+put-number-digit-requires-2 : (t : ℕ) → put-number-lts.Need-digit-requires-2 (
+  digit-reads.Asked,
+  digit-reads.Learnt,
+  put-reads.Asked,
+  put-reads.Learnt,
+  put-number-below t,
+  put-number.Post,
+) (put-number-at t) put-number.Post
+put-number-digit-requires-2 t c κs = ?
+
+-- src/numbers.rt:29:5
+put-number-put-requires-2 : (t : ℕ) → put-number-lts.Need-put-requires-2 (
+  digit-reads.Asked,
+  digit-reads.Learnt,
+  put-reads.Asked,
+  put-reads.Learnt,
+  put-number-below t,
+  put-number.Post,
+) (put-number-at t) put-number.Post
+put-number-put-requires-2 t c κs = ?
+
+-- src/numbers.rt:22:1
+put-number-same-length-2 : (t : ℕ) → put-number-lts.Need-same-length-2 (
+  digit-reads.Asked,
+  digit-reads.Learnt,
+  put-reads.Asked,
+  put-reads.Learnt,
+  put-number-below t,
+  put-number.Post,
+) (put-number-at t) put-number.Post
+put-number-same-length-2 t c = ?
+
+-- src/numbers.rt:22:1
+put-number-returns-2 : (t : ℕ) → put-number-lts.Need-returns-2 (
+  digit-reads.Asked,
+  digit-reads.Learnt,
+  put-reads.Asked,
+  put-reads.Learnt,
+  put-number-below t,
+  put-number.Post,
+) (put-number-at t) put-number.Post
+put-number-returns-2 t c = ?
+
+pub +put-number-spec : {M : Type 1} → statement M
++put-number-spec = close μ-put-number λ t. put-number-lts.spec (
+  digit-reads.Asked,
+  digit-reads.Learnt,
+  put-reads.Asked,
+  put-reads.Learnt,
+  put-number-below t,
+  put-number.Post,
+)
+    (put-number-at t)
+    put-number.Post
+    (put-number-digit-requires t)
+    (put-number-put-requires t)
+    (put-number-same-length t)
+    (put-number-returns t)
+    (put-number-put-number-requires t)
+    (put-number-digit-requires-2 t)
+    (put-number-put-requires-2 t)
+    (put-number-same-length-2 t)
+    (put-number-returns-2 t)
