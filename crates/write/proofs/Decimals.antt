@@ -8,7 +8,9 @@ use borrow.Author.Tests.{lt-ltb, le-ltb, ltb-true, ltb-false}
 use lib.Dec.{ltb}
 use lib.ListN.{length, length-append}
 use Rattle.basis.proofs.Tests.{bool-cases}
+use Rattle.write.specs.Put.{written, putAt}
 use Rattle.write.specs.Decimal.{digits, decimal}
+use Rattle.write.proofs.Puts.{put-then, put-as}
 
 -- ---- any two cuts that are not below the number give the same digits
 digits-small : (k n : ℕ) → n < 10 → digits k n ≡ (48 + n) ∷ []
@@ -39,3 +41,14 @@ unfolding decimal
 decimal-more zero h = absurd (omega arith)
 decimal-more (suc k) h =
     digits-more k (suc k) h ∙ ap (λ l. l ++ ((48 + suc k % 10) ∷ [])) (digits-cut k (suc k / 10) (suc k / 10) (omega arith) (omega arith))
+
+-- ---- the writer of a count
+module _ (n d : ℕ) (o : List ℕ) (at : ℕ) {o′ : List ℕ} {p : ℕ} where
+  pub number-small : n < 10 → d ≡ 48 + n → written o′ p ≡ putAt o at (d ∷ []) → written o′ p ≡ putAt o at (decimal n)
+  number-small h e x = put-as o at (d ∷ []) x (decimal n) (ap (λ k. k ∷ []) e ∙ sym (decimal-small n h))
+
+  pub number-more : {o″ : List ℕ} {r : ℕ} → 10 ≤ n → d ≡ 48 + n % 10
+      → written o′ p ≡ putAt o at (decimal (n / 10)) → written o″ r ≡ putAt o′ p (d ∷ []) → written o″ r ≡ putAt o at (decimal n)
+  number-more h e x y =
+      put-as o at (decimal (n / 10) ++ (d ∷ [])) (put-then o at (decimal (n / 10)) x (d ∷ []) y) (decimal n)
+      (ap (λ k. decimal (n / 10) ++ (k ∷ [])) e ∙ sym (decimal-more n h))

@@ -6,9 +6,6 @@ use Rattle.write.specs.Put.{putAt}
 use Rattle.write.proofs.Puts.{putting-length, bytes-more, bytes-end}
 use Rattle.write.proofs.bytes.put_bytes.Statement.{statement}
 use Rattle.write.proofs.bytes.put_bytes.Tie as tie
-use Rattle.write.proofs.bytes.put_bytes.Reads as reads
-use Rattle.write.proofs.bytes.put_bytes.Lts as lts
-use Rattle.write.proofs.bytes.put.Reads as put-reads
 
 abbrev Inv-loop : tie.InvT-loop
 Inv-loop out₀ at text next₀ i₀ out next i = putAt out next (drop i text) ≡ putAt out₀ at text
@@ -16,35 +13,27 @@ Inv-loop out₀ at text next₀ i₀ out next i = putAt out next (drop i text) �
 abbrev μ-loop : tie.MeasureT-loop
 μ-loop out₀ at text next₀ i₀ out next i = length text - i
 
--- src/bytes.rt:23:5
 loop-holds : tie.Need-loop-holds Inv-loop μ-loop
 loop-holds c = refl
 
--- src/bytes.rt:24:31
 shared-slice-read-put : tie.Need-shared-slice-read-put Inv-loop μ-loop
 shared-slice-read-put c = search needs
 
--- src/bytes.rt:24:9
 put-requires : tie.Need-put-requires Inv-loop μ-loop
 put-requires c κs = search needs
 
--- src/bytes.rt:25:9
 add-i : tie.Need-add-i Inv-loop μ-loop
 add-i c = search needs
 
--- src/bytes.rt:23:5
 loop-less : tie.Need-loop-less Inv-loop μ-loop
 loop-less c = search needs
 
--- src/bytes.rt:23:5
 loop-again : tie.Need-loop-again Inv-loop μ-loop
 loop-again c = search bytes-more
 
--- src/bytes.rt:18:1
 same-length : tie.Need-same-length Inv-loop μ-loop
 same-length c = search putting-length
 
--- src/bytes.rt:18:1
 returns : tie.Need-returns Inv-loop μ-loop
 returns c = search bytes-end
 

@@ -1,3 +1,6 @@
+use borrow.Author.Needs.{needs}
+use native.Mathlib.Omega.{arith}
+use Rattle.write.proofs.Decimals.{number-small, number-more}
 use Prim.Native.Nat.{ℕ, _<_}
 use borrow.Fn.Kinds.{In}
 use borrow.Fn.PlainCycle.{Measures, is, falls, and}
@@ -10,7 +13,7 @@ use Rattle.write.proofs.numbers.+put_number.{statement}
 use Rattle.write.proofs.numbers.+put_number.Tie.{close}
 
 abbrev μ-put-number : Measures 1 put-number-kinds.ps ℕ
-μ-put-number κs a = ?
+μ-put-number κs a = a .1 .1 .0
 
 abbrev put-number-at : ℕ → In 1 put-number-kinds.ps
 put-number-at t =
@@ -20,7 +23,6 @@ abbrev put-number-below : ℕ → In 1 put-number-kinds.ps
 put-number-below t =
     and 1 put-number-kinds.ps (falls 1 put-number-kinds.ps _<_ μ-put-number t) put-number.Pre
 
--- src/numbers.rt:26:29
 put-number-digit-requires : (t : ℕ) → put-number-lts.Need-digit-requires (
   digit-reads.Asked,
   digit-reads.Learnt,
@@ -29,9 +31,8 @@ put-number-digit-requires : (t : ℕ) → put-number-lts.Need-digit-requires (
   put-number-below t,
   put-number.Post,
 ) (put-number-at t) put-number.Post
-put-number-digit-requires t c κs = ?
+put-number-digit-requires t c κs = search needs
 
--- src/numbers.rt:26:9
 put-number-put-requires : (t : ℕ) → put-number-lts.Need-put-requires (
   digit-reads.Asked,
   digit-reads.Learnt,
@@ -40,9 +41,8 @@ put-number-put-requires : (t : ℕ) → put-number-lts.Need-put-requires (
   put-number-below t,
   put-number.Post,
 ) (put-number-at t) put-number.Post
-put-number-put-requires t c κs = ?
+put-number-put-requires t c κs = search needs
 
--- src/numbers.rt:26:9
 put-number-same-length : (t : ℕ) → put-number-lts.Need-same-length (
   digit-reads.Asked,
   digit-reads.Learnt,
@@ -51,9 +51,8 @@ put-number-same-length : (t : ℕ) → put-number-lts.Need-same-length (
   put-number-below t,
   put-number.Post,
 ) (put-number-at t) put-number.Post
-put-number-same-length t c = ?
+put-number-same-length t c = search needs
 
--- src/numbers.rt:26:9
 put-number-returns : (t : ℕ) → put-number-lts.Need-returns (
   digit-reads.Asked,
   digit-reads.Learnt,
@@ -62,9 +61,8 @@ put-number-returns : (t : ℕ) → put-number-lts.Need-returns (
   put-number-below t,
   put-number.Post,
 ) (put-number-at t) put-number.Post
-put-number-returns t c = ?
+put-number-returns t c = search number-small
 
--- src/numbers.rt:28:9
 put-number-put-number-requires : (t : ℕ) → put-number-lts.Need-put-number-requires (
   digit-reads.Asked,
   digit-reads.Learnt,
@@ -73,9 +71,8 @@ put-number-put-number-requires : (t : ℕ) → put-number-lts.Need-put-number-re
   put-number-below t,
   put-number.Post,
 ) (put-number-at t) put-number.Post
-put-number-put-number-requires t c κs = ?
+put-number-put-number-requires t c κs = (omega (arith, c .before .before .before .pre .0), tt)
 
--- src/numbers.rt:29:20
 put-number-digit-requires-2 : (t : ℕ) → put-number-lts.Need-digit-requires-2 (
   digit-reads.Asked,
   digit-reads.Learnt,
@@ -84,9 +81,8 @@ put-number-digit-requires-2 : (t : ℕ) → put-number-lts.Need-digit-requires-2
   put-number-below t,
   put-number.Post,
 ) (put-number-at t) put-number.Post
-put-number-digit-requires-2 t c κs = ?
+put-number-digit-requires-2 t c κs = search needs
 
--- src/numbers.rt:29:5
 put-number-put-requires-2 : (t : ℕ) → put-number-lts.Need-put-requires-2 (
   digit-reads.Asked,
   digit-reads.Learnt,
@@ -95,9 +91,8 @@ put-number-put-requires-2 : (t : ℕ) → put-number-lts.Need-put-requires-2 (
   put-number-below t,
   put-number.Post,
 ) (put-number-at t) put-number.Post
-put-number-put-requires-2 t c κs = ?
+put-number-put-requires-2 t c κs = search needs
 
--- src/numbers.rt:22:1
 put-number-same-length-2 : (t : ℕ) → put-number-lts.Need-same-length-2 (
   digit-reads.Asked,
   digit-reads.Learnt,
@@ -106,9 +101,8 @@ put-number-same-length-2 : (t : ℕ) → put-number-lts.Need-same-length-2 (
   put-number-below t,
   put-number.Post,
 ) (put-number-at t) put-number.Post
-put-number-same-length-2 t c = ?
+put-number-same-length-2 t c = search needs
 
--- src/numbers.rt:22:1
 put-number-returns-2 : (t : ℕ) → put-number-lts.Need-returns-2 (
   digit-reads.Asked,
   digit-reads.Learnt,
@@ -117,7 +111,7 @@ put-number-returns-2 : (t : ℕ) → put-number-lts.Need-returns-2 (
   put-number-below t,
   put-number.Post,
 ) (put-number-at t) put-number.Post
-put-number-returns-2 t c = ?
+put-number-returns-2 t c = search number-more
 
 pub +put-number-spec : {M : Type 1} → statement M
 +put-number-spec = close μ-put-number λ t. put-number-lts.spec (

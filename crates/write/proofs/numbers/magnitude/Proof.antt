@@ -1,30 +1,23 @@
 use borrow.Author.Needs.{needs}
+use Rattle.write.proofs.Signed.{turned-fits, turned-casts, turned-adds, turned-size, plain-casts}
 use Rattle.write.proofs.numbers.magnitude.Statement.{statement}
 use Rattle.write.proofs.numbers.magnitude.Tie as tie
-use Rattle.write.proofs.numbers.magnitude.Reads as reads
-use Rattle.write.proofs.numbers.magnitude.Lts as lts
 
--- src/numbers.rt:37:18
 sub-result : tie.Need-sub-result
-sub-result c = ?
+sub-result c = search turned-fits
 
--- src/numbers.rt:37:17
 cast-result : tie.Need-cast-result
-cast-result c = ?
+cast-result c = turned-casts _ (c .before .fits .z) (c .if1 .taken)
 
--- src/numbers.rt:37:16
 add-result : tie.Need-add-result
-add-result c = ?
+add-result c = search turned-adds
 
--- src/numbers.rt:37:9
 returns : tie.Need-returns
-returns c = ?
+returns c = search turned-size
 
--- src/numbers.rt:39:5
 cast-result-2 : tie.Need-cast-result-2
-cast-result-2 c = ?
+cast-result-2 c = plain-casts _ (c .before .fits .z) (c .if1 .left)
 
--- src/numbers.rt:33:1
 returns-2 : tie.Need-returns-2
 returns-2 c = search needs
 
