@@ -29,7 +29,7 @@ digits-cut (suc k) (suc j) n h g =
     bool-cases (ltb n 10) (digits (suc k) n ≡ digits (suc j) n)
     (λ e. digits-small (suc k) n (ltb-true n 10 e) ∙ sym (digits-small (suc j) n (ltb-true n 10 e)))
     (λ e. let m : 10 ≤ n = ltb-false n 10 e in
-      digits-more k n m ∙ ap (λ l. l ++ ((48 + n % 10) ∷ [])) (digits-cut k j (n / 10) (omega arith) (omega arith)) ∙ sym (digits-more j n m))
+    digits-more k n m ∙ ap (λ l. l ++ ((48 + n % 10) ∷ [])) (digits-cut k j (n / 10) (omega arith) (omega arith)) ∙ sym (digits-more j n m))
 
 -- ---- a number below 10 is its digit; another one is the digits of n / 10 and the digit of n % 10
 pub decimal-small : (n : ℕ) → n < 10 → decimal n ≡ (48 + n) ∷ []

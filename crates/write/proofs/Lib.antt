@@ -1,4 +1,6 @@
--- Laws of the texts of numbers and of writing; whoever composes writers cites `Puts`.
+-- Laws of writing and of the texts of numbers; whoever composes writers cites `Puts`.
 pub mod Puts
 pub mod Decimals
 pub mod Signed
+pub mod Texts
+pub mod Examples

@@ -47,9 +47,9 @@ put-append area at [] b = sym (ap (λ w. andThen w b) (put-none area at))
 put-append area at (byte ∷ a) b =
     bool-cases (ltb at (length area)) (putAt area at (byte ∷ (a ++ b)) ≡ andThen (putAt area at (byte ∷ a)) b)
     (λ e. let h : at < length area = ltb-true at (length area) e in
-      put-step area at byte (a ++ b) h ∙ put-append (set area at byte) (at + 1) a b ∙ sym (ap (λ w. andThen w b) (put-step area at byte a h)))
+    put-step area at byte (a ++ b) h ∙ put-append (set area at byte) (at + 1) a b ∙ sym (ap (λ w. andThen w b) (put-step area at byte a h)))
     (λ e. let h : length area ≤ at = ltb-false at (length area) e in
-      put-stop area at byte (a ++ b) h ∙ sym (ap (λ w. andThen w b) (put-stop area at byte a h) ∙ put-past area at b h))
+    put-stop area at byte (a ++ b) h ∙ sym (ap (λ w. andThen w b) (put-stop area at byte a h) ∙ put-past area at b h))
 
 module _ (o : List ℕ) (at : ℕ) (a : List ℕ) {o′ : List ℕ} {p : ℕ} (first : written o′ p ≡ putAt o at a) where
   pub put-then : (b : List ℕ) {o″ : List ℕ} {r : ℕ} → written o″ r ≡ putAt o′ p b → written o″ r ≡ putAt o at (a ++ b)
@@ -64,7 +64,7 @@ put-length area at [] = ap (λ w. length (w .area)) (put-none area at)
 put-length area at (byte ∷ text) =
     bool-cases (ltb at (length area)) (length (putAt area at (byte ∷ text) .area) ≡ length area)
     (λ e. ap (λ w. length (w .area)) (put-step area at byte text (ltb-true at (length area) e))
-      ∙ put-length (set area at byte) (at + 1) text ∙ length-set area at byte)
+    ∙ put-length (set area at byte) (at + 1) text ∙ length-set area at byte)
     (λ e. ap (λ w. length (w .area)) (put-stop area at byte text (ltb-false at (length area) e)))
 
 pub put-inside : (area : List ℕ) (at : ℕ) (text : List ℕ) → at ≤ length area → putAt area at text .next ≤ length area
@@ -72,8 +72,8 @@ put-inside area at [] h = rw put-none h
 put-inside area at (byte ∷ text) h =
     bool-cases (ltb at (length area)) (putAt area at (byte ∷ text) .next ≤ length area)
     (λ e. let g : at < length area = ltb-true at (length area) e in
-      let n : length (set area at byte) ≡ length area = length-set area at byte in
-      rw (put-step area at byte text g) (omega (arith, put-inside (set area at byte) (at + 1) text (omega arith))))
+    let n : length (set area at byte) ≡ length area = length-set area at byte in
+    rw (put-step area at byte text g) (omega (arith, put-inside (set area at byte) (at + 1) text (omega arith))))
     (λ e. rw (put-stop area at byte text (ltb-false at (length area) e)) h)
 
 -- ---- a text that has room stands at its place, the rest is as it was, and the next place is past it
@@ -94,7 +94,7 @@ pub put-full : (area : List ℕ) (at k : ℕ) (text : List ℕ) → at + k ≡ l
 put-full area at k text e h =
     let n : length (take k text) ≡ k = length-take-le k text h in
     let w : putAt area at (take k text) ≡ written (take at area ++ take k text) (length area) =
-        put-room area at (take k text) (omega arith) ∙ rw (n, e, drop-length, append-nil) in
+    put-room area at (take k text) (omega arith) ∙ rw (n, e, drop-length, append-nil) in
     let l : length (take at area ++ take k text) ≡ length area = rw w at (put-length area at (take k text)) in
     ap (putAt area at) (sym (take-append-drop k text)) ∙ put-append area at (take k text) (drop k text)
     ∙ ap (λ v. andThen v (drop k text)) w ∙ put-past (take at area ++ take k text) (length area) (drop k text) (omega arith)
