@@ -25,8 +25,8 @@ decimal-all P small more n = upTo n n (omega arith)
         bool-cases (ltb n 10) (P n (decimal n))
         (λ e. rw (decimal-small n (ltb-true n 10 e)) (small n (ltb-true n 10 e)))
         (λ e. let g : 10 ≤ n = ltb-false n 10 e in
-          let q : n / 10 * 10 + n % 10 ≡ n = omega arith in
-          rw (decimal-more n g) (rw q at (more (n / 10) (n % 10) (decimal (n / 10)) (omega arith) (omega arith) (upTo k (n / 10) (omega arith)))))
+        let q : n / 10 * 10 + n % 10 ≡ n = omega arith in
+        rw (decimal-more n g) (rw q at (more (n / 10) (n % 10) (decimal (n / 10)) (omega arith) (omega arith) (upTo k (n / 10) (omega arith)))))
 
 -- ---- not empty
 pub decimal-some : (n : ℕ) → 1 ≤ length (decimal n)
@@ -46,7 +46,7 @@ decimal-long (suc (suc k)) n h g =
     bool-cases (ltb n 10) (length (decimal n) ≤ suc (suc k))
     (λ e. rw (decimal-small n (ltb-true n 10 e)) (omega arith))
     (λ e. rw (decimal-more n (ltb-false n 10 e))
-      (omega (arith, length-append (decimal (n / 10)) ((48 + n % 10) ∷ []), decimal-long (suc k) (n / 10) (omega arith) (omega arith))))
+    (omega (arith, length-append (decimal (n / 10)) ((48 + n % 10) ∷ []), decimal-long (suc k) (n / 10) (omega arith) (omega arith))))
 
 -- a count of 64 bits has at most 20 bytes, and so has an identifier: 19 digits and a sign
 pub count-long : (n : ℕ) → n < 2 ^ 64 → length (decimal n) ≤ 20

@@ -1,135 +1,71 @@
-use borrow.Author.Needs.{needs}
-use native.Mathlib.Omega.{arith}
-use Rattle.write.proofs.Decimals.{number-small, number-more}
 use Prim.Native.Nat.{ℕ, _<_}
+use native.Mathlib.Omega.{arith}
+use borrow.Author.Needs.{needs}
 use borrow.Fn.Kinds.{In}
 use borrow.Fn.PlainCycle.{Measures, is, falls, and}
-use Rattle.write.proofs.numbers.put_number.Reads as put-number
-use Rattle.write.proofs.numbers.put_number.Kinds as put-number-kinds
-use Rattle.write.proofs.numbers.+put_number.Lts-put_number as put-number-lts
-use Rattle.write.proofs.bytes.put.Reads as put-reads
-use Rattle.write.proofs.numbers.digit.Reads as digit-reads
+use Rattle.write.proofs.Decimals.{number-small, number-more}
+use Rattle.write.proofs.bytes.put.Reads as put
+use Rattle.write.proofs.numbers.digit.Reads as digit
+use Rattle.write.proofs.numbers.put_number.Reads as reads
+use Rattle.write.proofs.numbers.put_number.Kinds.{ps}
+use Rattle.write.proofs.numbers.+put_number.Lts-put_number as lts
 use Rattle.write.proofs.numbers.+put_number.{statement}
 use Rattle.write.proofs.numbers.+put_number.Tie.{close}
 
-abbrev μ-put-number : Measures 1 put-number-kinds.ps ℕ
-μ-put-number κs a = a .1 .1 .0
+-- the number falls from call to call
+abbrev μ : Measures 1 ps ℕ
+μ κs a = a .1 .1 .0
 
-abbrev put-number-at : ℕ → In 1 put-number-kinds.ps
-put-number-at t =
-    and 1 put-number-kinds.ps (is 1 put-number-kinds.ps μ-put-number t) put-number.Pre
+abbrev at : ℕ → In 1 ps
+at t = and 1 ps (is 1 ps μ t) reads.Pre
 
-abbrev put-number-below : ℕ → In 1 put-number-kinds.ps
-put-number-below t =
-    and 1 put-number-kinds.ps (falls 1 put-number-kinds.ps _<_ μ-put-number t) put-number.Pre
+abbrev below : ℕ → In 1 ps
+below t = and 1 ps (falls 1 ps _<_ μ t) reads.Pre
 
-put-number-digit-requires : (t : ℕ) → put-number-lts.Need-digit-requires (
-  digit-reads.Asked,
-  digit-reads.Learnt,
-  put-reads.Asked,
-  put-reads.Learnt,
-  put-number-below t,
-  put-number.Post,
-) (put-number-at t) put-number.Post
-put-number-digit-requires t c κs = search needs
+abbrev calls : ℕ → lts.Claims
+calls t = (digit.Asked, digit.Learnt, put.Asked, put.Learnt, below t, reads.Post)
 
-put-number-put-requires : (t : ℕ) → put-number-lts.Need-put-requires (
-  digit-reads.Asked,
-  digit-reads.Learnt,
-  put-reads.Asked,
-  put-reads.Learnt,
-  put-number-below t,
-  put-number.Post,
-) (put-number-at t) put-number.Post
-put-number-put-requires t c κs = search needs
+digit-requires : (t : ℕ) → lts.Need-digit-requires (calls t) (at t) reads.Post
+digit-requires t c κs = search needs
 
-put-number-same-length : (t : ℕ) → put-number-lts.Need-same-length (
-  digit-reads.Asked,
-  digit-reads.Learnt,
-  put-reads.Asked,
-  put-reads.Learnt,
-  put-number-below t,
-  put-number.Post,
-) (put-number-at t) put-number.Post
-put-number-same-length t c = search needs
+put-requires : (t : ℕ) → lts.Need-put-requires (calls t) (at t) reads.Post
+put-requires t c κs = search needs
 
-put-number-returns : (t : ℕ) → put-number-lts.Need-returns (
-  digit-reads.Asked,
-  digit-reads.Learnt,
-  put-reads.Asked,
-  put-reads.Learnt,
-  put-number-below t,
-  put-number.Post,
-) (put-number-at t) put-number.Post
-put-number-returns t c = search number-small
+same-length : (t : ℕ) → lts.Need-same-length (calls t) (at t) reads.Post
+same-length t c = search needs
 
-put-number-put-number-requires : (t : ℕ) → put-number-lts.Need-put-number-requires (
-  digit-reads.Asked,
-  digit-reads.Learnt,
-  put-reads.Asked,
-  put-reads.Learnt,
-  put-number-below t,
-  put-number.Post,
-) (put-number-at t) put-number.Post
-put-number-put-number-requires t c κs = (omega (arith, c .before .before .before .pre .0), tt)
+returns : (t : ℕ) → lts.Need-returns (calls t) (at t) reads.Post
+returns t c = search number-small
 
-put-number-digit-requires-2 : (t : ℕ) → put-number-lts.Need-digit-requires-2 (
-  digit-reads.Asked,
-  digit-reads.Learnt,
-  put-reads.Asked,
-  put-reads.Learnt,
-  put-number-below t,
-  put-number.Post,
-) (put-number-at t) put-number.Post
-put-number-digit-requires-2 t c κs = search needs
+put-number-requires : (t : ℕ) → lts.Need-put-number-requires (calls t) (at t) reads.Post
+put-number-requires t c κs = (omega (arith, c .before .before .before .pre .0), tt)
 
-put-number-put-requires-2 : (t : ℕ) → put-number-lts.Need-put-requires-2 (
-  digit-reads.Asked,
-  digit-reads.Learnt,
-  put-reads.Asked,
-  put-reads.Learnt,
-  put-number-below t,
-  put-number.Post,
-) (put-number-at t) put-number.Post
-put-number-put-requires-2 t c κs = search needs
+digit-requires-2 : (t : ℕ) → lts.Need-digit-requires-2 (calls t) (at t) reads.Post
+digit-requires-2 t c κs = search needs
 
-put-number-same-length-2 : (t : ℕ) → put-number-lts.Need-same-length-2 (
-  digit-reads.Asked,
-  digit-reads.Learnt,
-  put-reads.Asked,
-  put-reads.Learnt,
-  put-number-below t,
-  put-number.Post,
-) (put-number-at t) put-number.Post
-put-number-same-length-2 t c = search needs
+put-requires-2 : (t : ℕ) → lts.Need-put-requires-2 (calls t) (at t) reads.Post
+put-requires-2 t c κs = search needs
 
-put-number-returns-2 : (t : ℕ) → put-number-lts.Need-returns-2 (
-  digit-reads.Asked,
-  digit-reads.Learnt,
-  put-reads.Asked,
-  put-reads.Learnt,
-  put-number-below t,
-  put-number.Post,
-) (put-number-at t) put-number.Post
-put-number-returns-2 t c = search number-more
+same-length-2 : (t : ℕ) → lts.Need-same-length-2 (calls t) (at t) reads.Post
+same-length-2 t c = search needs
+
+returns-2 : (t : ℕ) → lts.Need-returns-2 (calls t) (at t) reads.Post
+returns-2 t c = search number-more
 
 pub +put-number-spec : {M : Type 1} → statement M
-+put-number-spec = close μ-put-number λ t. put-number-lts.spec (
-  digit-reads.Asked,
-  digit-reads.Learnt,
-  put-reads.Asked,
-  put-reads.Learnt,
-  put-number-below t,
-  put-number.Post,
-)
-    (put-number-at t)
-    put-number.Post
-    (put-number-digit-requires t)
-    (put-number-put-requires t)
-    (put-number-same-length t)
-    (put-number-returns t)
-    (put-number-put-number-requires t)
-    (put-number-digit-requires-2 t)
-    (put-number-put-requires-2 t)
-    (put-number-same-length-2 t)
-    (put-number-returns-2 t)
++put-number-spec =
+    close μ
+    (λ t.
+    lts.spec
+    (calls t)
+    (at t)
+    reads.Post
+    (digit-requires t)
+    (put-requires t)
+    (same-length t)
+    (returns t)
+    (put-number-requires t)
+    (digit-requires-2 t)
+    (put-requires-2 t)
+    (same-length-2 t)
+    (returns-2 t))
