@@ -3,4 +3,6 @@ pub mod Puts
 pub mod Decimals
 pub mod Signed
 pub mod Texts
+pub mod Word
+pub mod Back
 pub mod Examples

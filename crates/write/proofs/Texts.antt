@@ -12,21 +12,7 @@ use mir.Syntax.{w64}
 use mir.Val.{SFits}
 use Rattle.basis.proofs.Tests.{bool-cases}
 use Rattle.write.specs.Decimal.{decimal, signedText}
-use Rattle.write.proofs.Decimals.{decimal-small, decimal-more}
-
--- ---- what holds of each digit, and stays when one is written behind, holds of the text
-pub decimal-all {ℓ} : (P : ℕ → List ℕ → Type ℓ) → ((n : ℕ) → n < 10 → P n ((48 + n) ∷ []))
-    → ((n d : ℕ) (l : List ℕ) → 1 ≤ n → d < 10 → P n l → P (n * 10 + d) (l ++ ((48 + d) ∷ []))) → (n : ℕ) → P n (decimal n)
-decimal-all P small more n = upTo n n (omega arith)
-  where
-    upTo : (k n : ℕ) → n ≤ k → P n (decimal n)
-    upTo zero n h = rw (decimal-small n (omega arith)) (small n (omega arith))
-    upTo (suc k) n h =
-        bool-cases (ltb n 10) (P n (decimal n))
-        (λ e. rw (decimal-small n (ltb-true n 10 e)) (small n (ltb-true n 10 e)))
-        (λ e. let g : 10 ≤ n = ltb-false n 10 e in
-        let q : n / 10 * 10 + n % 10 ≡ n = omega arith in
-        rw (decimal-more n g) (rw q at (more (n / 10) (n % 10) (decimal (n / 10)) (omega arith) (omega arith) (upTo k (n / 10) (omega arith)))))
+use Rattle.write.proofs.Decimals.{decimal-small, decimal-more, decimal-all}
 
 -- ---- not empty
 pub decimal-some : (n : ℕ) → 1 ≤ length (decimal n)
