@@ -7,14 +7,16 @@ use native.Mathlib.Omega.{arith}
 use borrow.Author.Tests.{le-leb, leb-true, ne-eqb, eq-eqb}
 use lib.Dec.{leb, eqb}
 use lib.IntN.{ℤ, pos, negsuc}
-use lib.ListN.{length, getD, length-append}
+use lib.ListN.{length, getD, take, drop, length-append}
 use mir.Syntax.{w64}
 use mir.Val.{SFits}
 use Rattle.basis.specs.Scan.{each, mem}
 use Rattle.basis.proofs.Tests.{clash, and-first, and-second, and-both, or-first, or-second, false-of}
 use Rattle.basis.proofs.Scans.{each-mem}
 use Rattle.write.proofs.Word.{Word, value, within, isDigit, stepped, runVal, countOf, rangedOf, signedOf, identOf}
+use Rattle.write.specs.Put.{written, putAt}
 use Rattle.write.specs.Decimal.{digits, decimal, signedText}
+use Rattle.write.proofs.Puts.{wrote-text}
 use Rattle.write.proofs.Decimals.{decimal-all}
 
 -- ---- digits with one more behind them
@@ -71,6 +73,27 @@ decimal-spells = decimal-all Spells spells-small spells-more
 pub decimal-digits : (n : ℕ) → each isDigit (decimal n) ≡ true
 decimal-digits n = decimal-spells n .all
 
+abbrev pub isDigitOrSign : ℕ → Bool
+isDigitOrSign b = isDigit b || eqb b 45
+
+digits-or-sign : (l : List ℕ) → each isDigit l ≡ true → each isDigitOrSign l ≡ true
+unfolding each
+digits-or-sign [] h = refl
+digits-or-sign (b ∷ l) h =
+    and-both (or-first (isDigit b) (eqb b 45) (and-first (isDigit b) (each isDigit l) h)) (digits-or-sign l (and-second (isDigit b) (each isDigit l) h))
+
+pub signed-digits : (z : ℤ) → each isDigitOrSign (signedText z) ≡ true
+unfolding signedText each within
+signed-digits (pos n) = digits-or-sign (decimal n) (decimal-digits n)
+signed-digits (negsuc n) = digits-or-sign (decimal (suc n)) (decimal-digits (suc n))
+
+-- so another byte, as a space, an LF or a `/`, stands in neither
+pub decimal-without : (n c : ℕ) → isDigit c ≡ false → mem c (decimal n) ≡ false
+decimal-without n c h = false-of (mem c (decimal n)) (λ m. clash (each-mem isDigit (decimal n) (decimal-digits n) c m) h)
+
+pub signed-without : (z : ℤ) (c : ℕ) → isDigitOrSign c ≡ false → mem c (signedText z) ≡ false
+signed-without z c h = false-of (mem c (signedText z)) (λ m. clash (each-mem isDigitOrSign (signedText z) (signed-digits z) c m) h)
+
 -- ---- a count that is written reads back
 count-of : (l : List ℕ) (n : ℕ) → 1 ≤ n → Spells n l → countOf l ≡ value n
 unfolding each within
@@ -108,3 +131,12 @@ ident-back (negsuc n) f =
     minus-of (decimal (suc n)) (suc n) (omega arith) (decimal-spells (suc n))
     ∙ ap (signedOf true) (count-back (suc n))
     ∙ rw (le-leb (suc n) (2 ^ 63) (omega (arith, f .sfits)))
+
+-- ---- and so they do in the area, between the place where the writer began and the one that it answered
+module _ (o : List ℕ) (at : ℕ) {o′ : List ℕ} {p : ℕ} where
+  pub number-back : (n : ℕ) → written o′ p ≡ putAt o at (decimal n) → at + length (decimal n) ≤ length o → countOf (take (p - at) (drop at o′)) ≡ value n
+  number-back n w room = rw (wrote-text o at (decimal n) w room) (count-back n)
+
+  pub signed-back : (z : ℤ) → SFits w64 z → written o′ p ≡ putAt o at (signedText z) → at + length (signedText z) ≤ length o
+      → identOf (take (p - at) (drop at o′)) ≡ value z
+  signed-back z f w room = rw (wrote-text o at (signedText z) w room) (ident-back z f)

@@ -2,14 +2,14 @@
 use Prim.Native.Nat.{ℕ, suc, _+_, _-_, _≤_, _<_}
 use mathlib.Core.Path.{_≡_, refl, sym, ap, ap₂, _∙_}
 use mathlib.Core.Bool.{true, false}
-use mathlib.Core.List.{List, [], _∷_, _++_, append-nil}
+use mathlib.Core.List.{List, [], _∷_, _++_, append-nil, append-assoc}
 use native.Mathlib.Omega.{arith}
 use native.Mathlib.Nat.{add-zero}
 use native.Mathlib.Numerals.{add-one}
 use borrow.Author.Tests.{lt-ltb, le-ltb, ltb-true, ltb-false}
 use lib.Dec.{ltb}
 use lib.ListN.{length, getD, set, take, drop, length-set, length-append, take-append-drop, drop-of-length-le}
-use lib.Seq.{take-suc-set, drop-set-lt, append-snoc, drop-cons, drop-length, length-take-le, take-append-seam}
+use lib.Seq.{take-suc-set, drop-set-lt, append-snoc, drop-cons, drop-length, length-take-le, take-append-seam, take-at, drop-at}
 use Rattle.basis.proofs.Tests.{bool-cases}
 use Rattle.write.specs.Put.{Written, written, putAt}
 
@@ -87,6 +87,28 @@ put-room area at (byte ∷ text) h =
     let f : take (at + 1) (set area at byte) ≡ take at area ++ (byte ∷ []) = rw add-one (take-suc-set area at byte g) in
     let d : drop (at + suc (length text)) (set area at byte) ≡ drop (at + suc (length text)) area = drop-set-lt (at + suc (length text)) area at byte (omega arith) in
     put-step area at byte text g ∙ put-room (set area at byte) (at + 1) text (omega arith) ∙ rw (e, f, d, append-snoc)
+
+-- so it is read where it was written
+module _ (o : List ℕ) (at : ℕ) (text : List ℕ) {o′ : List ℕ} {p : ℕ} (w : written o′ p ≡ putAt o at text) (room : at + length text ≤ length o) where
+  pub wrote-next : p ≡ at + length text
+  wrote-next = ap (λ v. v .next) (w ∙ put-room o at text room)
+
+  wrote-area : o′ ≡ take at o ++ (text ++ drop (at + length text) o)
+  wrote-area = ap (λ v. v .area) (w ∙ put-room o at text room) ∙ append-assoc (take at o) text (drop (at + length text) o)
+
+  front : length (take at o) ≡ at
+  front = length-take-le at o (omega arith)
+
+  pub wrote-before : take at o′ ≡ take at o
+  wrote-before = rw wrote-area (take-at (take at o) (text ++ drop (at + length text) o) at front)
+
+  pub wrote-after : drop at o′ ≡ text ++ drop (at + length text) o
+  wrote-after = rw wrote-area (drop-at (take at o) (text ++ drop (at + length text) o) at front)
+
+  pub wrote-text : take (p - at) (drop at o′) ≡ text
+  wrote-text =
+      let e : p - at ≡ length text = omega (arith, wrote-next) in
+      rw (e, wrote-after) (take-append-seam text (drop (at + length text) o))
 
 -- a text that passes the end, where the area has k places from here on, is written as far as there is room
 pub put-full : (area : List ℕ) (at k : ℕ) (text : List ℕ) → at + k ≡ length area → k ≤ length text
