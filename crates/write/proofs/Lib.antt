@@ -2,7 +2,7 @@
 pub mod Puts
 pub mod Decimals
 pub mod Signed
-pub mod Texts
 pub mod Word
+pub mod Texts
 pub mod Back
 pub mod Examples
