@@ -1,8 +1,7 @@
 -- Worked examples of the definitions, computed. Assumes nothing.
-use Prim.Native.Nat.{ℕ}
 use mathlib.Core.Path.{_≡_, refl}
-use mathlib.Core.List.{List, [], _∷_}
-use lib.IntN.{pos, negsuc}
+use mathlib.Core.List.{[], _∷_}
+use lib.IntN.{negsuc}
 use Rattle.write.specs.Put.{written, putAt}
 use Rattle.write.specs.Decimal.{digits, decimal, signedText}
 

@@ -1,14 +1,13 @@
 -- Laws of writing: one byte, one text after another, a text with room and without, and what a loop of writers keeps. Assumes nothing.
 use Prim.Native.Nat.{ℕ, suc, _+_, _-_, _≤_, _<_}
-use mathlib.Core.Path.{_≡_, refl, sym, ap, ap₂, _∙_}
-use mathlib.Core.Bool.{true, false}
+use mathlib.Core.Path.{_≡_, refl, sym, ap, _∙_}
 use mathlib.Core.List.{List, [], _∷_, _++_, append-nil, append-assoc}
 use native.Mathlib.Omega.{arith}
 use native.Mathlib.Nat.{add-zero}
 use native.Mathlib.Numerals.{add-one}
 use borrow.Author.Tests.{lt-ltb, le-ltb, ltb-true, ltb-false}
 use lib.Dec.{ltb}
-use lib.ListN.{length, getD, set, take, drop, length-set, length-append, take-append-drop, drop-of-length-le}
+use lib.ListN.{length, getD, set, take, drop, length-set, take-append-drop, drop-of-length-le}
 use lib.Seq.{take-suc-set, drop-set-lt, append-snoc, drop-cons, drop-length, length-take-le, take-append-seam, take-at, drop-at}
 use Rattle.basis.proofs.Tests.{bool-cases}
 use Rattle.write.specs.Put.{Written, written, putAt}
@@ -109,6 +108,13 @@ module _ (o : List ℕ) (at : ℕ) (text : List ℕ) {o′ : List ℕ} {p : ℕ}
   wrote-text =
       let e : p - at ≡ length text = omega (arith, wrote-next) in
       rw (e, wrote-after) (take-append-seam text (drop (at + length text) o))
+
+-- a whole text from the front of the area on
+pub wrote-whole : (o text : List ℕ) {o′ : List ℕ} {p : ℕ} → written o′ p ≡ putAt o 0 text → length text ≤ length o → (p ≡ length text) × (take p o′ ≡ text)
+wrote-whole o text {o′} {p} w h =
+    let e : p ≡ length text = omega (arith, wrote-next o 0 text w (omega arith)) in
+    let q : p - 0 ≡ p = omega arith in
+    (e, rw q at (wrote-text o 0 text w (omega arith)))
 
 -- a text that passes the end, where the area has k places from here on, is written as far as there is room
 pub put-full : (area : List ℕ) (at k : ℕ) (text : List ℕ) → at + k ≡ length area → k ≤ length text
