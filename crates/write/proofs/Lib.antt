@@ -1,0 +1,8 @@
+-- Laws of writing and of the texts of numbers; whoever composes writers cites `Puts`.
+pub mod Puts
+pub mod Decimals
+pub mod Signed
+pub mod Word
+pub mod Texts
+pub mod Back
+pub mod Examples

@@ -1,0 +1,121 @@
+-- The texts of numbers: of what bytes they are, what number their digits make, how long they are. Assumes nothing.
+use Prim.Native.Nat.{ℕ, zero, suc, _+_, _-_, _*_, _/_, _%_, _^_, _≤_, _<_}
+use mathlib.Core.Path.{_≡_, refl, sym, ap, _∙_}
+use mathlib.Core.Bool.{Bool, true, false, _||_}
+use mathlib.Core.List.{List, [], _∷_, _++_}
+use native.Mathlib.Omega.{arith}
+use borrow.Author.Tests.{ltb-true, ltb-false, le-leb}
+use lib.Dec.{ltb, eqb}
+use lib.IntN.{ℤ, pos, negsuc}
+use lib.ListN.{length, getD, length-append}
+use mir.Syntax.{w64}
+use mir.Val.{SFits}
+use Rattle.basis.specs.Scan.{each, mem}
+use Rattle.basis.proofs.Tests.{clash, false-of, bool-cases, and-first, and-second, and-both, or-first}
+use Rattle.basis.proofs.Scans.{each-mem}
+use Rattle.write.proofs.Word.{within, isDigit, stepped, runVal}
+use Rattle.write.specs.Decimal.{decimal, signedText}
+use Rattle.write.proofs.Decimals.{decimal-small, decimal-more, decimal-all}
+
+-- ---- digits with one more behind them
+digit-yes : (d : ℕ) → d < 10 → isDigit (48 + d) ≡ true
+unfolding within
+digit-yes d h = and-both (le-leb 48 (48 + d) (omega arith)) (le-leb (48 + d) 57 (omega arith))
+
+each-snoc : {A : Type 0} (p : A → Bool) (l : List A) (x : A) → each p l ≡ true → p x ≡ true → each p (l ++ (x ∷ [])) ≡ true
+unfolding each
+each-snoc p [] x h g = and-both g refl
+each-snoc p (y ∷ l) x h g = and-both (and-first (p y) (each p l) h) (each-snoc p l x (and-second (p y) (each p l) h) g)
+
+val-digit : (n b : ℕ) (l : List ℕ) → isDigit b ≡ true → runVal n (b ∷ l) ≡ runVal (stepped n b) l
+val-digit n b l e = rw (e, runVal)
+
+val-snoc : (n : ℕ) (l : List ℕ) (b : ℕ) → each isDigit l ≡ true → isDigit b ≡ true → runVal n (l ++ (b ∷ [])) ≡ stepped (runVal n l) b
+unfolding each
+val-snoc n [] b h g = val-digit n b [] g
+val-snoc n (c ∷ l) b h g =
+    let d : isDigit c ≡ true = and-first (isDigit c) (each isDigit l) h in
+    val-digit n c (l ++ (b ∷ [])) d ∙ val-snoc (stepped n c) l b (and-second (isDigit c) (each isDigit l) h) g ∙ ap (λ m. stepped m b) (sym (val-digit n c l d))
+
+-- ---- the text of n: digits, the first of them 1 to 9 unless n is 0, that make n
+pub record Spells (n : ℕ) (l : List ℕ) : Type 0 where
+  pub some : 1 ≤ length l
+  pub all : each isDigit l ≡ true
+  pub lead : 1 ≤ n → 49 ≤ getD l 0 0
+  pub val : runVal 0 l ≡ n
+
+spells-small : (n : ℕ) → n < 10 → Spells n ((48 + n) ∷ [])
+unfolding each
+spells-small n h =
+    let e : isDigit (48 + n) ≡ true = digit-yes n h in
+    record { some = omega arith; all = and-both e refl; lead = λ g. omega arith; val = val-digit 0 (48 + n) [] e ∙ (let z : 0 * 10 + (48 + n - 48) ≡ n = omega arith in z) }
+
+lead-snoc : (l : List ℕ) (x : ℕ) → 1 ≤ length l → getD (l ++ (x ∷ [])) 0 0 ≡ getD l 0 0
+lead-snoc [] x h = absurd (omega arith)
+lead-snoc (b ∷ l) x h = refl
+
+spells-more : (n d : ℕ) (l : List ℕ) → 1 ≤ n → d < 10 → Spells n l → Spells (n * 10 + d) (l ++ ((48 + d) ∷ []))
+spells-more n d l h k s =
+    let e : isDigit (48 + d) ≡ true = digit-yes d k in
+    record {
+      some = omega (arith, length-append l ((48 + d) ∷ []));
+      all = each-snoc isDigit l (48 + d) (s .all) e;
+      lead = λ g. rw (lead-snoc l (48 + d) (s .some)) (s .lead h);
+      val = val-snoc 0 l (48 + d) (s .all) e ∙ ap (λ m. stepped m (48 + d)) (s .val) ∙ (let z : n * 10 + (48 + d - 48) ≡ n * 10 + d = omega arith in z);
+    }
+
+pub decimal-spells : (n : ℕ) → Spells n (decimal n)
+decimal-spells = decimal-all Spells spells-small spells-more
+
+-- ---- a text is not empty
+pub decimal-some : (n : ℕ) → 1 ≤ length (decimal n)
+decimal-some n = decimal-spells n .some
+
+pub signed-some : (z : ℤ) → 1 ≤ length (signedText z)
+unfolding signedText
+signed-some (pos n) = decimal-some n
+signed-some (negsuc n) = omega arith
+
+-- ---- every byte of a count is a digit, every byte of an identifier a digit or the sign
+pub decimal-digits : (n : ℕ) → each isDigit (decimal n) ≡ true
+decimal-digits n = decimal-spells n .all
+
+abbrev pub isDigitOrSign : ℕ → Bool
+isDigitOrSign b = isDigit b || eqb b 45
+
+digits-or-sign : (l : List ℕ) → each isDigit l ≡ true → each isDigitOrSign l ≡ true
+unfolding each
+digits-or-sign [] h = refl
+digits-or-sign (b ∷ l) h =
+    and-both (or-first (isDigit b) (eqb b 45) (and-first (isDigit b) (each isDigit l) h)) (digits-or-sign l (and-second (isDigit b) (each isDigit l) h))
+
+pub signed-digits : (z : ℤ) → each isDigitOrSign (signedText z) ≡ true
+unfolding signedText each within
+signed-digits (pos n) = digits-or-sign (decimal n) (decimal-digits n)
+signed-digits (negsuc n) = digits-or-sign (decimal (suc n)) (decimal-digits (suc n))
+
+-- so another byte, as a space, an LF or a `/`, stands in neither
+pub decimal-without : (n c : ℕ) → isDigit c ≡ false → mem c (decimal n) ≡ false
+decimal-without n c h = false-of (mem c (decimal n)) (λ m. clash (each-mem isDigit (decimal n) (decimal-digits n) c m) h)
+
+pub signed-without : (z : ℤ) (c : ℕ) → isDigitOrSign c ≡ false → mem c (signedText z) ≡ false
+signed-without z c h = false-of (mem c (signedText z)) (λ m. clash (each-mem isDigitOrSign (signedText z) (signed-digits z) c m) h)
+
+-- ---- a number below 10 ^ k has at most k digits
+pub decimal-long : (k n : ℕ) → 1 ≤ k → n < 10 ^ k → length (decimal n) ≤ k
+decimal-long zero n h g = absurd (omega arith)
+decimal-long (suc zero) n h g = rw (decimal-small n (omega arith)) (omega arith)
+decimal-long (suc (suc k)) n h g =
+    bool-cases (ltb n 10) (length (decimal n) ≤ suc (suc k))
+    (λ e. rw (decimal-small n (ltb-true n 10 e)) (omega arith))
+    (λ e. rw (decimal-more n (ltb-false n 10 e))
+    (omega (arith, length-append (decimal (n / 10)) ((48 + n % 10) ∷ []), decimal-long (suc k) (n / 10) (omega arith) (omega arith))))
+
+-- a count of 64 bits has at most 20 bytes, and so has an identifier: 19 digits and a sign
+pub count-long : (n : ℕ) → n < 2 ^ 64 → length (decimal n) ≤ 20
+count-long n h = decimal-long 20 n (omega arith) (omega arith)
+
+pub signed-long : (z : ℤ) → SFits w64 z → length (signedText z) ≤ 20
+unfolding signedText
+signed-long (pos n) f = omega (arith, decimal-long 19 n (omega arith) (omega (arith, f .sfits)))
+signed-long (negsuc n) f = omega (arith, decimal-long 19 (suc n) (omega arith) (omega (arith, f .sfits)))

@@ -1,0 +1,20 @@
+-- The bytes of a number: 48 to 57 are the digits, 45 is `-`.
+use Prim.Native.Nat.{ℕ, zero, suc, _+_, _/_, _%_}
+use mathlib.Core.Bool.{true, false}
+use mathlib.Core.List.{List, [], _∷_, _++_}
+use lib.Dec.{ltb}
+use lib.IntN.{ℤ, pos, negsuc}
+
+-- a number below 10 is one digit, another one the digits of n / 10 and then that of n % 10; cut off after so many divisions
+unfoldable pub digits : ℕ → ℕ → List ℕ
+digits zero n = (48 + n) ∷ []
+digits (suc more) n = elim (ltb n 10) [ true ↦ (48 + n) ∷ [] | false ↦ digits more (n / 10) ++ ((48 + n % 10) ∷ []) ]
+
+-- "A count is `0`, or a digit 1 to 9 and more digits": n divisions are enough, since each makes a number from 10 on smaller
+unfoldable pub decimal : ℕ → List ℕ
+decimal n = digits n n
+
+-- "An identifier is `0`, or an optional `-`, a digit 1 to 9 and more digits"
+unfoldable pub signedText : ℤ → List ℕ
+signedText (pos n) = decimal n
+signedText (negsuc n) = 45 ∷ decimal (suc n)
