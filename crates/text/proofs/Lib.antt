@@ -1,0 +1,3 @@
+-- Laws of the text layer.
+pub mod Bytes
+pub mod Runs

@@ -1,0 +1,28 @@
+use borrow.Author.Needs.{needs}
+use Rattle.text.proofs.decimal.whole_is_good.Statement.{statement}
+use Rattle.text.proofs.decimal.whole_is_good.Tie as tie
+use Rattle.text.proofs.decimal.whole_is_good.Reads as reads
+use Rattle.text.proofs.decimal.whole_is_good.Lts as lts
+
+-- src/decimal.rt:74:9
+returns : tie.Need-returns
+returns c = ?
+
+-- src/decimal.rt:77:9
+returns-2 : tie.Need-returns-2
+returns-2 c = ?
+
+-- src/decimal.rt:79:13
+shared-slice-read-b : tie.Need-shared-slice-read-b
+shared-slice-read-b c = search needs
+
+-- src/decimal.rt:81:9
+returns-3 : tie.Need-returns-3
+returns-3 c = ?
+
+-- src/decimal.rt:69:1
+returns-4 : tie.Need-returns-4
+returns-4 c = ?
+
+pub whole-is-good-spec : {M : Type 1} → statement M
+whole-is-good-spec = tie.close (tie.spec returns returns-2 shared-slice-read-b returns-3 returns-4)
