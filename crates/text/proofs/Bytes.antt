@@ -120,15 +120,15 @@ upTo-cut c [] r n = upTo-stop c c r (eq-eqb c c refl)
 upTo-cut c (b ∷ bs) r n =
     upTo-more c b (bs ++ c ∷ r) (eqb-swap c b ∙ mem-head c b bs n) ∙ ap (λ (t : List ℕ). b ∷ t) (upTo-cut c bs r (mem-tail c b bs n))
 
--- ---- the scan for the first c from a place on
-module _ (c : ℕ) (s : List ℕ) (i : ℕ) where
-  pub end-out : length s ≤ i → i ≡ i + length (upTo c (drop i s))
+-- ---- the scan for the first c from a place on, which stands at t
+module _ (c : ℕ) (s : List ℕ) (i t : ℕ) (inv : i + length (upTo c (drop i s)) ≡ t) where
+  pub end-out : length s ≤ i → i ≡ t
   end-out h = omega (arith, ap (λ (l : List ℕ). length (upTo c l)) (drop-of-length-le s h))
 
-  pub end-here : i < length s → getD s i 0 ≡ c → i ≡ i + length (upTo c (drop i s))
+  pub end-here : i < length s → getD s i 0 ≡ c → i ≡ t
   end-here h e = omega (arith, ap (λ (l : List ℕ). length (upTo c l)) (drop-cons s i 0 h) ∙ ap length (upTo-stop c (getD s i 0) (drop (suc i) s) (eq-eqb c (getD s i 0) (sym e))))
 
-  pub end-on : i < length s → (getD s i 0 ≡ c → ⊥) → (i + 1) + length (upTo c (drop (i + 1) s)) ≡ i + length (upTo c (drop i s))
+  pub end-on : i < length s → (getD s i 0 ≡ c → ⊥) → (i + 1) + length (upTo c (drop (i + 1) s)) ≡ t
   end-on h e =
       let d : drop i s ≡ getD s i 0 ∷ drop (i + 1) s = rw add-one (drop-cons s i 0 h) in
       omega (arith, ap (λ (l : List ℕ). length (upTo c l)) d ∙ ap length (upTo-more c (getD s i 0) (drop (i + 1) s) (ne-eqb c (getD s i 0) (λ q. e (sym q)))))

@@ -1,3 +1,6 @@
 -- Laws of the text layer.
 pub mod Bytes
 pub mod Runs
+pub mod Scans
+pub mod Decimals
+pub mod Words

@@ -66,19 +66,19 @@ twoOf first second bs = cond (mem space bs) (both (first (upTo space bs)) (secon
 
 -- "A vertex line is one identifier."
 abbrev pub vertexLine : List ℕ → ℕ → LineSaid ℤ
-vertexLine = lineBy identOf
+vertexLine s at = lineBy identOf s at
 
 -- "An edge line is two with one space between."
 abbrev pub edgeLine : List ℕ → ℕ → LineSaid (ℤ × ℤ)
-edgeLine = lineBy (twoOf identOf identOf)
+edgeLine s at = lineBy (twoOf identOf identOf) s at
 
 -- "identifier, one space, value. For BFS, WCC and CDLP the value is in identifier form."
 abbrev pub claimLine : List ℕ → ℕ → LineSaid (ℤ × ℤ)
-claimLine = edgeLine
+claimLine s at = edgeLine s at
 
 -- "For LCC it is a plain or scientific decimal"
 abbrev pub coefficientLine : List ℕ → ℕ → LineSaid (ℤ × Decimal)
-coefficientLine = lineBy (twoOf identOf decimalOf)
+coefficientLine s at = lineBy (twoOf identOf decimalOf) s at
 
 -- "a definition that gives this paper's number and values for each of its cases"
 abbrev pub vertexSays : VertexLine → LineSaid ℤ

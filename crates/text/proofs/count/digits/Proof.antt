@@ -1,3 +1,7 @@
+use Prim.Native.Nat.{_-_}
+use lib.ListN.{length}
+use Rattle.text.proofs.Runs.{Running, running-start, running-more, running-low, running-high, running-out}
+use borrow.Author.Needs.{needs}
 use Rattle.text.proofs.count.digits.Statement.{statement}
 use Rattle.text.proofs.count.digits.Tie as tie
 use Rattle.text.proofs.count.digits.Reads as reads
@@ -6,50 +10,50 @@ use Rattle.text.proofs.count.cut.Reads as cut-reads
 use Rattle.text.proofs.count.step.Reads as step-reads
 
 abbrev Inv-loop : tie.InvT-loop
-Inv-loop s from start n₀ i₀ n i = ?
+Inv-loop s from start n₀ i₀ n i = Running s from start n i
 
 abbrev μ-loop : tie.MeasureT-loop
-μ-loop s from start n₀ i₀ n i = ?
+μ-loop s from start n₀ i₀ n i = length s - i
 
 -- src/count.rt:71:9
 cut-requires : tie.Need-cut-requires Inv-loop μ-loop
-cut-requires c κs = ?
+cut-requires c κs = search needs
 
 -- src/count.rt:73:5
 loop-holds : tie.Need-loop-holds Inv-loop μ-loop
-loop-holds c = ?
+loop-holds c = search running-start
 
 -- src/count.rt:74:17
 shared-slice-read-b : tie.Need-shared-slice-read-b Inv-loop μ-loop
-shared-slice-read-b c = ?
+shared-slice-read-b c = search needs
 
 -- src/count.rt:76:13
 returns : tie.Need-returns Inv-loop μ-loop
-returns c = ?
+returns c = search running-low
 
 -- src/count.rt:79:13
 returns-2 : tie.Need-returns-2 Inv-loop μ-loop
-returns-2 c = ?
+returns-2 c = search running-high
 
 -- src/count.rt:81:9
 step-requires : tie.Need-step-requires Inv-loop μ-loop
-step-requires c κs = ?
+step-requires c κs = search needs
 
 -- src/count.rt:82:9
 add-i : tie.Need-add-i Inv-loop μ-loop
-add-i c = ?
+add-i c = search needs
 
 -- src/count.rt:73:5
 loop-less : tie.Need-loop-less Inv-loop μ-loop
-loop-less c = ?
+loop-less c = search needs
 
 -- src/count.rt:73:5
 loop-again : tie.Need-loop-again Inv-loop μ-loop
-loop-again c = ?
+loop-again c = search running-more
 
 -- src/count.rt:68:1
 returns-3 : tie.Need-returns-3 Inv-loop μ-loop
-returns-3 c = ?
+returns-3 c = search running-out
 
 pub digits-spec : {M : Type 1} → statement M
 digits-spec =

@@ -1,3 +1,4 @@
+use Rattle.text.proofs.Bytes.{has-yes, has-past}
 use borrow.Author.Needs.{needs}
 use Rattle.text.proofs.count.has.Statement.{statement}
 use Rattle.text.proofs.count.has.Tie as tie
@@ -10,11 +11,11 @@ shared-slice-read-result c = search needs
 
 -- src/count.rt:30:1
 returns : tie.Need-returns
-returns c = ?
+returns c = search has-yes
 
 -- src/count.rt:30:1
 returns-2 : tie.Need-returns-2
-returns-2 c = ?
+returns-2 c = search has-past
 
 pub has-spec : {M : Type 1} → statement M
 has-spec = tie.close (tie.spec shared-slice-read-result returns returns-2)

@@ -1,41 +1,47 @@
+use Prim.Native.Nat.{_+_, _-_, _^_, _<_}
+use mathlib.Core.Path.{_≡_, _∙_}
+use lib.ListN.{length, drop}
+use Rattle.text.specs.Line.{lf, upTo}
+use Rattle.text.proofs.Bytes.{end-out, end-here, end-on}
+use borrow.Author.Needs.{needs}
 use Rattle.text.proofs.count.line_end.Statement.{statement}
 use Rattle.text.proofs.count.line_end.Tie as tie
 use Rattle.text.proofs.count.line_end.Reads as reads
 use Rattle.text.proofs.count.line_end.Lts as lts
 
 abbrev Inv-loop : tie.InvT-loop
-Inv-loop s from i₀ i = ?
+Inv-loop s from i₀ i = i + length (upTo lf (drop i s)) ≡ from + length (upTo lf (drop from s))
 
 abbrev μ-loop : tie.MeasureT-loop
-μ-loop s from i₀ i = ?
+μ-loop s from i₀ i = length s - i
 
 -- src/count.rt:41:5
 loop-holds : tie.Need-loop-holds Inv-loop μ-loop
-loop-holds c = ?
+loop-holds c = search needs
 
 -- src/count.rt:42:12
 shared-slice-read-if1 : tie.Need-shared-slice-read-if1 Inv-loop μ-loop
-shared-slice-read-if1 c = ?
+shared-slice-read-if1 c = search needs
 
 -- src/count.rt:43:13
 returns : tie.Need-returns Inv-loop μ-loop
-returns c = ?
+returns c = search end-here
 
 -- src/count.rt:45:9
 add-i : tie.Need-add-i Inv-loop μ-loop
-add-i c = ?
+add-i c = search needs
 
 -- src/count.rt:41:5
 loop-less : tie.Need-loop-less Inv-loop μ-loop
-loop-less c = ?
+loop-less c = search needs
 
 -- src/count.rt:41:5
 loop-again : tie.Need-loop-again Inv-loop μ-loop
-loop-again c = ?
+loop-again c = search end-on
 
 -- src/count.rt:37:1
 returns-2 : tie.Need-returns-2 Inv-loop μ-loop
-returns-2 c = ?
+returns-2 c = search end-out
 
 pub line-end-spec : {M : Type 1} → statement M
 line-end-spec =

@@ -1,3 +1,4 @@
+use Rattle.text.proofs.Decimals.{worth-below, worth-above, worth-yes}
 use Rattle.text.proofs.decimal.digit_of.Statement.{statement}
 use Rattle.text.proofs.decimal.digit_of.Tie as tie
 use Rattle.text.proofs.decimal.digit_of.Reads as reads
@@ -5,15 +6,15 @@ use Rattle.text.proofs.decimal.digit_of.Lts as lts
 
 -- src/decimal.rt:48:9
 returns : tie.Need-returns
-returns c = ?
+returns c = search worth-below
 
 -- src/decimal.rt:51:9
 returns-2 : tie.Need-returns-2
-returns-2 c = ?
+returns-2 c = search worth-above
 
 -- src/decimal.rt:44:1
 returns-3 : tie.Need-returns-3
-returns-3 c = ?
+returns-3 c = search worth-yes
 
 pub digit-of-spec : {M : Type 1} → statement M
 digit-of-spec = tie.close (tie.spec returns returns-2 returns-3)

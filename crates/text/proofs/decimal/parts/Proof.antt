@@ -1,3 +1,4 @@
+use Rattle.text.proofs.Decimals.{parts-whole, parts-point, parts-limit, parts-good}
 use borrow.Author.Needs.{needs}
 use Rattle.text.proofs.decimal.parts.Statement.{statement}
 use Rattle.text.proofs.decimal.parts.Tie as tie
@@ -17,7 +18,7 @@ whole-is-good-requires c κs = search needs
 
 -- src/decimal.rt:159:9
 returns : tie.Need-returns
-returns c = ?
+returns c = search parts-whole
 
 -- src/decimal.rt:161:8
 add-if2 : tie.Need-add-if2
@@ -25,7 +26,7 @@ add-if2 c = search needs
 
 -- src/decimal.rt:162:9
 returns-2 : tie.Need-returns-2
-returns-2 c = ?
+returns-2 c = search parts-point
 
 -- src/decimal.rt:164:17
 add-if3 : tie.Need-add-if3
@@ -33,7 +34,7 @@ add-if3 c = search needs
 
 -- src/decimal.rt:165:9
 returns-3 : tie.Need-returns-3
-returns-3 c = ?
+returns-3 c = search parts-limit
 
 -- src/decimal.rt:167:23
 cast-with-power : tie.Need-cast-with-power
@@ -49,7 +50,7 @@ with-power-requires c κs = search needs
 
 -- src/decimal.rt:153:1
 returns-4 : tie.Need-returns-4
-returns-4 c = ?
+returns-4 c = search parts-good
 
 pub parts-spec : {M : Type 1} → statement M
 parts-spec =

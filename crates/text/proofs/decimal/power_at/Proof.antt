@@ -1,3 +1,4 @@
+use Rattle.text.proofs.Decimals.{power-none, power-length, power-letter, power-first, power-second, power-signed}
 use borrow.Author.Needs.{needs}
 use Rattle.text.proofs.decimal.power_at.Statement.{statement}
 use Rattle.text.proofs.decimal.power_at.Tie as tie
@@ -13,11 +14,11 @@ sub-left c = search needs
 
 -- src/decimal.rt:114:9
 returns : tie.Need-returns
-returns c = ?
+returns c = search power-none
 
 -- src/decimal.rt:117:9
 returns-2 : tie.Need-returns-2
-returns-2 c = ?
+returns-2 c = search power-length
 
 -- src/decimal.rt:119:8
 shared-slice-read-if3 : tie.Need-shared-slice-read-if3
@@ -25,7 +26,7 @@ shared-slice-read-if3 c = search needs
 
 -- src/decimal.rt:120:9
 returns-3 : tie.Need-returns-3
-returns-3 c = ?
+returns-3 c = search power-letter
 
 -- src/decimal.rt:122:15
 add-x : tie.Need-add-x
@@ -41,7 +42,7 @@ is-digit-requires c κs = search needs
 
 -- src/decimal.rt:124:9
 returns-4 : tie.Need-returns-4
-returns-4 c = ?
+returns-4 c = search power-first
 
 -- src/decimal.rt:126:15
 add-y : tie.Need-add-y
@@ -57,7 +58,7 @@ is-digit-requires-2 c κs = search needs
 
 -- src/decimal.rt:128:9
 returns-5 : tie.Need-returns-5
-returns-5 c = ?
+returns-5 c = search power-second
 
 -- src/decimal.rt:130:20
 add-signed-power : tie.Need-add-signed-power
@@ -77,7 +78,7 @@ signed-power-requires c κs = search needs
 
 -- src/decimal.rt:108:1
 returns-6 : tie.Need-returns-6
-returns-6 c = ?
+returns-6 c = search power-signed
 
 pub power-at-spec : {M : Type 1} → statement M
 power-at-spec =

@@ -1,3 +1,5 @@
+use native.Mathlib.Omega.{arith}
+use Rattle.text.proofs.Decimals.{digit-small}
 use borrow.Author.Needs.{needs}
 use Rattle.text.proofs.decimal.two_digits.Statement.{statement}
 use Rattle.text.proofs.decimal.two_digits.Tie as tie
@@ -15,11 +17,11 @@ digit-of-requires-2 c κs = search needs
 
 -- src/decimal.rt:91:5
 mul-result : tie.Need-mul-result
-mul-result c = ?
+mul-result c = omega (arith, c .before .digit-of .ensures, digit-small (c .before .before .args .x))
 
 -- src/decimal.rt:91:5
 add-result : tie.Need-add-result
-add-result c = ?
+add-result c = omega (arith, c .before .digit-of .ensures, c .digit-of2 .ensures, digit-small (c .before .before .args .x), digit-small (c .before .before .args .y))
 
 -- src/decimal.rt:86:1
 returns : tie.Need-returns

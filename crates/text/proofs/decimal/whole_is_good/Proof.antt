@@ -1,3 +1,4 @@
+use Rattle.text.proofs.Decimals.{whole-one, whole-none, whole-zero, whole-more}
 use borrow.Author.Needs.{needs}
 use Rattle.text.proofs.decimal.whole_is_good.Statement.{statement}
 use Rattle.text.proofs.decimal.whole_is_good.Tie as tie
@@ -6,11 +7,11 @@ use Rattle.text.proofs.decimal.whole_is_good.Lts as lts
 
 -- src/decimal.rt:74:9
 returns : tie.Need-returns
-returns c = ?
+returns c = search whole-one
 
 -- src/decimal.rt:77:9
 returns-2 : tie.Need-returns-2
-returns-2 c = ?
+returns-2 c = search whole-none
 
 -- src/decimal.rt:79:13
 shared-slice-read-b : tie.Need-shared-slice-read-b
@@ -18,11 +19,11 @@ shared-slice-read-b c = search needs
 
 -- src/decimal.rt:81:9
 returns-3 : tie.Need-returns-3
-returns-3 c = ?
+returns-3 c = search whole-zero
 
 -- src/decimal.rt:69:1
 returns-4 : tie.Need-returns-4
-returns-4 c = ?
+returns-4 c = search whole-more
 
 pub whole-is-good-spec : {M : Type 1} → statement M
 whole-is-good-spec = tie.close (tie.spec returns returns-2 shared-slice-read-b returns-3 returns-4)

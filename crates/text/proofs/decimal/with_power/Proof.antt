@@ -1,3 +1,4 @@
+use Rattle.text.proofs.Decimals.{scaled-up, scaled-down}
 use borrow.Author.Needs.{needs}
 use Rattle.text.proofs.decimal.with_power.Statement.{statement}
 use Rattle.text.proofs.decimal.with_power.Tie as tie
@@ -26,11 +27,11 @@ enum-told c = search needs
 
 -- src/decimal.rt:134:1
 returns : tie.Need-returns
-returns c = ?
+returns c = search scaled-up
 
 -- src/decimal.rt:134:1
 returns-2 : tie.Need-returns-2
-returns-2 c = ?
+returns-2 c = search scaled-down
 
 -- src/decimal.rt:134:1
 returns-3 : tie.Need-returns-3

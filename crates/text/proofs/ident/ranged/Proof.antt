@@ -1,3 +1,4 @@
+use Rattle.text.proofs.Scans.{ranged-least, ranged-below, ranged-most, ranged-above}
 use borrow.Author.Needs.{needs}
 use Rattle.text.proofs.ident.ranged.Statement.{statement}
 use Rattle.text.proofs.ident.ranged.Tie as tie
@@ -11,11 +12,11 @@ minus-requires c κs = search needs
 
 -- src/ident.rt:33:13
 returns : tie.Need-returns
-returns c = ?
+returns c = search (ranged-least, needs)
 
 -- src/ident.rt:35:9
 returns-2 : tie.Need-returns-2
-returns-2 c = ?
+returns-2 c = search ranged-below
 
 -- src/ident.rt:38:28
 cast-t7 : tie.Need-cast-t7
@@ -23,11 +24,11 @@ cast-t7 c = search needs
 
 -- src/ident.rt:38:9
 returns-3 : tie.Need-returns-3
-returns-3 c = ?
+returns-3 c = search ranged-most
 
 -- src/ident.rt:28:1
 returns-4 : tie.Need-returns-4
-returns-4 c = ?
+returns-4 c = search ranged-above
 
 pub ranged-spec : {M : Type 1} → statement M
 ranged-spec = tie.close (tie.spec minus-requires returns returns-2 cast-t7 returns-3 returns-4)
