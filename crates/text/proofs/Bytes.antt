@@ -8,8 +8,8 @@ use native.Mathlib.Numerals.{add-one}
 use native.Mathlib.Nat.{add-zero}
 use borrow.Author.Tests.{le-leb, lt-leb, leb-true, lt-ltb, le-ltb, ltb-true, ltb-false, eq-eqb, ne-eqb, eqb-true, eqb-false}
 use lib.Dec.{leb, ltb, eqb}
-use lib.ListN.{length, getD, drop, drop-of-length-le, List·getD-eq-default}
-use lib.Seq.{drop-cons}
+use lib.ListN.{length, getD, take, drop, drop-of-length-le, List·getD-eq-default}
+use lib.Seq.{drop-cons, drop-drop, drop-append-add}
 use Rattle.basis.specs.Scan.{mem}
 use Rattle.basis.proofs.Tests.{clash, bool-cases, and-first, and-second, and-both, and-off, or-first, or-second}
 use Rattle.text.specs.Word.{within, isDigit}
@@ -119,6 +119,30 @@ pub upTo-cut : (c : ℕ) (bs r : List ℕ) → mem c bs ≡ false → upTo c (bs
 upTo-cut c [] r n = upTo-stop c c r (eq-eqb c c refl)
 upTo-cut c (b ∷ bs) r n =
     upTo-more c b (bs ++ c ∷ r) (eqb-swap c b ∙ mem-head c b bs n) ∙ ap (λ (t : List ℕ). b ∷ t) (upTo-cut c bs r (mem-tail c b bs n))
+
+pub upTo-take : (c : ℕ) (l : List ℕ) → take (length (upTo c l)) l ≡ upTo c l
+upTo-take c [] = refl
+upTo-take c (b ∷ l) = by (eqb c b) refl (upTo-take c l)
+  where
+    by : (t : Bool) → eqb c b ≡ t → take (length (upTo c l)) l ≡ upTo c l → take (length (upTo c (b ∷ l))) (b ∷ l) ≡ upTo c (b ∷ l)
+    by true e f = rw (upTo-stop c b l e)
+    by false e f = rw (upTo-more c b l e) (ap (λ (t : List ℕ). b ∷ t) f)
+
+-- a byte in neither part, and in one part
+pub mem-join : (c : ℕ) (a b : List ℕ) → mem c a ≡ false → mem c b ≡ false → mem c (a ++ b) ≡ false
+unfolding mem
+mem-join c [] b h k = k
+mem-join c (x ∷ a) b h k = rw (eqb-swap c x ∙ mem-head c x a h) (mem-join c a b (mem-tail c x a h) k)
+
+pub mem-right : (c : ℕ) (a b : List ℕ) → mem c (a ++ b) ≡ false → mem c b ≡ false
+mem-right c [] b h = h
+mem-right c (x ∷ a) b h = mem-right c a b (mem-tail c x (a ++ b) h)
+
+-- past the first part and the byte after it
+pub drop-past : (s a b : List ℕ) (at d : ℕ) → drop at s ≡ a ++ d ∷ b → drop (at + length a + 1) s ≡ b
+drop-past s a b at d e =
+    let q : at + length a + 1 ≡ at + (length a + 1) = omega arith in
+    ap (λ (k : ℕ). drop k s) q ∙ sym (drop-drop (length a + 1) at s) ∙ ap (drop (length a + 1)) e ∙ drop-append-add a (d ∷ b) 1
 
 -- ---- the scan for the first c from a place on, which stands at t
 module _ (c : ℕ) (s : List ℕ) (i t : ℕ) (inv : i + length (upTo c (drop i s)) ≡ t) where

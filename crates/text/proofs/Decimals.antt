@@ -180,9 +180,9 @@ unfolding partsOf fractionOf
 parts-cut s p =
     bool-cases (leb (runLen s + (p + runLen (drop p s) - p)) 15) _
     (λ e. let f : p + runLen (drop p s) - p ≡ runLen (drop p s) = add-sub-cancel-left p (runLen (drop p s)) in
-      let h : runVal (runVal 0 s) (drop p s) < 10 ^ 15 = few-digits s p (omega (arith, leb-true (runLen s + (p + runLen (drop p s) - p)) 15 e)) in
-      let c : capped (runVal (runVal 0 s) (drop p s)) ≡ runVal (runVal 0 s) (drop p s) = omega arith in
-      rw c)
+    let h : runVal (runVal 0 s) (drop p s) < 10 ^ 15 = few-digits s p (omega (arith, leb-true (runLen s + (p + runLen (drop p s) - p)) 15 e)) in
+    let c : capped (runVal (runVal 0 s) (drop p s)) ≡ runVal (runVal 0 s) (drop p s) = omega arith in
+    rw c)
     (λ e. rw (e, and-off (leb p (runLen s + (p + runLen (drop p s) - p))) false refl, and-off (wholeIsGood s (runLen s)) false refl))
 
 -- ---- a whole decimal

@@ -4,3 +4,4 @@ pub mod Runs
 pub mod Scans
 pub mod Decimals
 pub mod Words
+pub mod Lines

@@ -68,11 +68,11 @@ module _ (s : List ℕ) (from start : ℕ) where
       record {
         small = omega arith;
         val =
-          ap (λ (k : ℕ). capped (runVal k (drop (i + 1) s))) q
-          ∙ cap-run (stepped n b) (drop (i + 1) s)
-          ∙ ap capped (sym (val-digit n b (drop (i + 1) s) e) ∙ ap (runVal n) (sym d))
-          ∙ r .val;
-        len = omega (arith, ap runLen d ∙ len-digit b (drop (i + 1) s) e)
+            ap (λ (k : ℕ). capped (runVal k (drop (i + 1) s))) q
+            ∙ cap-run (stepped n b) (drop (i + 1) s)
+            ∙ ap capped (sym (val-digit n b (drop (i + 1) s) e) ∙ ap (runVal n) (sym d))
+            ∙ r .val;
+        len = omega (arith, ap runLen d ∙ len-digit b (drop (i + 1) s) e);
       }
 
   -- the run ends at i

@@ -26,7 +26,7 @@ pub record Ends {A : Type 0} (q : ℕ) (w : Word A) (x : Scanned A) : Type 0 whe
 -- the scan x at a place is the reading of a word that c ends: of its bytes, or malformed where there is no c
 pub record Reads {A : Type 0} (c : ℕ) (word : List ℕ → Word A) (s : List ℕ) (at : ℕ) (x : Scanned A) : Type 0 where
   pub ended : (bs r : List ℕ) → drop at s ≡ bs ++ c ∷ r → mem c bs ≡ false → Ends (at + length bs + 1) (word bs) x
-  pub open : mem c (drop at s) ≡ false → x .said ≡ malformed
+  pub unended : mem c (drop at s) ≡ false → x .said ≡ malformed
 
 -- ---- a run of digits that c ends
 run-len : (c : ℕ) (bs r : List ℕ) → isDigit c ≡ false → each isDigit bs ≡ true → runLen (bs ++ c ∷ r) ≡ length bs
@@ -84,7 +84,7 @@ module _ (s bs r : List ℕ) (at c : ℕ) (e : drop at s ≡ bs ++ c ∷ r) wher
   word-byte : (j : ℕ) → getD s (at + j) 0 ≡ getD (bs ++ c ∷ r) j 0
   word-byte j = sym (getD-drop at s j 0) ∙ ap (λ (l : List ℕ). getD l j 0) e
 
-  word-has : (j x : ℕ) → j ≤ length bs → hasAt s (at + j) x ≡ eqb (getD (bs ++ c ∷ r) j 0) x
+  pub word-has : (j x : ℕ) → j ≤ length bs → hasAt s (at + j) x ≡ eqb (getD (bs ++ c ∷ r) j 0) x
   word-has j x h = sym (has-yes s (at + j) x (word-in j h)) ∙ ap (λ (k : ℕ). eqb k x) (word-byte j)
 
   first-byte : getD s at 0 ≡ getD (bs ++ c ∷ r) 0 0
@@ -121,23 +121,23 @@ module _ (neg : Bool) (s r : List ℕ) (at c : ℕ) (d : isDigit c ≡ false) wh
       let v : runVal 0 (drop at s) ≡ runVal 0 (b ∷ bs) = ap (runVal 0) e ∙ run-val 0 c (b ∷ bs) r d al in
       rw (q, v)
       (closed-yes s c (at + length (b ∷ bs)) (signedOf neg (value (runVal 0 (b ∷ bs))))
-        (word-has s (b ∷ bs) r at c e (length (b ∷ bs)) c (omega arith) ∙ ap (λ (k : ℕ). eqb k c) (getD-append-seam (b ∷ bs) c r 0) ∙ eq-eqb c c refl))
+      (word-has s (b ∷ bs) r at c e (length (b ∷ bs)) c (omega arith) ∙ ap (λ (k : ℕ). eqb k c) (getD-append-seam (b ∷ bs) c r 0) ∙ eq-eqb c c refl))
   run-word b bs false a w e n =
       let al : each isDigit (b ∷ bs) ≡ false = rw (first-digit b w) a in
       let x = breaks c (b ∷ bs) r al n in
       rw e
       (closed-no s c (at + runLen ((b ∷ bs) ++ c ∷ r)) (at + length (b ∷ bs) + 1) (signedOf neg (value (runVal 0 ((b ∷ bs) ++ c ∷ r))))
-        (word-has s (b ∷ bs) r at c e (runLen ((b ∷ bs) ++ c ∷ r)) c (omega (arith, x .before)) ∙ x .other))
+      (word-has s (b ∷ bs) r at c e (runLen ((b ∷ bs) ++ c ∷ r)) c (omega (arith, x .before)) ∙ x .other))
 
   by-within : (b : ℕ) (bs : List ℕ) (t : Bool) → within 49 57 b ≡ t → drop at s ≡ (b ∷ bs) ++ c ∷ r → mem c (b ∷ bs) ≡ false
       → Ends (at + length (b ∷ bs) + 1) (signedOf neg (cond (t && each isDigit bs) (value (runVal 0 (b ∷ bs))) malformed))
-        (U (cond t (scanned (value (runVal 0 (drop at s))) (at + runLen (drop at s))) (scanned malformed at)))
+      (U (cond t (scanned (value (runVal 0 (drop at s))) (at + runLen (drop at s))) (scanned malformed at)))
   by-within b bs true w e n = run-word b bs (each isDigit bs) refl w e n
   by-within b bs false w e n = bad-ends (at + length (b ∷ bs) + 1) at
 
   by-zero : (b : ℕ) (bs : List ℕ) (t : Bool) → drop at s ≡ (b ∷ bs) ++ c ∷ r → mem c (b ∷ bs) ≡ false
       → Ends (at + length (b ∷ bs) + 1) (signedOf neg (cond t (zeroOf bs) (cond (within 49 57 b && each isDigit bs) (value (runVal 0 (b ∷ bs))) malformed)))
-        (U (cond t (scanned (value 0) (at + 1)) (cond (within 49 57 b) (scanned (value (runVal 0 (drop at s))) (at + runLen (drop at s))) (scanned malformed at))))
+      (U (cond t (scanned (value 0) (at + 1)) (cond (within 49 57 b) (scanned (value (runVal 0 (drop at s))) (at + runLen (drop at s))) (scanned malformed at))))
   by-zero b bs true e n = zero-word b bs e n
   by-zero b bs false e n = by-within b bs (within 49 57 b) refl e n
 
@@ -192,14 +192,14 @@ count-from s at =
     by-test (λ (x : Scanned ℕ). at ≤ x .next) (hasAt s at 48) (scanned (value 0) (at + 1)) (cond (within 49 57 (getD s at 0)) (scanned (value (runVal 0 (drop at s))) (at + runLen (drop at s))) (scanned malformed at))
     (λ _. omega arith)
     (λ _. by-test (λ (x : Scanned ℕ). at ≤ x .next) (within 49 57 (getD s at 0)) (scanned (value (runVal 0 (drop at s))) (at + runLen (drop at s))) (scanned malformed at)
-      (λ _. omega arith) (λ _. omega arith))
+    (λ _. omega arith) (λ _. omega arith))
 
 pub ident-from : (s : List ℕ) (at : ℕ) → at ≤ identAt s at .next
 unfolding identAt
 ident-from s at =
     by-test (λ (x : Scanned ℤ). at ≤ x .next) (hasAt s at 45) (cond (hasAt s (at + 1) 48) (scanned malformed (at + 1)) (signedAt true (countAt s (at + 1)))) (signedAt false (countAt s at))
     (λ _. by-test (λ (x : Scanned ℤ). at ≤ x .next) (hasAt s (at + 1) 48) (scanned malformed (at + 1)) (signedAt true (countAt s (at + 1)))
-      (λ _. omega arith) (λ _. omega (arith, count-from s (at + 1))))
+    (λ _. omega arith) (λ _. omega (arith, count-from s (at + 1))))
     (λ _. count-from s at)
 
 none-at : (c : ℕ) (l : List ℕ) (j : ℕ) → mem c l ≡ false → j < length l → eqb (getD l j 0) c ≡ false
@@ -207,13 +207,13 @@ none-at c [] j n h = absurd (omega arith)
 none-at c (b ∷ bs) zero n h = mem-head c b bs n
 none-at c (b ∷ bs) (suc j) n h = none-at c bs j (mem-tail c b bs n) (omega arith)
 
-no-end : (s : List ℕ) (at c p : ℕ) → at ≤ p → mem c (drop at s) ≡ false → hasAt s p c ≡ false
+pub no-end : (s : List ℕ) (at c p : ℕ) → at ≤ p → mem c (drop at s) ≡ false → hasAt s p c ≡ false
 no-end s at c p h n =
     false-of (hasAt s p c)
     (λ e. let l : p < length s = has-below s p c e in
-      let q : at + (p - at) ≡ p = omega arith in
-      let g : getD (drop at s) (p - at) 0 ≡ getD s p 0 = getD-drop at s (p - at) 0 ∙ ap (λ (k : ℕ). getD s k 0) q in
-      clash e (sym (has-yes s p c l) ∙ ap (λ (k : ℕ). eqb k c) (sym g) ∙ none-at c (drop at s) (p - at) n (omega (arith, length-drop at s))))
+    let q : at + (p - at) ≡ p = omega arith in
+    let g : getD (drop at s) (p - at) 0 ≡ getD s p 0 = getD-drop at s (p - at) 0 ∙ ap (λ (k : ℕ). getD s k 0) q in
+    clash e (sym (has-yes s p c l) ∙ ap (λ (k : ℕ). eqb k c) (sym g) ∙ none-at c (drop at s) (p - at) n (omega (arith, length-drop at s))))
 
 field-open : (s : List ℕ) (at c : ℕ) → mem c (drop at s) ≡ false → fieldAt s at c .said ≡ malformed
 unfolding fieldAt
@@ -221,7 +221,7 @@ field-open s at c n = closed-no s c (identAt s at .next) 0 (identAt s at .said) 
 
 -- ---- the theorem: the scanner's answer is the readable one
 pub field-reads : (s : List ℕ) (at c : ℕ) → isDigit c ≡ false → eqb c 45 ≡ false → Reads c identOf s at (fieldAt s at c)
-field-reads s at c d m = record { ended = λ bs r. ident-word s r at c d m bs; open = field-open s at c }
+field-reads s at c d m = record { ended = λ bs r. ident-word s r at c d m bs; unended = field-open s at c }
 
 -- ---- a word with a byte that belongs in no identifier
 module _ (c : ℕ) (d : isDigit c ≡ false) where
@@ -234,6 +234,7 @@ module _ (c : ℕ) (d : isDigit c ≡ false) where
       head e =
           let d′ : isDigit b ≡ false = rw e at d in
           rw (no-zero b d′, no-first b d′)
+
       tail : mem c bs ≡ true → countOf (b ∷ bs) ≡ malformed
       tail k =
           let a : each isDigit bs ≡ false = false-of (each isDigit bs) (λ e. clash (each-mem isDigit bs e c k) d) in
@@ -244,8 +245,19 @@ module _ (c : ℕ) (d : isDigit c ≡ false) where
           by true (x ∷ l) k = refl
           by false (x ∷ l) k = refl
 
-  module _ (m : eqb c 45 ≡ false) where
-    pub ident-stray : (bs : List ℕ) → mem c bs ≡ true → identOf bs ≡ malformed
-    unfolding mem
-    ident-stray [] h = refl
-    ident-stray (b ∷ bs) h = ?
+  minus-stray : (bs : List ℕ) → mem c bs ≡ true → afterMinus bs ≡ malformed
+  minus-stray [] h = refl
+  minus-stray (x ∷ xs) h = rw (count-stray (x ∷ xs) h) (by (eqb x 48))
+    where
+      by : (t : Bool) → _≡_ {A = Word ℤ} (cond t malformed malformed) malformed
+      by true = refl
+      by false = refl
+
+  pub ident-stray : eqb c 45 ≡ false → (bs : List ℕ) → mem c bs ≡ true → identOf bs ≡ malformed
+  unfolding mem
+  ident-stray m [] h = refl
+  ident-stray m (b ∷ bs) h = rw (count-stray (b ∷ bs) h) (by (eqb b 45) refl)
+    where
+      by : (t : Bool) → eqb b 45 ≡ t → cond t (afterMinus bs) malformed ≡ malformed
+      by true e = minus-stray bs (rw (eqb-true b 45 e, m) at h)
+      by false e = refl

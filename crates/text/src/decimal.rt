@@ -1,5 +1,6 @@
 // The decimal of a coefficient claim.
-use crate::count::{Run, digits};
+use crate::count::Run;
+use crate::count::digits;
 ghost use mathlib.Core.Path.{_≡_};
 ghost use Prim.Native.Nat.{ℕ, _+_, _*_, _≤_};
 ghost use lib.ListN.{length};

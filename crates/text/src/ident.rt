@@ -1,5 +1,7 @@
 // An identifier at a place, and one that a byte must follow.
-use crate::count::{Counted, count, has};
+use crate::count::Counted;
+use crate::count::count;
+use crate::count::has;
 ghost use mathlib.Core.Path.{_≡_};
 ghost use Prim.Native.Nat.{ℕ, _≤_};
 ghost use Rattle.text.specs.Word.{minusOf};

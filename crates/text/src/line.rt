@@ -1,8 +1,15 @@
 // The lines of vertex, edge and claim files, read over a cursor.
-use basis::refusal::{BAD_FORM, OUT_OF_RANGE};
-use crate::count::{LF, SPACE, has, line_end};
-use crate::decimal::{Decimal, DecimalWord, decimal_of};
-use crate::ident::{Scan, field};
+use crate::count::LF;
+use crate::count::SPACE;
+use crate::count::has;
+use crate::count::line_end;
+use crate::decimal::Decimal;
+use crate::decimal::DecimalWord;
+use crate::decimal::decimal_of;
+use crate::ident::Scan;
+use crate::ident::field;
+use basis::refusal::BAD_FORM;
+use basis::refusal::OUT_OF_RANGE;
 ghost use mathlib.Core.Path.{_≡_};
 ghost use Rattle.text.specs.Word.{outside, value};
 ghost use Rattle.text.specs.Line.{vertexLine, edgeLine, claimLine, coefficientLine, vertexSays, edgeSays, coefficientSays};

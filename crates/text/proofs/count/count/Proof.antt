@@ -2,39 +2,28 @@ use Rattle.text.proofs.Scans.{count-past, count-zero, count-low, count-
 use borrow.Author.Needs.{needs}
 use Rattle.text.proofs.count.count.Statement.{statement}
 use Rattle.text.proofs.count.count.Tie as tie
-use Rattle.text.proofs.count.count.Reads as reads
-use Rattle.text.proofs.count.count.Lts as lts
-use Rattle.text.proofs.count.digits.Reads as digits-reads
 
--- src/count.rt:92:9
 returns : tie.Need-returns
 returns c = search count-past
 
--- src/count.rt:94:13
 shared-slice-read-b : tie.Need-shared-slice-read-b
 shared-slice-read-b c = search needs
 
--- src/count.rt:96:34
 add-t9 : tie.Need-add-t9
 add-t9 c = search needs
 
--- src/count.rt:96:9
 returns-2 : tie.Need-returns-2
 returns-2 c = search count-zero
 
--- src/count.rt:99:9
 returns-3 : tie.Need-returns-3
 returns-3 c = search count-low
 
--- src/count.rt:102:9
 returns-4 : tie.Need-returns-4
 returns-4 c = search count-high
 
--- src/count.rt:104:9
 digits-requires : tie.Need-digits-requires
 digits-requires c κs = search needs
 
--- src/count.rt:88:1
 returns-5 : tie.Need-returns-5
 returns-5 c = search count-run
 

@@ -6,8 +6,6 @@ use Rattle.text.proofs.Bytes.{end-out, end-here, end-on}
 use borrow.Author.Needs.{needs}
 use Rattle.text.proofs.count.line_end.Statement.{statement}
 use Rattle.text.proofs.count.line_end.Tie as tie
-use Rattle.text.proofs.count.line_end.Reads as reads
-use Rattle.text.proofs.count.line_end.Lts as lts
 
 abbrev Inv-loop : tie.InvT-loop
 Inv-loop s from i₀ i = i + length (upTo lf (drop i s)) ≡ from + length (upTo lf (drop from s))
@@ -15,31 +13,24 @@ Inv-loop s from i₀ i = i + length (upTo lf (drop i s)) ≡ from + length (upTo
 abbrev μ-loop : tie.MeasureT-loop
 μ-loop s from i₀ i = length s - i
 
--- src/count.rt:41:5
 loop-holds : tie.Need-loop-holds Inv-loop μ-loop
 loop-holds c = search needs
 
--- src/count.rt:42:12
 shared-slice-read-if1 : tie.Need-shared-slice-read-if1 Inv-loop μ-loop
 shared-slice-read-if1 c = search needs
 
--- src/count.rt:43:13
 returns : tie.Need-returns Inv-loop μ-loop
 returns c = search end-here
 
--- src/count.rt:45:9
 add-i : tie.Need-add-i Inv-loop μ-loop
 add-i c = search needs
 
--- src/count.rt:41:5
 loop-less : tie.Need-loop-less Inv-loop μ-loop
 loop-less c = search needs
 
--- src/count.rt:41:5
 loop-again : tie.Need-loop-again Inv-loop μ-loop
 loop-again c = search end-on
 
--- src/count.rt:37:1
 returns-2 : tie.Need-returns-2 Inv-loop μ-loop
 returns-2 c = search end-out
 

@@ -2,29 +2,19 @@ use Rattle.text.proofs.Decimals.{decimal-from, decimal-on, decimal-with
 use borrow.Author.Needs.{needs}
 use Rattle.text.proofs.decimal.decimal_of.Statement.{statement}
 use Rattle.text.proofs.decimal.decimal_of.Tie as tie
-use Rattle.text.proofs.decimal.decimal_of.Reads as reads
-use Rattle.text.proofs.decimal.decimal_of.Lts as lts
-use Rattle.text.proofs.count.digits.Reads as digits-reads
-use Rattle.text.proofs.decimal.parts.Reads as parts-reads
-use Rattle.text.proofs.decimal.past_point.Reads as past-point-reads
 
--- src/decimal.rt:174:9
 digits-requires : tie.Need-digits-requires
 digits-requires c κs = search needs
 
--- src/decimal.rt:175:9
 past-point-requires : tie.Need-past-point-requires
 past-point-requires c κs = search needs
 
--- src/decimal.rt:176:9
 digits-requires-2 : tie.Need-digits-requires-2
 digits-requires-2 c κs = search needs
 
--- src/decimal.rt:177:5
 parts-requires : tie.Need-parts-requires
 parts-requires c κs = (search decimal-from, search decimal-on, search decimal-within)
 
--- src/decimal.rt:171:1
 returns : tie.Need-returns
 returns c = search decimal-is
 

@@ -1,18 +1,13 @@
 use Rattle.text.proofs.Decimals.{worth-below, worth-above, worth-yes}
 use Rattle.text.proofs.decimal.digit_of.Statement.{statement}
 use Rattle.text.proofs.decimal.digit_of.Tie as tie
-use Rattle.text.proofs.decimal.digit_of.Reads as reads
-use Rattle.text.proofs.decimal.digit_of.Lts as lts
 
--- src/decimal.rt:48:9
 returns : tie.Need-returns
 returns c = search worth-below
 
--- src/decimal.rt:51:9
 returns-2 : tie.Need-returns-2
 returns-2 c = search worth-above
 
--- src/decimal.rt:44:1
 returns-3 : tie.Need-returns-3
 returns-3 c = search worth-yes
 

@@ -1,18 +1,13 @@
 use Rattle.text.proofs.Decimals.{digit-below, digit-above, digit-yes}
 use Rattle.text.proofs.decimal.is_digit.Statement.{statement}
 use Rattle.text.proofs.decimal.is_digit.Tie as tie
-use Rattle.text.proofs.decimal.is_digit.Reads as reads
-use Rattle.text.proofs.decimal.is_digit.Lts as lts
 
--- src/decimal.rt:35:9
 returns : tie.Need-returns
 returns c = search digit-below
 
--- src/decimal.rt:38:9
 returns-2 : tie.Need-returns-2
 returns-2 c = search digit-above
 
--- src/decimal.rt:31:1
 returns-3 : tie.Need-returns-3
 returns-3 c = search digit-yes
 

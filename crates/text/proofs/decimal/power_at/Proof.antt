@@ -2,81 +2,58 @@ use Rattle.text.proofs.Decimals.{power-none, power-length, power-letter
 use borrow.Author.Needs.{needs}
 use Rattle.text.proofs.decimal.power_at.Statement.{statement}
 use Rattle.text.proofs.decimal.power_at.Tie as tie
-use Rattle.text.proofs.decimal.power_at.Reads as reads
-use Rattle.text.proofs.decimal.power_at.Lts as lts
-use Rattle.text.proofs.decimal.is_digit.Reads as is-digit-reads
-use Rattle.text.proofs.decimal.signed_power.Reads as signed-power-reads
-use Rattle.text.proofs.decimal.two_digits.Reads as two-digits-reads
 
--- src/decimal.rt:112:16
 sub-left : tie.Need-sub-left
 sub-left c = search needs
 
--- src/decimal.rt:114:9
 returns : tie.Need-returns
 returns c = search power-none
 
--- src/decimal.rt:117:9
 returns-2 : tie.Need-returns-2
 returns-2 c = search power-length
 
--- src/decimal.rt:119:8
 shared-slice-read-if3 : tie.Need-shared-slice-read-if3
 shared-slice-read-if3 c = search needs
 
--- src/decimal.rt:120:9
 returns-3 : tie.Need-returns-3
 returns-3 c = search power-letter
 
--- src/decimal.rt:122:15
 add-x : tie.Need-add-x
 add-x c = search needs
 
--- src/decimal.rt:122:13
 shared-slice-read-x : tie.Need-shared-slice-read-x
 shared-slice-read-x c = search needs
 
--- src/decimal.rt:123:9
 is-digit-requires : tie.Need-is-digit-requires
 is-digit-requires c κs = search needs
 
--- src/decimal.rt:124:9
 returns-4 : tie.Need-returns-4
 returns-4 c = search power-first
 
--- src/decimal.rt:126:15
 add-y : tie.Need-add-y
 add-y c = search needs
 
--- src/decimal.rt:126:13
 shared-slice-read-y : tie.Need-shared-slice-read-y
 shared-slice-read-y c = search needs
 
--- src/decimal.rt:127:9
 is-digit-requires-2 : tie.Need-is-digit-requires-2
 is-digit-requires-2 c κs = search needs
 
--- src/decimal.rt:128:9
 returns-5 : tie.Need-returns-5
 returns-5 c = search power-second
 
--- src/decimal.rt:130:20
 add-signed-power : tie.Need-add-signed-power
 add-signed-power c = search needs
 
--- src/decimal.rt:130:18
 shared-slice-read-signed-power : tie.Need-shared-slice-read-signed-power
 shared-slice-read-signed-power c = search needs
 
--- src/decimal.rt:130:29
 two-digits-requires : tie.Need-two-digits-requires
 two-digits-requires c κs = search needs
 
--- src/decimal.rt:130:5
 signed-power-requires : tie.Need-signed-power-requires
 signed-power-requires c κs = search needs
 
--- src/decimal.rt:108:1
 returns-6 : tie.Need-returns-6
 returns-6 c = search power-signed
 

@@ -2,26 +2,19 @@ use Rattle.text.proofs.Decimals.{whole-one, whole-none, whole-zero, who
 use borrow.Author.Needs.{needs}
 use Rattle.text.proofs.decimal.whole_is_good.Statement.{statement}
 use Rattle.text.proofs.decimal.whole_is_good.Tie as tie
-use Rattle.text.proofs.decimal.whole_is_good.Reads as reads
-use Rattle.text.proofs.decimal.whole_is_good.Lts as lts
 
--- src/decimal.rt:74:9
 returns : tie.Need-returns
 returns c = search whole-one
 
--- src/decimal.rt:77:9
 returns-2 : tie.Need-returns-2
 returns-2 c = search whole-none
 
--- src/decimal.rt:79:13
 shared-slice-read-b : tie.Need-shared-slice-read-b
 shared-slice-read-b c = search needs
 
--- src/decimal.rt:81:9
 returns-3 : tie.Need-returns-3
 returns-3 c = search whole-zero
 
--- src/decimal.rt:69:1
 returns-4 : tie.Need-returns-4
 returns-4 c = search whole-more
 

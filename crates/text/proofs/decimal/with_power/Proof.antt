@@ -2,38 +2,28 @@ use Rattle.text.proofs.Decimals.{scaled-up, scaled-down}
 use borrow.Author.Needs.{needs}
 use Rattle.text.proofs.decimal.with_power.Statement.{statement}
 use Rattle.text.proofs.decimal.with_power.Tie as tie
-use Rattle.text.proofs.decimal.with_power.Reads as reads
-use Rattle.text.proofs.decimal.with_power.Lts as lts
 
--- src/decimal.rt:138:19
 enum-known-p : tie.Need-enum-known-p
 enum-known-p c = search needs
 
--- src/decimal.rt:143:21
 enum-known-p-2 : tie.Need-enum-known-p-2
 enum-known-p-2 c = search needs
 
--- src/decimal.rt:146:30
 cast-t10 : tie.Need-cast-t10
 cast-t10 c = search needs
 
--- src/decimal.rt:146:19
 add-t11 : tie.Need-add-t11
 add-t11 c = search needs
 
--- src/decimal.rt:148:25
 enum-told : tie.Need-enum-told
 enum-told c = search needs
 
--- src/decimal.rt:134:1
 returns : tie.Need-returns
 returns c = search scaled-up
 
--- src/decimal.rt:134:1
 returns-2 : tie.Need-returns-2
 returns-2 c = search scaled-down
 
--- src/decimal.rt:134:1
 returns-3 : tie.Need-returns-3
 returns-3 c = search needs
 

@@ -5,40 +5,28 @@ use Rattle.text.proofs.Scans.{ident-zero, ident-minus, ident-plain}
 use borrow.Author.Needs.{needs}
 use Rattle.text.proofs.ident.ident.Statement.{statement}
 use Rattle.text.proofs.ident.ident.Tie as tie
-use Rattle.text.proofs.ident.ident.Reads as reads
-use Rattle.text.proofs.ident.ident.Lts as lts
-use Rattle.text.proofs.count.has.Reads as has-reads
-use Rattle.text.proofs.ident.signed.Reads as signed-reads
 
--- src/ident.rt:58:8
 has-requires : tie.Need-has-requires
 has-requires c κs = search needs
 
--- src/ident.rt:59:17
 add-p : tie.Need-add-p
 add-p c = omega (arith, has-below _ _ _ (sym (c .before .has .ensures) ∙ c .if1 .taken))
 
--- src/ident.rt:60:12
 has-requires-2 : tie.Need-has-requires-2
 has-requires-2 c κs = search needs
 
--- src/ident.rt:61:13
 returns : tie.Need-returns
 returns c = search ident-zero
 
--- src/ident.rt:63:9
 signed-requires : tie.Need-signed-requires
 signed-requires c κs = search needs
 
--- src/ident.rt:63:9
 returns-2 : tie.Need-returns-2
 returns-2 c = search ident-minus
 
--- src/ident.rt:65:5
 signed-requires-2 : tie.Need-signed-requires-2
 signed-requires-2 c κs = search needs
 
--- src/ident.rt:55:1
 returns-3 : tie.Need-returns-3
 returns-3 c = search ident-plain
 
