@@ -1,33 +1,37 @@
 -- What is written reads back: a count and an identifier are the number that they were. Assumes nothing.
-use Prim.Native.Nat.{ℕ, zero, suc, _+_, _-_, _^_, _≤_}
+use Prim.Native.Nat.{ℕ, zero, suc, _+_, _-_, _^_, _≤_, _<_}
 use mathlib.Core.Path.{_≡_, refl, ap, _∙_}
 use mathlib.Core.Bool.{true, false}
-use mathlib.Core.List.{List, [], _∷_}
+use mathlib.Core.List.{List, [], _∷_, _++_}
 use native.Mathlib.Omega.{arith}
-use borrow.Author.Tests.{le-leb, leb-true, ne-eqb}
-use lib.Dec.{leb, eqb}
+use borrow.Author.Tests.{le-leb, lt-leb, ne-eqb}
 use lib.IntN.{ℤ, pos, negsuc}
-use lib.ListN.{length, take, drop}
+use lib.ListN.{length, take, drop, length-append, length-drop}
+use lib.Seq.{append-snoc}
 use mir.Syntax.{w64}
 use mir.Val.{SFits}
-use Rattle.basis.specs.Scan.{each}
-use Rattle.basis.proofs.Tests.{and-first, and-second, and-both}
-use Rattle.write.proofs.Word.{value, within, isDigit, countOf, signedOf, identOf}
+use Rattle.basis.specs.Scan.{each, mem}
+use Rattle.basis.proofs.Tests.{and-first, and-second}
+use Rattle.text.specs.Word.{Word, value, within, isDigit, countOf, signedOf, identOf}
+use Rattle.text.specs.Line.{line, lf, lineBy, vertexLine}
+use Rattle.text.proofs.Bytes.{within-yes, within-is, mem-cut, upTo-cut}
 use Rattle.write.specs.Put.{written, putAt}
 use Rattle.write.specs.Decimal.{digits, decimal, signedText}
-use Rattle.write.proofs.Puts.{wrote-text}
-use Rattle.write.proofs.Texts.{Spells, decimal-spells}
+use Rattle.write.proofs.Puts.{wrote-next, wrote-after, wrote-text}
+use Rattle.write.proofs.Texts.{Spells, decimal-spells, signed-without}
 
 -- ---- a count that is written reads back
+first-of : (b : ℕ) (bs : List ℕ) (n : ℕ) → Spells n (b ∷ bs) → (48 ≤ b) × (b ≤ 57)
+unfolding each
+first-of b bs n s = within-is 48 57 b (and-first (isDigit b) (each isDigit bs) (s .all))
+
 count-of : (l : List ℕ) (n : ℕ) → 1 ≤ n → Spells n l → countOf l ≡ value n
-unfolding each within
+unfolding each
 count-of [] n h s = absurd (omega (arith, s .some))
 count-of (b ∷ bs) n h s =
     let f : 49 ≤ b = s .lead h in
-    let e : b ≤ 57 = leb-true b 57 (and-second (leb 48 b) (leb b 57) (and-first (isDigit b) (each isDigit bs) (s .all))) in
-    let z : eqb b 48 ≡ false = ne-eqb b 48 (λ q. omega arith) in
-    let w : within 49 57 b ≡ true = and-both (le-leb 49 b f) (le-leb b 57 e) in
-    rw (z, w, and-second (isDigit b) (each isDigit bs) (s .all)) (ap value (s .val))
+    let w : within 49 57 b ≡ true = within-yes f (first-of b bs n s .1) in
+    rw (ne-eqb b 48 (λ q. omega arith), w, and-second (isDigit b) (each isDigit bs) (s .all)) (ap value (s .val))
 
 pub count-back : (n : ℕ) → countOf (decimal n) ≡ value n
 unfolding digits decimal
@@ -36,11 +40,8 @@ count-back (suc n) = count-of (decimal (suc n)) (suc n) (omega arith) (decimal-s
 
 -- ---- an identifier that is written reads back
 ident-of : (l : List ℕ) (n : ℕ) → Spells n l → identOf l ≡ signedOf false (countOf l)
-unfolding each within
 ident-of [] n s = absurd (omega (arith, s .some))
-ident-of (b ∷ bs) n s =
-    let e : 48 ≤ b = leb-true 48 b (and-first (leb 48 b) (leb b 57) (and-first (isDigit b) (each isDigit bs) (s .all))) in
-    rw (ne-eqb b 45 (λ q. omega arith))
+ident-of (b ∷ bs) n s = rw (ne-eqb b 45 (λ q. omega (arith, first-of b bs n s)))
 
 minus-of : (l : List ℕ) (n : ℕ) → 1 ≤ n → Spells n l → identOf (45 ∷ l) ≡ signedOf true (countOf l)
 minus-of [] n h s = absurd (omega (arith, s .some))
@@ -56,7 +57,7 @@ ident-back (negsuc n) f =
     ∙ ap (signedOf true) (count-back (suc n))
     ∙ rw (le-leb (suc n) (2 ^ 63) (omega (arith, f .sfits)))
 
--- ---- and so they do in the area, between the place where the writer began and the one that it answered
+-- ---- and so both do in the area, between the place where the writer began and the one that it answered
 module _ (o : List ℕ) (at : ℕ) {o′ : List ℕ} {p : ℕ} where
   pub number-back : (n : ℕ) → written o′ p ≡ putAt o at (decimal n) → at + length (decimal n) ≤ length o → countOf (take (p - at) (drop at o′)) ≡ value n
   number-back n w room = rw (wrote-text o at (decimal n) w room) (count-back n)
@@ -64,3 +65,25 @@ module _ (o : List ℕ) (at : ℕ) {o′ : List ℕ} {p : ℕ} where
   pub signed-back : (z : ℤ) → SFits w64 z → written o′ p ≡ putAt o at (signedText z) → at + length (signedText z) ≤ length o
       → identOf (take (p - at) (drop at o′)) ≡ value z
   signed-back z f w room = rw (wrote-text o at (signedText z) w room) (ident-back z f)
+
+-- ---- a word with an LF behind it is read as a line, and the reader's place is past it
+module _ {A : Type 0} (word : List ℕ → Word A) (x : A) (bs : List ℕ) (said : word bs ≡ value x) (none : mem lf bs ≡ false) where
+  pub line-back : (s r : List ℕ) (at : ℕ) → drop at s ≡ bs ++ lf ∷ r → lineBy word s at ≡ line x (at + length bs + 1)
+  unfolding lineBy
+  line-back s r at e =
+      let h : at < length s = omega (arith, ap length e, length-drop at s, length-append bs (lf ∷ r)) in
+      rw (lt-leb (length s) at h, e, mem-cut lf bs r, upTo-cut lf bs r none, said)
+
+  -- so it is where both were written, and its place is the one that the writer answered
+  pub line-wrote : (o : List ℕ) (at : ℕ) {o′ : List ℕ} {p : ℕ} → written o′ p ≡ putAt o at (bs ++ (lf ∷ [])) → at + length (bs ++ (lf ∷ [])) ≤ length o
+      → lineBy word o′ at ≡ line x p
+  line-wrote o at {o′} {p} w room =
+      let e : drop at o′ ≡ bs ++ lf ∷ drop (at + length (bs ++ (lf ∷ []))) o =
+      wrote-after o at (bs ++ (lf ∷ [])) w room ∙ append-snoc bs lf (drop (at + length (bs ++ (lf ∷ []))) o) in
+      let q : at + length bs + 1 ≡ p = omega (arith, wrote-next o at (bs ++ (lf ∷ [])) w room, length-append bs (lf ∷ [])) in
+      line-back o′ (drop (at + length (bs ++ (lf ∷ []))) o) at e ∙ ap (line x) q
+
+pub vertex-back : (z : ℤ) → SFits w64 z → (o : List ℕ) (at : ℕ) {o′ : List ℕ} {p : ℕ} → written o′ p ≡ putAt o at (signedText z ++ (lf ∷ []))
+    → at + length (signedText z ++ (lf ∷ [])) ≤ length o → vertexLine o′ at ≡ line z p
+unfolding within
+vertex-back z f = line-wrote identOf z (signedText z) (ident-back z f) (signed-without z lf refl)

@@ -2,7 +2,6 @@
 pub mod Puts
 pub mod Decimals
 pub mod Signed
-pub mod Word
 pub mod Texts
 pub mod Back
 pub mod Examples

@@ -4,7 +4,7 @@ use mathlib.Core.Path.{_≡_, refl, sym, ap, _∙_}
 use mathlib.Core.Bool.{Bool, true, false, _||_}
 use mathlib.Core.List.{List, [], _∷_, _++_}
 use native.Mathlib.Omega.{arith}
-use borrow.Author.Tests.{ltb-true, ltb-false, le-leb}
+use borrow.Author.Tests.{ltb-true, ltb-false}
 use lib.Dec.{ltb, eqb}
 use lib.IntN.{ℤ, pos, negsuc}
 use lib.ListN.{length, getD, length-append}
@@ -13,22 +13,20 @@ use mir.Val.{SFits}
 use Rattle.basis.specs.Scan.{each, mem}
 use Rattle.basis.proofs.Tests.{clash, false-of, bool-cases, and-first, and-second, and-both, or-first}
 use Rattle.basis.proofs.Scans.{each-mem}
-use Rattle.write.proofs.Word.{within, isDigit, stepped, runVal}
+use Rattle.text.specs.Word.{within, isDigit, stepped, runVal}
+use Rattle.text.proofs.Bytes.{within-yes}
+use Rattle.text.proofs.Runs.{val-digit}
 use Rattle.write.specs.Decimal.{decimal, signedText}
 use Rattle.write.proofs.Decimals.{decimal-small, decimal-more, decimal-all}
 
 -- ---- digits with one more behind them
 digit-yes : (d : ℕ) → d < 10 → isDigit (48 + d) ≡ true
-unfolding within
-digit-yes d h = and-both (le-leb 48 (48 + d) (omega arith)) (le-leb (48 + d) 57 (omega arith))
+digit-yes d h = within-yes (omega arith) (omega arith)
 
 each-snoc : {A : Type 0} (p : A → Bool) (l : List A) (x : A) → each p l ≡ true → p x ≡ true → each p (l ++ (x ∷ [])) ≡ true
 unfolding each
 each-snoc p [] x h g = and-both g refl
 each-snoc p (y ∷ l) x h g = and-both (and-first (p y) (each p l) h) (each-snoc p l x (and-second (p y) (each p l) h) g)
-
-val-digit : (n b : ℕ) (l : List ℕ) → isDigit b ≡ true → runVal n (b ∷ l) ≡ runVal (stepped n b) l
-val-digit n b l e = rw (e, runVal)
 
 val-snoc : (n : ℕ) (l : List ℕ) (b : ℕ) → each isDigit l ≡ true → isDigit b ≡ true → runVal n (l ++ (b ∷ [])) ≡ stepped (runVal n l) b
 unfolding each
