@@ -1,0 +1,5 @@
+-- Laws of common members, of lowest terms, of a merge, and of the coefficients.
+pub mod Commons
+pub mod Ratios
+pub mod Merges
+pub mod Arcs
