@@ -3,3 +3,5 @@ pub mod Commons
 pub mod Ratios
 pub mod Merges
 pub mod Arcs
+pub mod Rising
+pub mod Neighbours
