@@ -5,3 +5,4 @@ pub mod Merges
 pub mod Arcs
 pub mod Rising
 pub mod Neighbours
+pub mod Calls
