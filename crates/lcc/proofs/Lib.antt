@@ -6,3 +6,5 @@ pub mod Arcs
 pub mod Rising
 pub mod Neighbours
 pub mod Calls
+pub mod Meaning
+pub mod Examples
