@@ -2,7 +2,7 @@
 pub mod Commons
 pub mod Ratios
 pub mod Merges
-pub mod Arcs
+pub mod Coefficients
 pub mod Rising
 pub mod Neighbours
 pub mod Calls

@@ -1,7 +1,7 @@
 -- The laws of Euclid's rule: its own step, that it divides both, that it is the greatest, and lowest terms. Assumes nothing.
 use mathlib.Core.Path.{_≡_, refl, sym, ap, ap₂, _∙_, subst}
 use Prim.Native.Nat.{ℕ, zero, suc, _*_, _/_, _%_, _≤_, _<_, _∣_}
-use native.Mathlib.Nat.{mod-lt, dvd-refl, dvd-antisymm, dvd-mul-right, dvd-zero, dvd-mod-iff, pos-of-dvd-of-pos, mul-dvd-mul-left, mul-div-cancel', div-mul-cancel, dvd-of-mul-dvd-mul-left, eq-one-of-dvd-one, mul-one, zero-div, div-self, div-zero, mul-assoc, mul-comm}
+use native.Mathlib.Nat.{mod-lt, dvd-refl, dvd-antisymm, dvd-mul-right, dvd-zero, dvd-mod-iff, pos-of-dvd-of-pos, mul-dvd-mul-left, mul-div-cancel', div-mul-cancel, dvd-of-mul-dvd-mul-left, eq-one-of-dvd-one, mul-one, zero-div, div-self, div-zero, mul-assoc}
 use native.Mathlib.Omega.{arith}
 use Rattle.lcc.specs.declared.ratio.Ratio.{Ratio}
 use Rattle.lcc.specs.Ratio.{euclid, gcdOf, lowest}

@@ -3,27 +3,19 @@ use mathlib.Core.Path.{sym}
 use Rattle.lcc.proofs.Ratios.{reduce-by, reduce-none}
 use Rattle.lcc.proofs.ratio.reduced.Statement.{statement}
 use Rattle.lcc.proofs.ratio.reduced.Tie as tie
-use Rattle.lcc.proofs.ratio.reduced.Reads as reads
-use Rattle.lcc.proofs.ratio.reduced.Lts as lts
-use Rattle.lcc.proofs.ratio.gcd.Reads as gcd-reads
 
--- src/lib.rt:24:9
 gcd-requires : tie.Need-gcd-requires
 gcd-requires c κs = search needs
 
--- src/lib.rt:26:9
 returns : tie.Need-returns
 returns c = sym (reduce-none (c .before .before .args .a) (c .before .before .args .b) (c .before .gcd .ensures) (c .if1 .taken))
 
--- src/lib.rt:29:14
 div-t5 : tie.Need-div-t5
 div-t5 c = search needs
 
--- src/lib.rt:30:14
 div-t6 : tie.Need-div-t6
 div-t6 c = search needs
 
--- src/lib.rt:21:1
 returns-2 : tie.Need-returns-2
 returns-2 c = sym (reduce-by (c .before .before .args .a) (c .before .before .args .b) (c .before .gcd .ensures))
 
