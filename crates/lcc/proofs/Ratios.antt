@@ -1,9 +1,8 @@
--- The laws of Euclid's rule: its own step, that it divides both, that it is the greatest, and lowest terms. Assumes nothing.
-use mathlib.Core.Path.{_≡_, refl, sym, ap, ap₂, _∙_, subst}
+-- Laws of Euclid's rule: its own step, that it divides both, that it is the greatest, and lowest terms. Assumes nothing.
+use mathlib.Core.Path.{_≡_, refl, sym, ap, _∙_, subst}
 use Prim.Native.Nat.{ℕ, zero, suc, _*_, _/_, _%_, _≤_, _<_, _∣_}
 use native.Mathlib.Nat.{mod-lt, dvd-refl, dvd-antisymm, dvd-mul-right, dvd-zero, dvd-mod-iff, pos-of-dvd-of-pos, mul-dvd-mul-left, mul-div-cancel', div-mul-cancel, dvd-of-mul-dvd-mul-left, eq-one-of-dvd-one, mul-one, zero-div, div-self, div-zero, mul-assoc}
 use native.Mathlib.Omega.{arith}
-use Rattle.lcc.specs.declared.ratio.Ratio.{Ratio}
 use Rattle.lcc.specs.Ratio.{euclid, gcdOf, lowest}
 
 -- more steps than enough change nothing
@@ -99,14 +98,12 @@ reduce-zero b p =
     (zero-div (gcdOf 0 b), ap (λ (k : ℕ). b / k) e ∙ div-self p)
 
 -- what the code computes, once it has the divisor
-over : ℕ → ℕ → ℕ → Ratio
-over a b g = record { numerator = a / g; denominator = b / g }
+pub reduce-by : (a b : ℕ) {g : ℕ} → g ≡ gcdOf a b → record { numerator = a / g; denominator = b / g } ≡ lowest a b
+unfolding lowest
+reduce-by a b e = ap (λ (g : ℕ). record { numerator = a / g; denominator = b / g }) e
 
-pub reduce-by : (a b : ℕ) {g : ℕ} → g ≡ gcdOf a b → lowest a b ≡ record { numerator = a / g; denominator = b / g }
-unfolding lowest over
-reduce-by a b e = ap (over a b) (sym e)
-
-pub reduce-none : (a b : ℕ) {g : ℕ} → g ≡ gcdOf a b → g ≡ 0 → lowest a b ≡ record { numerator = 0; denominator = 0 }
-unfolding over
-reduce-none a b e z =
-    reduce-by a b e ∙ ap (over a b) z ∙ ap₂ (λ (x y : ℕ). record { numerator = x; denominator = y }) (div-zero a) (div-zero b)
+pub reduce-none : (a b : ℕ) {g : ℕ} → g ≡ gcdOf a b → g ≡ 0 → record { numerator = 0; denominator = 0 } ≡ lowest a b
+reduce-none a b {g} e z =
+    let p : a / g ≡ 0 = rw z (div-zero a) in let q : b / g ≡ 0 = rw z (div-zero b) in
+    let r : record { numerator = a / g; denominator = b / g } ≡ lowest a b = reduce-by a b e in
+    rw (p, q) at r

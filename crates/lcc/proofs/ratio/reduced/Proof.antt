@@ -1,5 +1,4 @@
 use borrow.Author.Needs.{needs}
-use mathlib.Core.Path.{sym}
 use Rattle.lcc.proofs.Ratios.{reduce-by, reduce-none}
 use Rattle.lcc.proofs.ratio.reduced.Statement.{statement}
 use Rattle.lcc.proofs.ratio.reduced.Tie as tie
@@ -8,7 +7,7 @@ gcd-requires : tie.Need-gcd-requires
 gcd-requires c κs = search needs
 
 returns : tie.Need-returns
-returns c = sym (reduce-none (c .before .before .args .a) (c .before .before .args .b) (c .before .gcd .ensures) (c .if1 .taken))
+returns c = search reduce-none
 
 div-t5 : tie.Need-div-t5
 div-t5 c = search needs
@@ -17,7 +16,7 @@ div-t6 : tie.Need-div-t6
 div-t6 c = search needs
 
 returns-2 : tie.Need-returns-2
-returns-2 c = sym (reduce-by (c .before .before .args .a) (c .before .before .args .b) (c .before .gcd .ensures))
+returns-2 c = search reduce-by
 
 pub reduced-spec : {M : Type 1} → statement M
 reduced-spec = tie.close (tie.spec gcd-requires returns div-t5 div-t6 returns-2)
