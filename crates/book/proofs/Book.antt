@@ -2,8 +2,8 @@
 use mathlib.Core.Path.{_≡_, refl, sym, ap, ap₂, _∙_}
 use mathlib.Core.List.{List, [], _∷_}
 use mathlib.Core.Bool.{Bool, true, false}
-use mathlib.Core.Logic.{_⊎_, inl, inr, ⊎-elim, _↔_}
-use Prim.Native.Nat.{ℕ, zero, suc, _+_, _-_, _^_, _≤_, _<_}
+use mathlib.Core.Logic.{_⊎_, inl, inr, _↔_}
+use Prim.Native.Nat.{ℕ, suc, _+_, _-_, _≤_, _<_}
 use native.Mathlib.Omega.{arith}
 use native.Mathlib.Decide.{decLe, decLt, ℕ-discrete}
 use lib.Dec.{eqb}
@@ -15,12 +15,12 @@ use Rattle.book.specs.declared.Reading.{Reading}
 use Rattle.basis.specs.Refusal.{gives, refuses, plain, notThere}
 use Rattle.book.specs.Rules.{stop, View, found, heads, Step, already, merge, Machine, onward, walkFrom, headOf, pair, headsOf, sameGroup, groupSize, tally, isStop, groupCount, largest, stepLimit, above, mergeHeads, linkHeads, decide}
 use Rattle.basis.proofs.Tests.{clash}
-use Rattle.book.specs.Series.{Slip, slip, Linked, itself, by, back, on}
+use Rattle.book.specs.Series.{Slip, slip, Linked, back, on}
 use Rattle.book.proofs.Calls.{head-walk, heads-walks, heads-missing, heads-missing2, same-is, size-is, count-is, limit-is}
 use Rattle.book.proofs.Joins.{above-larger, above-smaller, mergeable-of, merge-above, merge-below, link-already, link-merges}
 use Rattle.book.proofs.Tally.{bit, bit-le, tally-apart, tally-le}
 use Rattle.book.proofs.Faithful.{Mergeable, Faithful}
-use Rattle.book.proofs.Forest.{Reach, reach-walk, reach-head, Forest, forest-open, forest-already, forest-merged, linked-head, Whose}
+use Rattle.book.proofs.Forest.{reach-walk, reach-head, Forest, forest-open, forest-already, forest-merged, linked-head, Whose}
 
 -- a book whose areas show w is well lent and keeps the invariant
 pub record Sound (n : ℕ) (w : View) (js : List Slip) (m : ℕ) : Type 0 where

@@ -1,5 +1,5 @@
 -- Laws of the calls that read: for each `return` of the code what the call says, its premises the tests on the way there. Assumes nothing.
-use mathlib.Core.Path.{_≡_, refl, sym, ap, ap₂, _∙_}
+use mathlib.Core.Path.{_≡_, sym, ap, ap₂, _∙_}
 use mathlib.Core.List.{List}
 use mathlib.Core.Bool.{Bool, true, false, not, _&&_}
 use Prim.Native.Nat.{ℕ, suc, _+_, _≤_, _<_}
@@ -14,11 +14,11 @@ use Rattle.basis.proofs.Tests.{and-first, and-second, and-both, and-off}
 use Rattle.book.specs.declared.Headed.{Headed}
 use Rattle.book.specs.declared.Pair.{Pair}
 use Rattle.book.specs.declared.Reading.{Reading}
-use Rattle.book.specs.Rules.{stop, View, Found, found, Heads, heads, check, onward, walkFrom, headOf, pair, headsOf, oneHead, sameGroup, sizeAt, groupSize, tally, isStop, groupCount, largest, limitOf, stepLimit}
+use Rattle.book.specs.Rules.{stop, View, Found, found, Heads, heads, onward, walkFrom, headOf, pair, headsOf, oneHead, sameGroup, sizeAt, groupSize, tally, isStop, groupCount, largest, limitOf, stepLimit}
 use Rattle.book.specs.Two.{nextIn}
 use Rattle.book.specs.Says.{saysHeaded, saysReading}
 use Rattle.book.specs.Steps.{saysPair}
-use Rattle.book.proofs.Checks.{failed, held, refused-given, check-on, check-off, check-passed, onward-passed}
+use Rattle.book.proofs.Checks.{failed, held, refused-given, given-one, check-on, check-off, check-passed, onward-passed}
 use Rattle.book.proofs.Walks.{walkFrom-in, next-head, next-other}
 use Rattle.book.proofs.Tally.{tally-yes, tally-no}
 
@@ -56,10 +56,9 @@ module _ (w : View) (u v : ℕ) where
       check-on (w .fit) noRoom _ a ∙ check-on (ltb u (w .count)) notThere _ (lt-ltb u (w .count) d) ∙ check-on (ltb v (w .count)) notThere _ (lt-ltb v (w .count) e)
 
   pair-passed : (s t : Said Found) (g h : ℕ) → pair s t ≡ gives (heads g h) → (k l : ℕ) × (s ≡ gives (found g k)) × (t ≡ gives (found h l))
-  pair-passed (gives f) (gives x) g h e = (f .moves, x .moves, ap (λ (p : Heads). gives (found (p .first) (f .moves))) (inj e), ap (λ (p : Heads). gives (found (p .second) (x .moves))) (inj e))
-    where
-      inj : gives (heads (f .head) (x .head)) ≡ gives (heads g h) → heads (f .head) (x .head) ≡ heads g h
-      inj q = cc
+  pair-passed (gives f) (gives x) g h e =
+      let q = given-one e in
+      (f .moves, x .moves, ap (λ (p : Heads). gives (found (p .first) (f .moves))) q, ap (λ (p : Heads). gives (found (p .second) (x .moves))) q)
   pair-passed (gives f) (refuses r) g h e = refused-given e
   pair-passed (refuses r) t g h e = refused-given e
 
@@ -163,14 +162,11 @@ module _ (w : View) (v : ℕ) where
   size-inside s e =
       let t = onward-passed (headOf w v) (sizeAt w) s e in
       let k = check-passed (ltb 0 (w .size (t .0 .head)) && leb (w .size (t .0 .head)) (w .count)) unsound (gives (w .size (t .0 .head))) s (t .2) in
-      let q : w .size (t .0 .head) ≡ s = given-same (k .1) in (
+      let q : w .size (t .0 .head) ≡ s = given-one (k .1) in (
         head-inside w v (t .0) (t .1) .0,
         rw q at (ltb-true 0 (w .size (t .0 .head)) (and-first _ _ (k .0))),
         rw q at (leb-true (w .size (t .0 .head)) (w .count) (and-second (ltb 0 (w .size (t .0 .head))) _ (k .0))),
       )
-    where
-      given-same : {a b : ℕ} → gives a ≡ gives b → a ≡ b
-      given-same p = cc
 
   -- ---- the step limit
   module _ (r : Reading) (e : saysReading r ≡ groupSize w v) where

@@ -1,7 +1,7 @@
 -- Laws of what a call says: a check, a call that goes on from another, and the two areas' check. Assumes nothing.
-use mathlib.Core.Path.{_≡_, refl, sym, ap, _∙_}
+use mathlib.Core.Path.{_≡_, refl, sym, ap}
 use mathlib.Core.List.{List}
-use mathlib.Core.Bool.{Bool, true, false, cond, not, _&&_, false≢true}
+use mathlib.Core.Bool.{Bool, true, false, not, false≢true}
 use Prim.Native.Nat.{ℕ, _≤_, _<_}
 use native.Mathlib.Omega.{arith}
 use lib.ListN.{length}
@@ -24,6 +24,9 @@ held false e = absurd (false≢true (sym e))
 
 pub refused-given {ℓ} : {X : Type ℓ} {A : Type 0} {r : Refusal} {x : A} → refuses r ≡ gives x → X
 refused-given e = absurd (let z : _≡_ {A = ℕ} 0 1 = cc in omega arith)
+
+pub given-one : {A : Type 0} {x y : A} → gives x ≡ gives y → x ≡ y
+given-one e = cc
 
 module _ {A : Type 0} (t : Bool) (number : ℕ) (s : Said A) where
   pub check-on : t ≡ true → check t number s ≡ s

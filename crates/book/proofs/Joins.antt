@@ -2,16 +2,16 @@
 use mathlib.Core.Path.{_≡_, refl, sym, ap, _∙_}
 use mathlib.Core.List.{List}
 use mathlib.Core.Bool.{Bool, true, false, not, _&&_}
-use Prim.Native.Nat.{ℕ, zero, suc, _+_, _-_, _≤_, _<_}
+use Prim.Native.Nat.{ℕ, _+_, _-_, _≤_, _<_}
 use native.Mathlib.Omega.{arith}
 use lib.ListN.{length, getD}
-use lib.Dec.{leb, ltb, eqb}
+use lib.Dec.{leb, ltb}
 use borrow.Author.Tests.{leb-true, lt-ltb, le-ltb, le-leb, lt-leb, eq-eqb, ne-eqb}
 use Rattle.basis.specs.declared.refusal.Refusal.{Refusal}
-use Rattle.basis.specs.Refusal.{Said, gives, refuses, plain, unsound}
+use Rattle.basis.specs.Refusal.{gives, refuses, plain, unsound}
 use Rattle.basis.proofs.Tests.{and-second, and-both, and-off, same-test}
 use Rattle.book.specs.declared.Pair.{Pair}
-use Rattle.book.specs.Rules.{View, Heads, heads, Step, already, merge, Joining, merged, same, Done, done, check, onward, above, mergeable, mergeHeads, linkHeads, headsOf, decide, writeBook, joinBook}
+use Rattle.book.specs.Rules.{View, Heads, heads, Step, already, merge, Joining, same, Done, done, check, onward, above, mergeable, mergeHeads, linkHeads, headsOf, decide, writeBook, joinBook}
 use Rattle.book.specs.Two.{Areas, areas, two, twoBook}
 use Rattle.book.specs.Steps.{saysPair, linkTwo, hangTwo}
 use Rattle.book.proofs.Checks.{failed, held, check-on, check-off, fits-same}

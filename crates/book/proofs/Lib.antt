@@ -6,6 +6,7 @@ pub mod Powers
 pub mod Calls
 pub mod Areas
 pub mod Joins
+pub mod Answers
 pub mod Forest
 pub mod Faithful
 pub mod Book

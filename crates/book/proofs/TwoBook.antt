@@ -1,19 +1,17 @@
 -- The book of two areas meets the equations, so demand 3 holds of it. Assumes nothing.
-use mathlib.Core.Path.{_≡_, refl, sym, ap, ap₂, _∙_}
-use mathlib.Core.List.{List, [], _∷_}
-use mathlib.Core.Bool.{true, false}
-use Prim.Native.Nat.{ℕ, zero, suc, _+_, _≤_, _<_}
+use mathlib.Core.Path.{_≡_, sym, ap, _∙_}
+use Prim.Native.Nat.{ℕ}
 use native.Mathlib.Omega.{arith}
 use lib.ListN.{length, getD, set, replicate, length-set, length-replicate, getD-replicate}
 use lib.Seq.{getD-set-same, getD-set-other}
-use Rattle.book.specs.Rules.{stop, to, View, Machine}
+use Rattle.book.specs.Rules.{to}
 use Rattle.basis.specs.Area.{column}
 use Rattle.basis.proofs.Areas.{column-length, column-at}
 use Rattle.book.specs.Two.{nextIn, fits, two, twoBook}
 use Rattle.book.specs.Series.{Demand3Two}
 use Rattle.book.proofs.Checks.{fits-of, fits-same, fits-within}
 use Rattle.book.proofs.Walks.{next-head, next-other}
-use Rattle.book.proofs.Faithful.{Mergeable, Faithful}
+use Rattle.book.proofs.Faithful.{Faithful}
 use Rattle.book.proofs.Series.{demand3}
 
 pub faithful-two : Faithful twoBook

@@ -1,15 +1,13 @@
 -- Laws of the walk, a move at a time. Assumes nothing.
 use mathlib.Core.Path.{_≡_, refl, sym, ap, _∙_}
 use mathlib.Core.List.{List}
-use mathlib.Core.Bool.{Bool, true, false}
 use Prim.Native.Nat.{ℕ, zero, suc, _+_, _-_, _≤_, _<_}
 use native.Mathlib.Omega.{arith}
-use native.Mathlib.Decide.{decLt}
 use lib.ListN.{length, getD}
 use lib.Dec.{ltb}
 use borrow.Author.Tests.{ltb-true, lt-ltb, le-ltb, eq-eqb, ne-eqb}
 use Rattle.basis.specs.declared.refusal.Refusal.{Refusal}
-use Rattle.basis.specs.Refusal.{Said, gives, refuses, plain, unsound}
+use Rattle.basis.specs.Refusal.{gives, refuses, plain, unsound}
 use Rattle.book.specs.Rules.{Next, stop, to, Found, found, check, walk, walkFrom}
 use Rattle.book.specs.Two.{nextIn}
 use Rattle.book.proofs.Checks.{refused-given, check-on, check-off, check-passed}

@@ -1,12 +1,11 @@
 -- P12, computed on the definitions.
 use mathlib.Core.Path.{_≡_, refl}
-use mathlib.Core.List.{List, [], _∷_}
-use Prim.Native.Nat.{ℕ}
+use mathlib.Core.List.{[], _∷_}
 use Rattle.basis.specs.Refusal.{gives, refuses, plain, noRoom}
 use Rattle.basis.specs.Area.{column}
 use Rattle.book.specs.Rules.{walk, walkFrom, above, mergeable, mergeHeads, linkHeads, headsOf, decide, openBook, writeBook, joinBook, groupCount, tally}
 use Rattle.book.specs.Two.{Areas, areas, nextIn, fits, two, twoBook}
-use Rattle.book.specs.Series.{Call, Answer, State, state, slip, after, answer, run}
+use Rattle.book.specs.Series.{Call, Answer, State, state, after, answer, run}
 
 -- "four vertices, joins 0-1, 2-3, 1-3": the areas hold anything before the opening
 abbrev pub p12 : State Areas

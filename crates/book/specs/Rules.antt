@@ -35,6 +35,7 @@ pub record Found : Type 0 where
 abbrev pub found : ℕ → ℕ → Found
 found h k = record { head = h; moves = k }
 
+-- one look at the parent: what is said here, at a head, or further on
 abbrev pub follow : Next → Said Found → (ℕ → Said Found) → Said Found
 follow stop here on = here
 follow (to p) here on = on p
@@ -44,11 +45,13 @@ unfoldable pub walk : (ℕ → Next) → ℕ → ℕ → ℕ → ℕ → Said Fo
 walk next n zero moves at = follow (next at) (gives (found at moves)) (λ p. refuses (plain unsound))
 walk next n (suc left) moves at = follow (next at) (gives (found at moves)) (λ p. check (ltb p n) unsound (walk next n left (moves + 1) p))
 
+-- the walk from v, of at most 16 moves
 unfoldable pub walkFrom : (ℕ → Next) → ℕ → ℕ → Said Found
 walkFrom next n v = walk next n 16 0 v
 
 -- ---- calls that read; "Checks: 8, then 10, then 9"
 
+-- "head, with the number of moves"
 unfoldable pub headOf : View → ℕ → Said Found
 headOf w v = check (w .fit) noRoom (check (ltb v (w .count)) notThere (walkFrom (w .next) (w .count) v))
 
@@ -60,11 +63,13 @@ pub record Heads : Type 0 where
 abbrev pub heads : ℕ → ℕ → Heads
 heads g h = record { first = g; second = h }
 
+-- two walks that both end give both heads
 abbrev pub pair : Said Found → Said Found → Said Heads
 pair (gives f) (gives g) = gives (heads (f .head) (g .head))
 pair (gives f) (refuses r) = refuses r
 pair (refuses r) s = refuses r
 
+-- the heads of two vertices: both are checked for 10 before any walk
 unfoldable pub headsOf : View → ℕ → ℕ → Said Heads
 headsOf w u v =
     check (w .fit) noRoom
@@ -72,6 +77,7 @@ headsOf w u v =
     (check (ltb v (w .count)) notThere
     (pair (walkFrom (w .next) (w .count) u) (walkFrom (w .next) (w .count) v))))
 
+-- whether two heads are one
 abbrev pub oneHead : Heads → Said Bool
 oneHead p = gives (eqb (p .first) (p .second))
 
@@ -92,6 +98,7 @@ unfoldable pub tally : (ℕ → Bool) → ℕ → ℕ
 tally p zero = 0
 tally p (suc n) = cond (p n) (suc (tally p n)) (tally p n)
 
+-- a head
 abbrev pub isStop : Next → Bool
 isStop stop = true
 isStop (to p) = false
@@ -105,6 +112,7 @@ unfoldable pub largest : ℕ → ℕ → ℕ
 largest zero s = 0
 largest (suc k) s = cond (leb (2 ^ suc k) s) (suc k) (largest k s)
 
+-- no size that is given passes 65,536, which is 2 to the 16
 abbrev pub limitOf : ℕ → Said ℕ
 limitOf s = gives (largest 16 s)
 
@@ -138,11 +146,13 @@ linkHeads w p =
     cond (eqb (p .first) (p .second)) (gives already)
     (check (mergeable (w .count) (w .size (p .first)) (w .size (p .second))) unsound (gives (mergeHeads (w .size (p .first)) (w .size (p .second)) (p .first) (p .second))))
 
+-- "A join finds both heads": what it does then, or why it is refused
 unfoldable pub decide : View → ℕ → ℕ → Said Step
 decide w u v = onward (headsOf w u v) (linkHeads w)
 
 -- ---- a form of book: its areas, what they show, and what an opening and a merge write to them
 
+-- a book in any form of areas
 pub record Machine : Type 1 where
   pub Area : Type 0
   pub view : Area → View
@@ -157,7 +167,7 @@ pub record Done (A B : Type 0) : Type 0 where
 abbrev pub done : {A B : Type 0} → Said A → B → Done A B
 done s a = record { said = s; area = a }
 
--- "Refused book calls change nothing"
+-- "opening again starts a new series", whatever the areas hold; "Refused book calls change nothing"
 unfoldable pub openBook : (M : Machine) → M .Area → Done (Unit {0}) (M .Area)
 openBook M a = cond (M .view a .fit) (done (gives tt) (M .opened a)) (done (refuses (plain noRoom)) a)
 
@@ -166,10 +176,12 @@ pub data Joining : Type 0 where
   merged : Joining
   same : Joining
 
+-- what a join writes: where it finds one group or is refused "nothing changes"
 unfoldable pub writeBook : (M : Machine) → Said Step → M .Area → Done Joining (M .Area)
 writeBook M (gives already) a = done (gives same) a
 writeBook M (gives (merge top under total)) a = done (gives merged) (M .merged top under total a)
 writeBook M (refuses r) a = done (refuses r) a
 
+-- a join of u and v
 unfoldable pub joinBook : (M : Machine) → M .Area → ℕ → ℕ → Done Joining (M .Area)
 joinBook M a u v = writeBook M (decide (M .view a) u v) a

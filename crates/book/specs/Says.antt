@@ -9,6 +9,7 @@ use Rattle.book.specs.declared.Headed.{Headed}
 use Rattle.book.specs.declared.Compared.{Compared}
 use Rattle.book.specs.declared.Reading.{Reading}
 
+-- an opening gives no value
 abbrev pub saysOpened : Opened → Said (Unit {0})
 saysOpened Opened.Ready = gives tt
 saysOpened (Opened.Refused r) = refuses r

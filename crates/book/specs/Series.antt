@@ -1,9 +1,9 @@
 -- A series of calls on one book, and demand 3: what holds after every series.
 use mathlib.Core.Path.{_≡_}
 use mathlib.Core.List.{List, [], _∷_, List·Memᴰ}
-use mathlib.Core.Bool.{Bool, true, false}
+use mathlib.Core.Bool.{Bool, true}
 use mathlib.Core.Logic.{_↔_}
-use Prim.Native.Nat.{ℕ, zero, suc, _-_, _^_, _≤_, _<_}
+use Prim.Native.Nat.{ℕ, suc, _-_, _^_, _≤_, _<_}
 use lib.ListN.{length}
 use lib.Dec.{eqb}
 use Rattle.basis.specs.declared.refusal.Refusal.{Refusal}
@@ -53,11 +53,13 @@ abbrev pub afterOpen : {B : Type 0} → Said (Unit {0}) → B → State B → St
 afterOpen (gives x) a s = state a (gives x) [] 0
 afterOpen (refuses r) a s = state a (refuses r) (s .slips) (s .merges)
 
+-- an accepted join is put on the list, and counted where it merged
 abbrev pub afterJoin : {B : Type 0} → ℕ → ℕ → Said Joining → B → State B → State B
 afterJoin u v (gives merged) a s = state a (s .latest) (slip u v ∷ s .slips) (suc (s .merges))
 afterJoin u v (gives same) a s = state a (s .latest) (slip u v ∷ s .slips) (s .merges)
 afterJoin u v (refuses r) a s = state a (s .latest) (s .slips) (s .merges)
 
+-- the state that a call leaves
 unfoldable pub after : (M : Machine) → State (M .Area) → Call → State (M .Area)
 after M s opening = let d = openBook M (s .area) in afterOpen (d .said) (d .area) s
 after M s (joining u v) = let d = joinBook M (s .area) u v in afterJoin u v (d .said) (d .area) s

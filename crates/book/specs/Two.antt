@@ -7,6 +7,7 @@ use lib.Dec.{leb, eqb}
 use Rattle.basis.specs.Area.{column}
 use Rattle.book.specs.Rules.{Next, stop, to, View, Machine}
 
+-- the two areas as they stand
 pub record Areas : Type 0 where
   pub parents : List ℕ
   pub sizes : List ℕ
@@ -22,6 +23,7 @@ nextIn ps v = cond (eqb (getD ps v 0) v) stop (to (getD ps v 0))
 unfoldable pub fits : List ℕ → List ℕ → Bool
 fits ps ss = leb (length ps) 65536 && eqb (length ss) (length ps)
 
+-- what the two areas show
 unfoldable pub two : List ℕ → List ℕ → View
 two ps ss = record { fit = fits ps ss; count = length ps; next = nextIn ps; size = λ v. getD ss v 0 }
 

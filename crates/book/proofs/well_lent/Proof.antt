@@ -1,4 +1,3 @@
-use borrow.Author.Needs.{needs}
 use Rattle.book.proofs.Checks.{fits-long, fits-lengths}
 use Rattle.book.proofs.well_lent.Statement.{statement}
 use Rattle.book.proofs.well_lent.Tie as tie

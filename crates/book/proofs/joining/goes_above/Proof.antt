@@ -1,4 +1,3 @@
-use borrow.Author.Needs.{needs}
 use Rattle.book.proofs.Joins.{above-larger, above-smaller, above-equal}
 use Rattle.book.proofs.joining.goes_above.Statement.{statement}
 use Rattle.book.proofs.joining.goes_above.Tie as tie

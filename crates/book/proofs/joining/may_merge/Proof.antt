@@ -1,4 +1,3 @@
-use borrow.Author.Needs.{needs}
 use Rattle.book.proofs.Joins.{mergeable-zero, mergeable-zero2, mergeable-large, mergeable-rest}
 use Rattle.book.proofs.joining.may_merge.Statement.{statement}
 use Rattle.book.proofs.joining.may_merge.Tie as tie

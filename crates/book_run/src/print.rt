@@ -1,0 +1,102 @@
+// What the cases print, on standard output.
+use basis::Refusal;
+use book::Compared;
+use book::Headed;
+use book::Joined;
+use book::Opened;
+use book::Reading;
+
+pub fn words(text: &[u8]) {
+    io::write_all(1, text);
+}
+
+pub fn number(n: usize) {
+    io::print_decimal(1, n as u64);
+}
+
+fn refused(r: Refusal) {
+    words(b"refused ");
+    number(r.number);
+    words(b" ");
+    number(r.file);
+    words(b" ");
+    number(r.line);
+}
+
+pub fn opened(answer: Opened) {
+    match answer {
+        Opened::Ready => words(b"ready"),
+        Opened::Refused(r) => refused(r),
+    }
+}
+
+pub fn joined(answer: Joined) {
+    match answer {
+        Joined::Merged => words(b"merged"),
+        Joined::Already => words(b"one group already"),
+        Joined::Refused(r) => refused(r),
+    }
+}
+
+pub fn headed(answer: Headed) {
+    match answer {
+        Headed::Head(h, moves) => {
+            number(h);
+            words(b" in ");
+            number(moves);
+        }
+        Headed::Refused(r) => refused(r),
+    }
+}
+
+pub fn compared(answer: Compared) {
+    match answer {
+        Compared::Together => words(b"one group"),
+        Compared::Apart => words(b"two groups"),
+        Compared::Refused(r) => refused(r),
+    }
+}
+
+pub fn reading(answer: Reading) {
+    match answer {
+        Reading::Value(k) => number(k),
+        Reading::Refused(r) => refused(r),
+    }
+}
+
+// The numbers of an area, each after a space.
+pub fn area(a: [usize; 4]) {
+    words(b" ");
+    number(a[0]);
+    words(b" ");
+    number(a[1]);
+    words(b" ");
+    number(a[2]);
+    words(b" ");
+    number(a[3]);
+}
+
+// Whether two areas hold the same.
+pub fn same(a: [usize; 4], b: [usize; 4]) -> bool {
+    a[0] == b[0] && a[1] == b[1] && a[2] == b[2] && a[3] == b[3]
+}
+
+// Whether an area holds one value throughout.
+pub fn filled(a: &[usize], value: usize) -> bool {
+    let mut i = 0;
+    while i < a.len() {
+        if a[i] != value {
+            return false;
+        }
+        i += 1;
+    }
+    true
+}
+
+pub fn stayed(yes: bool) {
+    if yes {
+        words(b", areas as they were\n");
+    } else {
+        words(b", areas changed\n");
+    }
+}
