@@ -2,3 +2,5 @@
 pub mod Rings
 pub mod Boards
 pub mod Queue
+pub mod Serving
+pub mod Calls

@@ -1,9 +1,12 @@
 // BFS: least hops along outgoing arcs from a root, by a queue in which each vertex is served once.
-use basis::area::{clear, clear_signed, fill_signed};
+use basis::area::clear;
+use basis::area::clear_signed;
+use basis::area::fill_signed;
 use basis::order::same;
 use basis::refusal::NO_ROOM;
 use graph::part::part;
-use kernels::{Answer, refused};
+use kernels::Answer;
+use kernels::refused;
 ghost use mathlib.Core.Path.{_≡_};
 ghost use mathlib.Core.Bool.{true};
 ghost use Prim.Native.Nat.{ℕ, _<_};
@@ -107,7 +110,14 @@ fn refuse(number: usize, depth: &mut [i64], queue: &mut [usize]) -> Answer
 }
 
 // From a root that is there: the room is checked, then the depths stand in the first n places.
-fn from_root(n: usize, offsets: &[usize], targets: &[usize], root: usize, depth: &mut [i64], queue: &mut [usize]) -> Answer
+fn from_root(
+    n: usize,
+    offsets: &[usize],
+    targets: &[usize],
+    root: usize,
+    depth: &mut [i64],
+    queue: &mut [usize],
+) -> Answer
     requires { ⌜ Inside n (partOf n (now offsets) (now targets)) ⌝ }
     requires { ⌜ root < n ⌝ }
     ensures { λ r. ⌜ outcome (says r) (now (depth .exit)) (now (queue .exit)) ≡ fromRoot n (partOf n (now (offsets .entry)) (now (targets .entry))) root (now (depth .entry)) (now (queue .entry)) ⌝ }

@@ -1,3 +1,12 @@
+use Prim.Native.Nat.{ℕ}
+use mathlib.Core.Path.{_≡_, sym, _∙_, subst}
+use native.Mathlib.Omega.{arith}
+use lib.ListN.{length, take}
+use lib.Seq.{length-take-le}
+use denote.Ref.{now}
+use Rattle.graph.specs.Part.{partOf}
+use Rattle.bfs.specs.Steps.{Inside}
+use Rattle.bfs.proofs.Calls.{root-short, root-tight, root-done}
 use borrow.Author.Needs.{needs}
 use Rattle.bfs.proofs.from_root.Statement.{statement}
 use Rattle.bfs.proofs.from_root.Tie as tie
@@ -22,7 +31,7 @@ same-length-2 c = search needs
 
 -- src/lib.rt:116:9
 returns : tie.Need-returns
-returns c = ?
+returns c = search root-short
 
 -- src/lib.rt:119:9
 refuse-requires-2 : tie.Need-refuse-requires-2
@@ -38,7 +47,7 @@ same-length-4 c = search needs
 
 -- src/lib.rt:119:9
 returns-2 : tie.Need-returns-2
-returns-2 c = ?
+returns-2 c = search root-tight
 
 -- src/lib.rt:121:36
 slice-relend-prefix-search : tie.Need-slice-relend-prefix-search
@@ -46,7 +55,7 @@ slice-relend-prefix-search c = search needs
 
 -- src/lib.rt:121:36
 slice-aggregate-search : tie.Need-slice-aggregate-search
-slice-aggregate-search c = ?
+slice-aggregate-search c = sym (length-take-le _ _ (omega arith))
 
 -- src/lib.rt:121:53
 slice-relend-prefix-search-2 : tie.Need-slice-relend-prefix-search-2
@@ -54,11 +63,17 @@ slice-relend-prefix-search-2 c = search needs
 
 -- src/lib.rt:121:53
 slice-aggregate-search-2 : tie.Need-slice-aggregate-search-2
-slice-aggregate-search-2 c = ?
+slice-aggregate-search-2 c = sym (length-take-le _ _ (omega arith))
 
 -- src/lib.rt:121:5
 search-requires : tie.Need-search-requires
-search-requires c κs = ?
+search-requires c κs =
+    let s = c .before .before .before .before .before .before .before in
+    let d : length (take (s .args .n) (now (s .args .depth))) ≡ s .args .n = length-take-le _ _ (c .before .before .before .if1 .left) in
+    let q : length (take (s .args .n) (now (s .args .queue))) ≡ s .args .n = length-take-le _ _ (c .before .before .if2 .left) in (
+      subst (λ (m : ℕ). Inside m (partOf m (now (s .args .offsets)) (now (s .args .targets)))) (sym d) (s .pre .0),
+      (omega (arith, d, s .pre .1), q ∙ sym d),
+    )
 
 -- src/lib.rt:122:18
 mul-clear-signed : tie.Need-mul-clear-signed
@@ -94,7 +109,9 @@ same-length-6 c = search needs
 
 -- src/lib.rt:110:1
 returns-3 : tie.Need-returns-3
-returns-3 c = ?
+returns-3 c =
+    let f = c .before .before .before .before .before .before .before .before .before .before .search in
+    root-done _ _ _ _ _ _ _ (f .last .1 .1 .1 .1 .0) _ _ (c .before .before .before .before .before .before .before .before .before .before .before .before .before .before .if1 .left) (c .before .before .before .before .before .before .before .before .before .before .before .before .before .if2 .left) (f .ensures) (f .kept .1 .1 .1 .1 .0) (c .before .before .before .before .before .clear-signed .ensures) (c .before .before .clear .ensures)
 
 pub from-root-spec : {M : Type 1} → statement M
 from-root-spec =

@@ -1,3 +1,4 @@
+use Rattle.bfs.proofs.Calls.{outcomes}
 use borrow.Author.Needs.{needs}
 use Rattle.bfs.proofs.refuse.Statement.{statement}
 use Rattle.bfs.proofs.refuse.Tie as tie
@@ -29,7 +30,7 @@ same-length-2 c = search needs
 
 -- src/lib.rt:101:1
 returns : tie.Need-returns
-returns c = ?
+returns c = outcomes (c .refused .ensures) (c .before .before .before .before .before .before .clear-signed .ensures) (c .before .before .before .clear .ensures)
 
 pub refuse-spec : {M : Type 1} → statement M
 refuse-spec =

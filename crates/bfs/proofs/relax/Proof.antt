@@ -73,7 +73,7 @@ same-length-2 c = search needs
 
 -- src/lib.rt:35:1
 returns : tie.Need-returns
-returns c = 
+returns c =
     let a = c .before .before .before .before .before .args in
     ap (λ (z : ℤ). board (set (now (a .depth)) (a .w) z) (set (now (a .queue)) (a .tail) (a .w)) (a .tail + 1)) (ap (λ (z : ℤ). toZ w64 (ofZ w64 z)) (c .signed .ensures) ∙ toZ-pos w64 (omega arith))
     ∙ sym (relaxed-new _ _ _ (sym (told (c .before .before)) ∙ c .before .if1 .taken))

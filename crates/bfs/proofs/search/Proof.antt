@@ -1,3 +1,9 @@
+use Prim.Native.Nat.{_-_}
+use mathlib.Core.Path.{sym, _∙_}
+use native.Mathlib.Omega.{arith}
+use Rattle.graph.specs.Part.{partOf}
+use Rattle.bfs.specs.Steps.{board}
+use Rattle.bfs.proofs.Serving.{Serving, serving-ready, serving-begin, serving-level, serving-room, serving-tail, serving-deeper, serving-part, serving-more, serving-end}
 use Rattle.bfs.proofs.search.Statement.{statement}
 use Rattle.bfs.proofs.search.Tie as tie
 use Rattle.bfs.proofs.search.Reads as reads
@@ -9,70 +15,68 @@ use Rattle.bfs.proofs.walk.Reads as walk-reads
 use Rattle.graph.proofs.part.part.Reads as part-reads
 
 abbrev Inv-loop : tie.InvT-loop
-Inv-loop offsets targets root depth₀ queue₀ n tail₀ head₀ ring₀ depth queue tail head ring = ?
+Inv-loop offsets targets root depth₀ queue₀ n tail₀ head₀ ring₀ depth queue tail head ring =
+    Serving n (partOf n offsets targets) root (board depth queue tail) ring head
 
 abbrev μ-loop : tie.MeasureT-loop
-μ-loop offsets targets root depth₀ queue₀ n tail₀ head₀ ring₀ depth queue tail head ring = ?
+μ-loop offsets targets root depth₀ queue₀ n tail₀ head₀ ring₀ depth queue tail head ring = n - head
 
--- src/lib.rt:87:5
 fill-signed-requires : tie.Need-fill-signed-requires Inv-loop μ-loop
-fill-signed-requires c κs = ?
+fill-signed-requires c κs = tt
 
--- src/lib.rt:88:9
 relax-requires : tie.Need-relax-requires Inv-loop μ-loop
-relax-requires c κs = ?
+relax-requires c κs =
+    let s = c .before .before .before .before .before .before .before .before in
+    let f = c .before .before .before .fill-signed in
+    (serving-ready _ _ _ (s .pre .0) (s .pre .1 .0) (omega arith) _ _ (f .ensures) (s .pre .1 .1), (omega (arith, f .kept .0), omega arith))
 
--- src/lib.rt:91:5
 loop-holds : tie.Need-loop-holds Inv-loop μ-loop
-loop-holds c = ?
+loop-holds c =
+    let s = c .before .before .before .before .before .before .before .before .before .before .before .before in
+    serving-begin _ _ _ (s .pre .0) (s .pre .1 .0) (omega arith) _ _ (c .before .before .before .before .before .before .before .fill-signed .ensures) (s .pre .1 .1) _ (c .before .before .before .relax .ensures)
 
--- src/lib.rt:92:9
 advance-requires : tie.Need-advance-requires Inv-loop μ-loop
-advance-requires c κs = ?
+advance-requires c κs = serving-level _ _ _ _ _ _ (c .before .loop .inv)
 
--- src/lib.rt:94:46
 mul-part : tie.Need-mul-part Inv-loop μ-loop
-mul-part c = ?
+mul-part c = omega (arith, serving-tail _ _ _ _ _ _ (c .before .before .loop .inv))
 
--- src/lib.rt:94:46
 slice-read-part : tie.Need-slice-read-part Inv-loop μ-loop
-slice-read-part c = ?
+slice-read-part c = let v = c .before .before .before .loop .inv in omega (arith, serving-tail _ _ _ _ _ _ v, serving-room _ _ _ _ _ _ v)
 
--- src/lib.rt:94:13
 part-requires : tie.Need-part-requires Inv-loop μ-loop
-part-requires c κs = ?
+part-requires c κs = tt
 
--- src/lib.rt:95:47
 add-walk : tie.Need-add-walk Inv-loop μ-loop
-add-walk c = ?
+add-walk c = omega (arith, serving-deeper _ _ _ _ _ _ (c .before .before .before .before .before .before .loop .inv) (c .before .before .before .before .before .loop-test .taken) _ (c .before .before .before .before .advance .ensures))
 
--- src/lib.rt:95:9
 walk-requires : tie.Need-walk-requires Inv-loop μ-loop
-walk-requires c κs = ?
+walk-requires c κs = (
+  c .before .before .before .before .before .before .loop .inv .inv .ready,
+  (
+    rw (c .before .before .part .ensures) (serving-part _ _ _ _ _ _ (c .before .before .before .before .before .before .loop .inv) (c .before .before .before .before .before .loop-test .taken) _ (c .before .before .before .before .advance .ensures)),
+    serving-deeper _ _ _ _ _ _ (c .before .before .before .before .before .before .loop .inv) (c .before .before .before .before .before .loop-test .taken) _ (c .before .before .before .before .advance .ensures),
+  ),
+)
 
--- src/lib.rt:96:9
 add-head : tie.Need-add-head Inv-loop μ-loop
-add-head c = ?
+add-head c = let v = c .before .before .before .before .before .before .before .before .before .before .loop .inv in omega (arith, serving-tail _ _ _ _ _ _ v)
 
--- src/lib.rt:91:5
 loop-less : tie.Need-loop-less Inv-loop μ-loop
-loop-less c = ?
+loop-less c = let v = c .before .before .before .before .before .before .before .before .before .before .loop .inv in omega (arith, serving-tail _ _ _ _ _ _ v)
 
--- src/lib.rt:91:5
 loop-again : tie.Need-loop-again Inv-loop μ-loop
-loop-again c = ?
+loop-again c =
+    serving-more _ _ _ _ _ _ (c .before .before .before .before .before .before .before .before .before .before .loop .inv) (c .before .before .before .before .before .before .before .before .before .loop-test .taken) _ (c .before .before .before .before .before .before .before .before .advance .ensures) _ (c .before .before .before .before .before .before .part .ensures) _ (c .before .before .before .walk .ensures)
 
--- src/lib.rt:81:1
 same-length : tie.Need-same-length Inv-loop μ-loop
-same-length c = ?
+same-length c = c .before .loop .inv .len
 
--- src/lib.rt:81:1
 same-length-2 : tie.Need-same-length-2 Inv-loop μ-loop
-same-length-2 c = ?
+same-length-2 c = serving-room _ _ _ _ _ _ (c .before .loop .inv) ∙ sym (c .before .before .before .before .before .before .before .before .before .before .before .before .before .before .pre .1 .1)
 
--- src/lib.rt:81:1
 returns : tie.Need-returns Inv-loop μ-loop
-returns c = ?
+returns c = serving-end _ _ _ _ _ _ (c .before .loop .inv) (c .loop-test .left)
 
 pub search-spec : {M : Type 1} → statement M
 search-spec =

@@ -12,7 +12,7 @@ use Rattle.bfs.proofs.walk.Lts as lts
 use Rattle.bfs.proofs.relax.Reads as relax-reads
 
 abbrev Inv-loop : tie.InvT-loop
-Inv-loop next depth₀ queue₀ tail d end₀ i₀ depth queue end i = 
+Inv-loop next depth₀ queue₀ tail d end₀ i₀ depth queue end i =
     (i ≤ length next) × Walking d next (board depth₀ queue₀ tail) (board depth queue end) i
 
 abbrev μ-loop : tie.MeasureT-loop
@@ -32,7 +32,10 @@ shared-slice-read-relax c = search needs
 
 -- src/lib.rt:58:9
 relax-requires : tie.Need-relax-requires Inv-loop μ-loop
-relax-requires c κs = ?
+relax-requires c κs =
+    let l = c .before .before .before .before in
+    let s = l .before .before .before in
+    (l .loop .inv .1 .ready, (walking-low _ _ _ _ _ (l .loop .inv .1) (s .pre .1 .0) (omega arith), s .pre .1 .1))
 
 -- src/lib.rt:59:9
 add-i : tie.Need-add-i Inv-loop μ-loop
@@ -44,7 +47,7 @@ loop-less c = search needs
 
 -- src/lib.rt:57:5
 loop-again : tie.Need-loop-again Inv-loop μ-loop
-loop-again c = 
+loop-again c =
     let l = c .before .before .before .before .before .before .before .before in
     (omega arith, walking-more _ _ _ _ _ (l .loop .inv .1) _ (l .before .before .before .pre .1 .0) (l .before .before .before .pre .1 .1) (omega arith) (c .before .before .before .relax .ensures))
 
