@@ -4,3 +4,4 @@ pub mod Boards
 pub mod Queue
 pub mod Serving
 pub mod Calls
+pub mod Meaning

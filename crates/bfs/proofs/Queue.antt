@@ -21,7 +21,7 @@ use Rattle.bfs.specs.declared.Ring.{Ring}
 use Rattle.bfs.specs.Depth.{infinity, unreachable, depthOf, depths}
 use Rattle.bfs.specs.Steps.{Inside, Board, board, isFar, entered, relaxed, walked, seen, Ready, advanced}
 use Rattle.bfs.proofs.Boards.{seen-le, seen-none, far-mark, mark-far, relaxed-new, relaxed-old, room-more, ready-relaxed}
-use Rattle.bfs.proofs.Rings.{Reached, ring-root, ring-first, ring-next, ring-from, ring-below, depth-found, depth-none}
+use Rattle.bfs.proofs.Rings.{Reached, ring-root, ring-first, ring-next, ring-from, ring-below, First, depth-found, depth-none}
 
 le-of-lt-add-one : {i n : ℕ} → i < n + 1 → i ≤ n
 le-of-lt-add-one h = omega arith
@@ -353,15 +353,29 @@ module _ (out : ℕ → List ℕ) (s : ℕ) where
         let m = closed-at u y x (f .2) in
         record { hops = m .hops; here = m .here; most = omega (arith, m .most, r .most); real = m .real }
 
+    -- a vertex has no depth and no ring has it, or its depth is the first ring that has it
+    pub settled : (x : ℕ) → x < length (S .depth)
+        → ((getD (S .depth) x (pos 0) ≡ unreachable) × ((i : ℕ) → Reached out s i x → ⊥)) ⊎ ((k : ℕ) × (getD (S .depth) x (pos 0) ≡ pos k) × First out s (length (S .depth)) x k)
+    settled x l =
+        ⊎-elim
+        (λ a. inl (a, λ i p. let r = reached i x p in let z : r .hops ≡ infinity = cc (r .here) in omega (arith, r .real)))
+        (λ k.
+        inr
+        (
+          k .hops,
+          k .here,
+          record {
+            here = k .way;
+            least = λ i p. let r = reached i x p in let z : r .hops ≡ k .hops = cc (r .here, k .here) in omega (arith, r .most);
+            below = omega (arith, k .short, tail-le S d h e v);
+          },
+        ))
+        (v .form x l)
+
     right : (x : ℕ) → x < length (S .depth) → getD (S .depth) x (pos 0) ≡ depthOf (length (S .depth)) out s x
     right x l =
-        ⊎-elim
-        (λ a. a ∙ sym (depth-none out s (length (S .depth)) x (λ i p. let r = reached i x p in let z : r .hops ≡ infinity = cc (r .here) in omega (arith, r .real))))
-        (λ k.
-        k .here
-        ∙ sym (depth-found out s (length (S .depth)) x (k .hops) (omega (arith, k .short, tail-le S d h e v)) (k .way)
-        (λ i p. let r = reached i x p in let z : r .hops ≡ k .hops = cc (r .here, k .here) in omega (arith, r .most))))
-        (v .form x l)
+        ⊎-elim (λ a. a .0 ∙ sym (depth-none out s (length (S .depth)) x (a .1))) (λ a. a .1 ∙ sym (depth-found out s (length (S .depth)) x (a .0) (a .2)))
+        (settled x l)
 
     pub finish : S .depth ≡ depths (length (S .depth)) out s
     finish = sym (column-is (depthOf (length (S .depth)) out s) (pos 0) (S .depth) (length (S .depth)) refl right)

@@ -79,14 +79,20 @@ module _ (out : ℕ → List ℕ) where
     ring-below n inside low (suc k) v m =
         let r = ring-from k v m in below-mem n (out (r .0)) (inside (r .0) (ring-below n inside low k (r .0) (r .1))) v (r .2)
 
-    -- ring k has v and none before it does: the depth is k
-    pub depth-found : (n v k : ℕ) → k < n → Reached k v → ((i : ℕ) → Reached i v → k ≤ i) → depthOf n out root v ≡ pos k
-    unfolding depthOf
-    depth-found n v k h m least =
-        least-found (λ i. mem v (ring out root i)) n 0 k (omega arith) (omega arith) m
-        (λ i a b. false-of (mem v (ring out root i)) (λ t. omega (arith, least i t)))
+    -- ring k, of the first n, has v and none before it does
+    pub record First (n v k : ℕ) : Type 0 where
+      pub here : Reached k v
+      pub least : (i : ℕ) → Reached i v → k ≤ i
+      pub below : k < n
 
-    -- no ring has v: it is unreachable
+    -- the depth is the first ring that has v
+    pub depth-found : (n v k : ℕ) → First n v k → depthOf n out root v ≡ pos k
+    unfolding depthOf
+    depth-found n v k f =
+        least-found (λ i. mem v (ring out root i)) n 0 k (omega arith) (omega (arith, f .below)) (f .here)
+        (λ i a b. false-of (mem v (ring out root i)) (λ t. omega (arith, f .least i t)))
+
+    -- v is unreachable where no ring has it
     pub depth-none : (n v : ℕ) → ((i : ℕ) → Reached i v → ⊥) → depthOf n out root v ≡ unreachable
     unfolding depthOf
     depth-none n v none = least-none (λ i. mem v (ring out root i)) n 0 (λ i. false-of (mem v (ring out root i)) (none i))

@@ -1,6 +1,7 @@
 -- The search over a graph of n vertices, turn by turn: what its loop keeps, in the order in which the code asks. Assumes nothing.
 use Prim.Native.Nat.{ℕ, _+_, _≤_, _<_}
 use mathlib.Core.Path.{_≡_, refl, sym, ap, _∙_, subst}
+use mathlib.Core.Logic.{_⊎_, inl, inr, ⊎-elim}
 use mathlib.Core.Bool.{true}
 use mathlib.Core.List.{List}
 use native.Mathlib.Omega.{arith}
@@ -10,7 +11,8 @@ use Rattle.basis.specs.Scan.{allBelow}
 use Rattle.bfs.specs.declared.Ring.{Ring}
 use Rattle.bfs.specs.Depth.{infinity, unreachable, depths}
 use Rattle.bfs.specs.Steps.{Inside, Board, board, relaxed, walked, Ready, advanced}
-use Rattle.bfs.proofs.Queue.{Inv, tail-le, Turned, advance-inv, serve, finish, begin, begin-ready}
+use Rattle.bfs.proofs.Rings.{Reached, First}
+use Rattle.bfs.proofs.Queue.{Inv, tail-le, Turned, advance-inv, serve, settled, finish, begin, begin-ready}
 
 -- the queue's invariant, with h places served, in a graph whose arcs stay among its n vertices
 pub record Serving (n : ℕ) (out : ℕ → List ℕ) (s : ℕ) (S : Board) (r : Ring) (h : ℕ) : Type 0 where
@@ -57,7 +59,14 @@ module _ (n : ℕ) (out : ℕ → List ℕ) (s : ℕ) (S : Board) (r : Ring) (h 
         (record { inside = k .inside; low = k .low; len = m .len ∙ k .len; inv = m .inv })
 
   -- ---- the end
-  pub serving-end : S .tail ≤ h → S .depth ≡ depths n out s
-  serving-end o =
-      finish out s S (r .level) h (r .end) (k .inv) o (subst (λ (m : ℕ). Inside m out) (sym (k .len)) (k .inside)) (omega (arith, k .low, k .len))
-      ∙ ap (λ (m : ℕ). depths m out s) (k .len)
+  module _ (over : S .tail ≤ h) where
+    whole : Inside (length (S .depth)) out
+    whole = subst (λ (m : ℕ). Inside m out) (sym (k .len)) (k .inside)
+
+    pub serving-end : S .depth ≡ depths n out s
+    serving-end = finish out s S (r .level) h (r .end) (k .inv) over whole (omega (arith, k .low, k .len)) ∙ ap (λ (m : ℕ). depths m out s) (k .len)
+
+    pub serving-settled : (v : ℕ) → v < n → ((i : ℕ) → Reached out s i v → ⊥) ⊎ ((j : ℕ) × First out s n v j)
+    serving-settled v l =
+        ⊎-elim (λ a. inl (a .1)) (λ a. inr (a .0, subst (λ (m : ℕ). First out s m v (a .0)) (k .len) (a .2)))
+        (settled out s S (r .level) h (r .end) (k .inv) over whole (omega (arith, k .low, k .len)) v (omega (arith, k .len)))
