@@ -5,3 +5,4 @@ pub mod Queue
 pub mod Serving
 pub mod Calls
 pub mod Meaning
+pub mod Examples

@@ -11,11 +11,12 @@ use lib.IntN.{ℤ, pos}
 use lib.ListN.{length, getD, replicate, length-replicate}
 use Rattle.basis.specs.Scan.{mem}
 use Rattle.graph.specs.Sound.{Graph, outward, soundGraph}
-use Rattle.graph.proofs.Sounds.{Sound, sound-of, outward-below}
+use Rattle.graph.proofs.Sounds.{sound-of}
 use Rattle.bfs.specs.declared.Ring.{Ring}
 use Rattle.bfs.specs.Depth.{infinity, unreachable, ring, depthOf}
 use Rattle.bfs.specs.Steps.{Inside, Board, board, relaxed, walked, advanced}
 use Rattle.bfs.proofs.Rings.{Reached, First, ring-root, ring-first, ring-next, ring-from, depth-found, depth-none}
+use Rattle.bfs.proofs.Calls.{sound-inside}
 use Rattle.bfs.proofs.Serving.{Serving, serving-begin, serving-tail, serving-more, serving-settled}
 
 -- a walk of k arcs from the root
@@ -105,9 +106,6 @@ module _ (n : ℕ) (out : ℕ → List ℕ) (root : ℕ) (inside : Inside n out)
   depth-root = depth-found out root n root 0 (record { here = ring-root out root; least = λ i m. omega arith; below = omega arith })
 
 -- ---- of a sound graph
-pub sound-inside : (g : Graph) → soundGraph g ≡ true → Inside (g .vertices) (outward g)
-sound-inside g h u l = outward-below g (sound-of g h) u l
-
 module _ (g : Graph) (sound : soundGraph g ≡ true) (root : ℕ) (low : root < g .vertices) (v : ℕ) (l : v < g .vertices) where
   few : g .vertices < infinity
   few = omega (arith, sound-of g sound .fewVertices)

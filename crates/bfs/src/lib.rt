@@ -1,12 +1,12 @@
 // BFS: least hops along outgoing arcs from a root, by a queue in which each vertex is served once.
-use basis::area::clear;
-use basis::area::clear_signed;
-use basis::area::fill_signed;
+use basis::area::{clear, clear_signed, fill_signed};
 use basis::order::same;
-use basis::refusal::NO_ROOM;
+use basis::refusal::{NO_ROOM, NOT_THERE, UNSOUND};
+use graph::Size;
+use graph::find::{Found, find};
 use graph::part::part;
-use kernels::Answer;
-use kernels::refused;
+use graph::sound::sound;
+use kernels::{Answer, refused};
 ghost use mathlib.Core.Path.{_≡_};
 ghost use mathlib.Core.Bool.{true};
 ghost use Prim.Native.Nat.{ℕ, _<_};
@@ -14,9 +14,10 @@ ghost use lib.IntN.{pos};
 ghost use lib.ListN.{length};
 ghost use Rattle.basis.specs.Scan.{allBelow};
 ghost use Rattle.graph.specs.Part.{partOf};
+ghost use Rattle.graph.specs.Sound.{lent};
 ghost use Rattle.kernels.specs.Answer.{says};
 ghost use Rattle.bfs.specs.Depth.{infinity, depths};
-ghost use Rattle.bfs.specs.Call.{outcome};
+ghost use Rattle.bfs.specs.Call.{outcome, bfsCall};
 ghost use Rattle.bfs.specs.Steps.{refusal, fromRoot, Inside, Ready, board, relaxed, walked, advanced};
 
 const UNREACHABLE: i64 = 9223372036854775807;
@@ -132,4 +133,28 @@ fn from_root(
     clear_signed(&mut depth[n..]);
     clear(queue);
     Answer::Done
+}
+
+// The depths from the vertex whose identifier is root, in the first places of `depth`; `queue` is a working area.
+pub fn bfs(
+    size: Size,
+    ids: &[i64],
+    out_offsets: &[usize],
+    out_targets: &[usize],
+    in_offsets: &[usize],
+    in_sources: &[usize],
+    root: i64,
+    depth: &mut [i64],
+    queue: &mut [usize],
+) -> Answer
+    ensures { λ r. ⌜ outcome (says r) (now (depth .exit)) (now (queue .exit)) ≡ bfsCall (lent size (now (ids .entry)) (now («out_offsets» .entry)) (now («out_targets» .entry)) (now («in_offsets» .entry)) (now («in_sources» .entry))) root (now (depth .entry)) (now (queue .entry)) ⌝ }
+{
+    let n = size.vertices;
+    if !sound(size, ids, out_offsets, out_targets, in_offsets, in_sources) {
+        return refuse(UNSOUND, depth, queue);
+    }
+    match find(&ids[..n], root) {
+        Found::At(v) => from_root(n, out_offsets, out_targets, v, depth, queue),
+        Found::Missing => refuse(NOT_THERE, depth, queue),
+    }
 }
