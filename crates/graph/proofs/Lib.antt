@@ -2,3 +2,4 @@
 pub mod Parts
 pub mod Sounds
 pub mod Finds
+pub mod Steps

@@ -3,7 +3,7 @@ use mathlib.Core.Bool.{true}
 use lib.Seq.{length-take-le}
 use denote.Ref.{now}
 use mir.Facts.{toZ-ofZ}
-use borrow.Author.Tests.{not-true, not-false}
+use Rattle.basis.proofs.Tests.{failed, held}
 use Rattle.graph.specs.Find.{bisected}
 use Rattle.graph.specs.Sound.{Graph, lent, names, soundGraph}
 use Rattle.graph.proofs.Sounds.{sound-of}
@@ -25,7 +25,7 @@ abbrev startOf : tie.Else1 → tie.Start
 startOf c = c .before .before .before .before .before .before .before
 
 soundAt : (c : tie.Else1) → soundGraph (graphOf (startOf c)) ≡ true
-soundAt c = sym (c .before .sound .ensures) ∙ not-false _ (c .if1 .left)
+soundAt c = held _ _ (c .before .sound .ensures) (c .if1 .left)
 
 foundAt : (c : tie.After-find) → c .find .result ≡ bisected (names (graphOf (startOf (c .before .before)))) (startOf (c .before .before) .args .root)
 foundAt c = c .find .ensures ∙ ap (bisected (names (graphOf (startOf (c .before .before))))) (toZ-ofZ (startOf (c .before .before) .fits .root))
@@ -49,7 +49,7 @@ same-length-2 c = search needs
 -- src/lib.rt:160:9
 returns : tie.Need-returns
 returns c =
-    call-unsound (graphOf (c .before .before .before .before .before .before .before .before .before .before .before .before .before)) _ _ _ _ (c .before .before .before .refuse .ensures) (sym (c .before .before .before .before .before .before .before .sound .ensures) ∙ not-true _ (c .before .before .before .before .before .before .if1 .taken))
+    call-unsound (graphOf (c .before .before .before .before .before .before .before .before .before .before .before .before .before)) _ _ _ _ (c .before .before .before .refuse .ensures) (failed _ _ (c .before .before .before .before .before .before .before .sound .ensures) (c .before .before .before .before .before .before .if1 .taken))
 
 -- src/lib.rt:162:16
 slice-aggregate-find : tie.Need-slice-aggregate-find
