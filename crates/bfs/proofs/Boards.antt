@@ -15,7 +15,7 @@ use Rattle.basis.proofs.Tests.{bool-cases}
 use Rattle.basis.proofs.Scans.{below-at}
 use Rattle.basis.proofs.Orders.{signed-order}
 use Rattle.bfs.specs.Depth.{infinity, unreachable}
-use Rattle.bfs.specs.Steps.{Board, board, isFar, entered, relaxed, walked, seen, Ready}
+use Rattle.bfs.specs.Steps.{Board, isFar, entered, relaxed, walked, seen, Ready}
 
 -- ---- how many vertices are seen
 more-le : (t : Bool) (k : ℕ) → cond t k (suc k) ≤ suc k

@@ -5,7 +5,7 @@ use mathlib.Core.Bool.{Bool, true, false, cond, _&&_}
 use mathlib.Core.List.{List, _++_}
 use native.Mathlib.Omega.{arith}
 use lib.IntN.{ℤ, pos}
-use lib.ListN.{length, take, drop, replicate, length-append, length-drop}
+use lib.ListN.{length, take, drop, replicate}
 use lib.Seq.{length-take-le, length-front}
 use lib.Dec.{leb}
 use borrow.Author.Tests.{le-leb, lt-leb}
@@ -23,7 +23,7 @@ use Rattle.graph.proofs.Sounds.{sound-of, names-length, outward-below}
 use Rattle.graph.proofs.Finds.{find-rising, place-at}
 use Rattle.kernels.specs.Answer.{kernelSays}
 use Rattle.bfs.specs.Depth.{depthOf, depths}
-use Rattle.bfs.specs.Call.{Outcome, outcome, isThere, bfsSays, depthsFrom, bfsCall}
+use Rattle.bfs.specs.Call.{Outcome, outcome, bfsSays, bfsCall}
 use Rattle.bfs.specs.Steps.{refusal, fromRoot, Inside}
 
 -- an outcome is its three parts

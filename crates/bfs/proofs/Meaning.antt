@@ -1,14 +1,14 @@
 -- What the depths mean: a depth is the length of a shortest walk along outgoing arcs, and unreachable stands exactly where there is no walk. Assumes nothing.
 use Prim.Native.Nat.{ℕ, zero, suc, _+_, _≤_, _<_}
 use mathlib.Core.Path.{_≡_, refl, sym, ap, _∙_, subst}
-use mathlib.Core.Logic.{_⊎_, inl, inr, ⊎-elim, _↔_}
-use mathlib.Core.Bool.{Bool, true, false}
+use mathlib.Core.Logic.{_⊎_, ⊎-elim, _↔_}
+use mathlib.Core.Bool.{true}
 use mathlib.Core.List.{List}
 use native.Mathlib.Nat.{add-zero, add-suc}
 use native.Mathlib.Decide.{decLt}
 use native.Mathlib.Omega.{arith}
 use lib.IntN.{ℤ, pos}
-use lib.ListN.{length, getD, replicate, length-replicate}
+use lib.ListN.{getD, replicate, length-replicate}
 use Rattle.basis.specs.Scan.{mem}
 use Rattle.graph.specs.Sound.{Graph, outward, soundGraph}
 use Rattle.graph.proofs.Sounds.{sound-of}
@@ -74,19 +74,19 @@ module _ (n : ℕ) (out : ℕ → List ℕ) (root : ℕ) (inside : Inside n out)
   unfolding Split
   depth-shortest v k l b = (
     (λ e.
-    ⊎-elim
-    (λ none. let z : k ≡ infinity = cc (depth-none out root n v none) in absurd (omega arith))
-    (λ f.
-    let z : f .0 ≡ k = cc (depth-found out root n v (f .0) (f .1)) in
-    subst (Shortest out root v) z (record { walk = ring-walk out root (f .0) v (f .1 .here); least = λ i p. f .1 .least i (walk-ring out root p) }))
-    (split v l)),
+        ⊎-elim
+        (λ none. let z : k ≡ infinity = cc (depth-none out root n v none) in absurd (omega arith))
+        (λ f.
+        let z : f .0 ≡ k = cc (depth-found out root n v (f .0) (f .1)) in
+        subst (Shortest out root v) z (record { walk = ring-walk out root (f .0) v (f .1 .here); least = λ i p. f .1 .least i (walk-ring out root p) }))
+        (split v l)),
     λ s.
-    ⊎-elim
-    (λ none. absurd (none k (walk-ring out root (s .walk))))
-    (λ f.
-    let z : f .0 ≡ k = omega (arith, f .1 .least k (walk-ring out root (s .walk)), s .least (f .0) (ring-walk out root (f .0) v (f .1 .here))) in
-    depth-found out root n v (f .0) (f .1) ∙ ap pos z)
-    (split v l),
+        ⊎-elim
+        (λ none. absurd (none k (walk-ring out root (s .walk))))
+        (λ f.
+        let z : f .0 ≡ k = omega (arith, f .1 .least k (walk-ring out root (s .walk)), s .least (f .0) (ring-walk out root (f .0) v (f .1 .here))) in
+        depth-found out root n v (f .0) (f .1) ∙ ap pos z)
+        (split v l),
   )
 
   -- "Unreachable vertices should be given the value infinity"
@@ -94,10 +94,10 @@ module _ (n : ℕ) (out : ℕ → List ℕ) (root : ℕ) (inside : Inside n out)
   unfolding Split
   depth-unreachable v l = (
     (λ e k p.
-    ⊎-elim
-    (λ none. none k (walk-ring out root p))
-    (λ f. let z : f .0 ≡ infinity = cc (depth-found out root n v (f .0) (f .1)) in omega (arith, f .1 .below))
-    (split v l)),
+        ⊎-elim
+        (λ none. none k (walk-ring out root p))
+        (λ f. let z : f .0 ≡ infinity = cc (depth-found out root n v (f .0) (f .1)) in omega (arith, f .1 .below))
+        (split v l)),
     λ none. depth-none out root n v (λ i m. none i (ring-walk out root i v m)),
   )
 

@@ -2,7 +2,7 @@
 use Prim.Native.Nat.{ℕ, zero, suc, _+_, _≤_, _<_}
 use mathlib.Core.Path.{_≡_, refl, sym, ap, _∙_, subst}
 use mathlib.Core.Logic.{_⊎_, inl, inr, ⊎-elim}
-use mathlib.Core.Bool.{Bool, true, false}
+use mathlib.Core.Bool.{true}
 use mathlib.Core.List.{List, [], _∷_}
 use native.Mathlib.Nat.{eq-or-lt-of-le}
 use native.Mathlib.Numerals.{add-one}
@@ -19,7 +19,7 @@ use Rattle.basis.proofs.Scans.{mem-none-of, mem-head, mem-tail, mem-cases, belo
 use Rattle.basis.proofs.Areas.{column-is}
 use Rattle.bfs.specs.declared.Ring.{Ring}
 use Rattle.bfs.specs.Depth.{infinity, unreachable, depthOf, depths}
-use Rattle.bfs.specs.Steps.{Inside, Board, board, isFar, entered, relaxed, walked, seen, Ready, advanced}
+use Rattle.bfs.specs.Steps.{Inside, Board, board, isFar, entered, relaxed, walked, Ready, advanced}
 use Rattle.bfs.proofs.Boards.{seen-le, seen-none, far-mark, mark-far, relaxed-new, relaxed-old, room-more, ready-relaxed}
 use Rattle.bfs.proofs.Rings.{Reached, ring-root, ring-first, ring-next, ring-from, ring-below, First, depth-found, depth-none}
 
@@ -360,8 +360,7 @@ module _ (out : ℕ → List ℕ) (s : ℕ) where
         ⊎-elim
         (λ a. inl (a, λ i p. let r = reached i x p in let z : r .hops ≡ infinity = cc (r .here) in omega (arith, r .real)))
         (λ k.
-        inr
-        (
+        inr (
           k .hops,
           k .here,
           record {

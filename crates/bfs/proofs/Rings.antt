@@ -2,12 +2,11 @@
 use Prim.Native.Nat.{ℕ, zero, suc, _+_, _≤_, _<_}
 use mathlib.Core.Path.{_≡_, refl, sym, ap, _∙_, subst}
 use mathlib.Core.Logic.{⊎-elim}
-use mathlib.Core.Bool.{Bool, true, false, _||_}
+use mathlib.Core.Bool.{Bool, true, false}
 use mathlib.Core.List.{List, [], _∷_}
 use native.Mathlib.Nat.{eq-or-lt-of-le, add-zero, add-suc}
 use native.Mathlib.Omega.{arith}
 use lib.IntN.{ℤ, pos}
-use borrow.Author.Tests.{eqb-true}
 use Rattle.basis.specs.Scan.{mem}
 use Rattle.basis.proofs.Tests.{or-first, or-second, or-cases, false-of}
 use Rattle.basis.proofs.Scans.{mem-none-of, mem-head, mem-tail, mem-cases, mem-append, below-mem}

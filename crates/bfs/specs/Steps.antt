@@ -1,7 +1,7 @@
 -- What the kernel's private functions do: a refusal, the run from a root that is there, and the steps of the queue.
 use Prim.Native.Nat.{ℕ, zero, suc, _+_, _<_}
 use mathlib.Core.Path.{_≡_}
-use mathlib.Core.Bool.{Bool, true, false, cond, _&&_}
+use mathlib.Core.Bool.{Bool, true, cond, _&&_}
 use mathlib.Core.List.{List, [], _∷_}
 use lib.IntN.{ℤ, pos}
 use lib.ListN.{length, getD, set}
@@ -11,7 +11,7 @@ use Rattle.basis.specs.Area.{padZ, cleared, clearedZ}
 use Rattle.basis.specs.Order.{sameZ}
 use Rattle.basis.specs.Scan.{allBelow}
 use Rattle.bfs.specs.declared.Ring.{Ring}
-use Rattle.bfs.specs.Depth.{infinity, unreachable, depths}
+use Rattle.bfs.specs.Depth.{unreachable, depths}
 use Rattle.bfs.specs.Call.{Outcome, outcome}
 
 -- a refusal fills both areas with zero

@@ -1,12 +1,18 @@
 // BFS: least hops along outgoing arcs from a root, by a queue in which each vertex is served once.
-use basis::area::{clear, clear_signed, fill_signed};
+use basis::area::clear;
+use basis::area::clear_signed;
+use basis::area::fill_signed;
 use basis::order::same;
-use basis::refusal::{NO_ROOM, NOT_THERE, UNSOUND};
+use basis::refusal::NO_ROOM;
+use basis::refusal::NOT_THERE;
+use basis::refusal::UNSOUND;
 use graph::Size;
-use graph::find::{Found, find};
+use graph::find::Found;
+use graph::find::find;
 use graph::part::part;
 use graph::sound::sound;
-use kernels::{Answer, refused};
+use kernels::Answer;
+use kernels::refused;
 ghost use mathlib.Core.Path.{_≡_};
 ghost use mathlib.Core.Bool.{true};
 ghost use Prim.Native.Nat.{ℕ, _<_};

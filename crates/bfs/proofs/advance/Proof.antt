@@ -3,19 +3,14 @@ use Rattle.bfs.specs.Steps.{advanced}
 use borrow.Author.Needs.{needs}
 use Rattle.bfs.proofs.advance.Statement.{statement}
 use Rattle.bfs.proofs.advance.Tie as tie
-use Rattle.bfs.proofs.advance.Reads as reads
-use Rattle.bfs.proofs.advance.Lts as lts
 
--- src/lib.rt:73:20
 add-t7 : tie.Need-add-t7
 add-t7 c = search needs
 
--- src/lib.rt:65:1
 returns : tie.Need-returns
 unfolding advanced
 returns c = simp (eq-eqb _ _ (c .before .if1 .taken))
 
--- src/lib.rt:65:1
 returns-2 : tie.Need-returns-2
 unfolding advanced
 returns-2 c = simp (ne-eqb _ _ (c .if1 .left))

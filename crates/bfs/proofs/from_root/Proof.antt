@@ -10,62 +10,43 @@ use Rattle.bfs.proofs.Calls.{root-short, root-tight, root-done}
 use borrow.Author.Needs.{needs}
 use Rattle.bfs.proofs.from_root.Statement.{statement}
 use Rattle.bfs.proofs.from_root.Tie as tie
-use Rattle.bfs.proofs.from_root.Reads as reads
-use Rattle.bfs.proofs.from_root.Lts as lts
-use Rattle.basis.proofs.area.clear.Reads as clear-reads
-use Rattle.basis.proofs.area.clear_signed.Reads as clear-signed-reads
-use Rattle.bfs.proofs.refuse.Reads as refuse-reads
-use Rattle.bfs.proofs.search.Reads as search-reads
 
--- src/lib.rt:116:9
 refuse-requires : tie.Need-refuse-requires
 refuse-requires c κs = search needs
 
--- src/lib.rt:116:9
 same-length : tie.Need-same-length
 same-length c = search needs
 
--- src/lib.rt:116:9
 same-length-2 : tie.Need-same-length-2
 same-length-2 c = search needs
 
--- src/lib.rt:116:9
 returns : tie.Need-returns
 returns c = search root-short
 
--- src/lib.rt:119:9
 refuse-requires-2 : tie.Need-refuse-requires-2
 refuse-requires-2 c κs = search needs
 
--- src/lib.rt:119:9
 same-length-3 : tie.Need-same-length-3
 same-length-3 c = search needs
 
--- src/lib.rt:119:9
 same-length-4 : tie.Need-same-length-4
 same-length-4 c = search needs
 
--- src/lib.rt:119:9
 returns-2 : tie.Need-returns-2
 returns-2 c = search root-tight
 
--- src/lib.rt:121:36
 slice-relend-prefix-search : tie.Need-slice-relend-prefix-search
 slice-relend-prefix-search c = search needs
 
--- src/lib.rt:121:36
 slice-aggregate-search : tie.Need-slice-aggregate-search
 slice-aggregate-search c = sym (length-take-le _ _ (omega arith))
 
--- src/lib.rt:121:53
 slice-relend-prefix-search-2 : tie.Need-slice-relend-prefix-search-2
 slice-relend-prefix-search-2 c = search needs
 
--- src/lib.rt:121:53
 slice-aggregate-search-2 : tie.Need-slice-aggregate-search-2
 slice-aggregate-search-2 c = sym (length-take-le _ _ (omega arith))
 
--- src/lib.rt:121:5
 search-requires : tie.Need-search-requires
 search-requires c κs =
     let s = c .before .before .before .before .before .before .before in
@@ -75,39 +56,30 @@ search-requires c κs =
       (omega (arith, d, s .pre .1), q ∙ sym d),
     )
 
--- src/lib.rt:122:18
 mul-clear-signed : tie.Need-mul-clear-signed
 mul-clear-signed c = search needs
 
--- src/lib.rt:122:18
 sub-clear-signed : tie.Need-sub-clear-signed
 sub-clear-signed c = search needs
 
--- src/lib.rt:122:18
 part-clear-signed-start : tie.Need-part-clear-signed-start
 part-clear-signed-start c = search needs
 
--- src/lib.rt:122:18
 part-clear-signed-end : tie.Need-part-clear-signed-end
 part-clear-signed-end c = search needs
 
--- src/lib.rt:122:5
 clear-signed-requires : tie.Need-clear-signed-requires
 clear-signed-requires c κs = search needs
 
--- src/lib.rt:123:5
 clear-requires : tie.Need-clear-requires
 clear-requires c κs = search needs
 
--- src/lib.rt:110:1
 same-length-5 : tie.Need-same-length-5
 same-length-5 c = search needs
 
--- src/lib.rt:110:1
 same-length-6 : tie.Need-same-length-6
 same-length-6 c = search needs
 
--- src/lib.rt:110:1
 returns-3 : tie.Need-returns-3
 returns-3 c =
     let f = c .before .before .before .before .before .before .before .before .before .before .search in

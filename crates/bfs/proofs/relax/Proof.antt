@@ -12,10 +12,6 @@ use Rattle.bfs.proofs.Boards.{relaxed-new, relaxed-old, room-more}
 use borrow.Author.Needs.{needs}
 use Rattle.bfs.proofs.relax.Statement.{statement}
 use Rattle.bfs.proofs.relax.Tie as tie
-use Rattle.bfs.proofs.relax.Reads as reads
-use Rattle.bfs.proofs.relax.Lts as lts
-use Rattle.basis.proofs.order.same.Reads as same-reads
-use Rattle.bfs.proofs.signed.Reads as signed-reads
 
 -- the code's test is the definition's
 told : (c : tie.After-same) → c .same .result ≡ isFar (getD (now (c .before .before .before .args .depth)) (c .before .before .before .args .w) (pos 0))
@@ -27,58 +23,45 @@ room c =
     room-more (board (now (s .args .depth)) (now (s .args .queue)) (s .args .tail)) (s .args .w) (s .pre .0) (s .pre .1 .0)
     (sym (told (c .before .before)) ∙ c .before .if1 .taken)
 
--- src/lib.rt:40:13
 mul-same : tie.Need-mul-same
 mul-same c = search needs
 
--- src/lib.rt:40:13
 slice-copy-out-same : tie.Need-slice-copy-out-same
 slice-copy-out-same c = search needs
 
--- src/lib.rt:40:8
 same-requires : tie.Need-same-requires
 same-requires c κs = search needs
 
--- src/lib.rt:41:20
 signed-requires : tie.Need-signed-requires
 signed-requires c κs = search needs
 
--- src/lib.rt:41:9
 mul-t12 : tie.Need-mul-t12
 mul-t12 c = search needs
 
--- src/lib.rt:41:9
 slice-set-from-depth : tie.Need-slice-set-from-depth
 slice-set-from-depth c = search needs
 
--- src/lib.rt:42:9
 mul-queue : tie.Need-mul-queue
 mul-queue c = omega (arith, room c)
 
--- src/lib.rt:42:9
 slice-write-queue : tie.Need-slice-write-queue
 slice-write-queue c = room c
 
--- src/lib.rt:43:9
 add-result : tie.Need-add-result
 add-result c = omega (arith, room c)
 
--- src/lib.rt:35:1
 same-length : tie.Need-same-length
 same-length c = search needs
 
--- src/lib.rt:35:1
 same-length-2 : tie.Need-same-length-2
 same-length-2 c = search needs
 
--- src/lib.rt:35:1
 returns : tie.Need-returns
 returns c =
     let a = c .before .before .before .before .before .args in
     ap (λ (z : ℤ). board (set (now (a .depth)) (a .w) z) (set (now (a .queue)) (a .tail) (a .w)) (a .tail + 1)) (ap (λ (z : ℤ). toZ w64 (ofZ w64 z)) (c .signed .ensures) ∙ toZ-pos w64 (omega arith))
     ∙ sym (relaxed-new _ _ _ (sym (told (c .before .before)) ∙ c .before .if1 .taken))
 
--- src/lib.rt:35:1
 returns-2 : tie.Need-returns-2
 returns-2 c = sym (relaxed-old _ _ _ (sym (told (c .before)) ∙ c .if1 .left))
 

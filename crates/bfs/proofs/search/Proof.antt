@@ -6,13 +6,6 @@ use Rattle.bfs.specs.Steps.{board}
 use Rattle.bfs.proofs.Serving.{Serving, serving-ready, serving-begin, serving-level, serving-room, serving-tail, serving-deeper, serving-part, serving-more, serving-end}
 use Rattle.bfs.proofs.search.Statement.{statement}
 use Rattle.bfs.proofs.search.Tie as tie
-use Rattle.bfs.proofs.search.Reads as reads
-use Rattle.bfs.proofs.search.Lts as lts
-use Rattle.basis.proofs.area.fill_signed.Reads as fill-signed-reads
-use Rattle.bfs.proofs.advance.Reads as advance-reads
-use Rattle.bfs.proofs.relax.Reads as relax-reads
-use Rattle.bfs.proofs.walk.Reads as walk-reads
-use Rattle.graph.proofs.part.part.Reads as part-reads
 
 abbrev Inv-loop : tie.InvT-loop
 Inv-loop offsets targets root depth₀ queue₀ n tail₀ head₀ ring₀ depth queue tail head ring =

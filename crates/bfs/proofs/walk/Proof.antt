@@ -7,9 +7,6 @@ use Rattle.bfs.specs.Steps.{board}
 use Rattle.bfs.proofs.Boards.{Walking, walking-low, walking-more, walking-end}
 use Rattle.bfs.proofs.walk.Statement.{statement}
 use Rattle.bfs.proofs.walk.Tie as tie
-use Rattle.bfs.proofs.walk.Reads as reads
-use Rattle.bfs.proofs.walk.Lts as lts
-use Rattle.bfs.proofs.relax.Reads as relax-reads
 
 abbrev Inv-loop : tie.InvT-loop
 Inv-loop next depth₀ queue₀ tail d end₀ i₀ depth queue end i =
@@ -18,48 +15,38 @@ Inv-loop next depth₀ queue₀ tail d end₀ i₀ depth queue end i =
 abbrev μ-loop : tie.MeasureT-loop
 μ-loop next depth₀ queue₀ tail d end₀ i₀ depth queue end i = length next - i
 
--- src/lib.rt:57:5
 loop-holds : tie.Need-loop-holds Inv-loop μ-loop
 loop-holds c = (omega arith, record { ready = c .before .before .pre .0; depthLen = refl; queueLen = refl; rest = refl })
 
--- src/lib.rt:58:40
 mul-relax : tie.Need-mul-relax Inv-loop μ-loop
 mul-relax c = search needs
 
--- src/lib.rt:58:40
 shared-slice-read-relax : tie.Need-shared-slice-read-relax Inv-loop μ-loop
 shared-slice-read-relax c = search needs
 
--- src/lib.rt:58:9
 relax-requires : tie.Need-relax-requires Inv-loop μ-loop
 relax-requires c κs =
     let l = c .before .before .before .before in
     let s = l .before .before .before in
     (l .loop .inv .1 .ready, (walking-low _ _ _ _ _ (l .loop .inv .1) (s .pre .1 .0) (omega arith), s .pre .1 .1))
 
--- src/lib.rt:59:9
 add-i : tie.Need-add-i Inv-loop μ-loop
 add-i c = search needs
 
--- src/lib.rt:57:5
 loop-less : tie.Need-loop-less Inv-loop μ-loop
 loop-less c = search needs
 
--- src/lib.rt:57:5
 loop-again : tie.Need-loop-again Inv-loop μ-loop
 loop-again c =
     let l = c .before .before .before .before .before .before .before .before in
     (omega arith, walking-more _ _ _ _ _ (l .loop .inv .1) _ (l .before .before .before .pre .1 .0) (l .before .before .before .pre .1 .1) (omega arith) (c .before .before .before .relax .ensures))
 
--- src/lib.rt:50:1
 same-length : tie.Need-same-length Inv-loop μ-loop
 same-length c = c .before .loop .inv .1 .depthLen
 
--- src/lib.rt:50:1
 same-length-2 : tie.Need-same-length-2 Inv-loop μ-loop
 same-length-2 c = c .before .loop .inv .1 .queueLen
 
--- src/lib.rt:50:1
 returns : tie.Need-returns Inv-loop μ-loop
 returns c = walking-end _ _ _ _ _ (c .before .loop .inv .1) (c .loop-test .left)
 
