@@ -2,7 +2,6 @@
 pub mod Rings
 pub mod Boards
 pub mod Queue
-pub mod Serving
 pub mod Calls
 pub mod Meaning
 pub mod Examples

@@ -1,23 +1,23 @@
 -- What the depths mean: a depth is the length of a shortest walk along outgoing arcs, and unreachable stands exactly where there is no walk. Assumes nothing.
 use Prim.Native.Nat.{ℕ, zero, suc, _+_, _≤_, _<_}
 use mathlib.Core.Path.{_≡_, refl, sym, ap, _∙_, subst}
-use mathlib.Core.Logic.{_⊎_, ⊎-elim, _↔_}
+use mathlib.Core.Logic.{_⊎_, inl, inr, ⊎-elim, _↔_}
 use mathlib.Core.Bool.{true}
 use mathlib.Core.List.{List}
 use native.Mathlib.Nat.{add-zero, add-suc}
 use native.Mathlib.Decide.{decLt}
 use native.Mathlib.Omega.{arith}
-use lib.IntN.{ℤ, pos}
-use lib.ListN.{getD, replicate, length-replicate}
+use lib.IntN.{pos}
+use lib.ListN.{replicate, length-replicate}
 use Rattle.basis.specs.Scan.{mem}
 use Rattle.graph.specs.Sound.{Graph, outward, soundGraph}
 use Rattle.graph.proofs.Sounds.{sound-of}
 use Rattle.bfs.specs.declared.Ring.{Ring}
 use Rattle.bfs.specs.Depth.{infinity, unreachable, ring, depthOf}
-use Rattle.bfs.specs.Steps.{Inside, Board, board, relaxed, walked, advanced}
+use Rattle.bfs.specs.Steps.{Board}
 use Rattle.bfs.proofs.Rings.{Reached, First, ring-root, ring-first, ring-next, ring-from, depth-found, depth-none}
 use Rattle.bfs.proofs.Calls.{sound-inside}
-use Rattle.bfs.proofs.Serving.{Serving, serving-begin, serving-tail, serving-more, serving-settled}
+use Rattle.bfs.proofs.Queue.{Base, Serving, serving-begin, serving-tail, serving-more, serving-settled}
 
 -- a walk of k arcs from the root
 pub data Walk (out : ℕ → List ℕ) (root : ℕ) : ℕ → ℕ → Type 0 where
@@ -43,31 +43,26 @@ module _ (out : ℕ → List ℕ) (root : ℕ) where
   ring-walks k v = (ring-walk k v, walk-ring)
 
 -- ---- arcs that stay among n vertices, and a root among them
-module _ (n : ℕ) (out : ℕ → List ℕ) (root : ℕ) (inside : Inside n out) (low : root < n) (few : n < infinity) where
+module _ (n : ℕ) (out : ℕ → List ℕ) (root : ℕ) (base : Base n out root) where
   Split : ℕ → Type 0
   Split v = ((i : ℕ) → Reached out root i v → ⊥) ⊎ ((k : ℕ) × First out root n v k)
 
-  -- the search ends, after at most n turns
-  settle : (f : ℕ) (S : Board) (r : Ring) (h : ℕ) → n ≤ h + f → Serving n out root S r h → (v : ℕ) → v < n → Split v
+  at-end : {S : Board} {r : Ring} {h : ℕ} → Serving n out root S r h → S .tail ≤ h → (v : ℕ) → v < n → Split v
   unfolding Split
-  settle zero S r h b k v l = serving-settled n out root S r h k (omega (arith, serving-tail n out root S r h k, add-zero h)) v l
-  settle (suc f) S r h b k v l =
+  at-end k o v l = ⊎-elim (λ a. inl (a .1)) (λ a. inr (a .0, a .2)) (serving-settled n out root k o v l)
+
+  -- the search ends, after at most n turns
+  settle : (f : ℕ) {S : Board} {r : Ring} {h : ℕ} → n ≤ h + f → Serving n out root S r h → (v : ℕ) → v < n → Split v
+  settle zero {S} {r} {h} b k v l = at-end k (omega (arith, serving-tail n out root k, add-zero h)) v l
+  settle (suc f) {S} {r} {h} b k v l =
       elim (decLt h (S .tail)) as (λ _. Split v) [
-        | yes g ↦
-            let q : Ring = advanced r h (S .tail) in
-            let ws : List ℕ = out (getD (S .queue) h 0) in
-            let R : Board = walked (q .level + 1) ws S in
-            settle f R q (h + 1) (omega (arith, add-suc h f)) (serving-more n out root S r h k g q refl ws refl R refl) v l
-        | no g ↦ serving-settled n out root S r h k (omega arith) v l
+        | yes g ↦ settle f (omega (arith, add-suc h f)) (serving-more n out root k g refl refl refl) v l
+        | no g ↦ at-end k (omega arith) v l
       ]
 
   -- each vertex is on no ring, or there is a first one of the first n that has it
   split : (v : ℕ) → v < n → Split v
-  split v l =
-      let D : List ℤ = replicate n unreachable in
-      let Q : List ℕ = replicate n 0 in
-      let S : Board = relaxed 0 root (board D Q 0) in
-      settle n S (record { end = 1; level = 0 }) 0 (omega arith) (serving-begin n out root inside low few D Q refl (length-replicate n 0) S refl) v l
+  split v l = settle n (omega arith) (serving-begin n out root base (replicate n unreachable) (replicate n 0) refl (length-replicate n 0) refl) v l
 
   -- "the length (or depth) of the shortest path from a given source vertex (root) to this vertex"
   pub depth-shortest : (v k : ℕ) → v < n → k < infinity → (depthOf n out root v ≡ pos k) ↔ Shortest out root v k
@@ -96,22 +91,22 @@ module _ (n : ℕ) (out : ℕ → List ℕ) (root : ℕ) (inside : Inside n out)
     (λ e k p.
         ⊎-elim
         (λ none. none k (walk-ring out root p))
-        (λ f. let z : f .0 ≡ infinity = cc (depth-found out root n v (f .0) (f .1)) in omega (arith, f .1 .below))
+        (λ f. let z : f .0 ≡ infinity = cc (depth-found out root n v (f .0) (f .1)) in omega (arith, f .1 .below, base .few))
         (split v l)),
     λ none. depth-none out root n v (λ i m. none i (ring-walk out root i v m)),
   )
 
   -- "The root has depth 0"
   pub depth-root : depthOf n out root root ≡ pos 0
-  depth-root = depth-found out root n root 0 (record { here = ring-root out root; least = λ i m. omega arith; below = omega arith })
+  depth-root = depth-found out root n root 0 (record { here = ring-root out root; least = λ i m. omega arith; below = omega (arith, base .root) })
 
 -- ---- of a sound graph
 module _ (g : Graph) (sound : soundGraph g ≡ true) (root : ℕ) (low : root < g .vertices) (v : ℕ) (l : v < g .vertices) where
-  few : g .vertices < infinity
-  few = omega (arith, sound-of g sound .fewVertices)
+  base : Base (g .vertices) (outward g) root
+  base = record { inside = sound-inside g sound; root = low; few = omega (arith, sound-of g sound .fewVertices) }
 
   pub sound-shortest : (k : ℕ) → k < infinity → (depthOf (g .vertices) (outward g) root v ≡ pos k) ↔ Shortest (outward g) root v k
-  sound-shortest k b = depth-shortest (g .vertices) (outward g) root (sound-inside g sound) low few v k l b
+  sound-shortest k b = depth-shortest (g .vertices) (outward g) root base v k l b
 
   pub sound-unreachable : (depthOf (g .vertices) (outward g) root v ≡ unreachable) ↔ ((k : ℕ) → Walk (outward g) root k v → ⊥)
-  sound-unreachable = depth-unreachable (g .vertices) (outward g) root (sound-inside g sound) low few v l
+  sound-unreachable = depth-unreachable (g .vertices) (outward g) root base v l

@@ -1,9 +1,12 @@
-use Prim.Native.Nat.{_-_}
+use Prim.Native.Nat.{ℕ, _-_}
+use mathlib.Core.List.{List}
+use lib.ListN.{length}
+use denote.Ref.{now}
 use mathlib.Core.Path.{sym, _∙_}
 use native.Mathlib.Omega.{arith}
 use Rattle.graph.specs.Part.{partOf}
 use Rattle.bfs.specs.Steps.{board}
-use Rattle.bfs.proofs.Serving.{Serving, serving-ready, serving-begin, serving-level, serving-room, serving-tail, serving-deeper, serving-part, serving-more, serving-end}
+use Rattle.bfs.proofs.Queue.{Base, Serving, serving-ready, serving-begin, serving-level, serving-room, serving-tail, serving-deeper, serving-part, serving-more, serving-end}
 use Rattle.bfs.proofs.search.Statement.{statement}
 use Rattle.bfs.proofs.search.Tie as tie
 
@@ -14,62 +17,65 @@ Inv-loop offsets targets root depth₀ queue₀ n tail₀ head₀ ring₀ depth 
 abbrev μ-loop : tie.MeasureT-loop
 μ-loop offsets targets root depth₀ queue₀ n tail₀ head₀ ring₀ depth queue tail head ring = n - head
 
+abbrev outOf : tie.Start Inv-loop μ-loop → ℕ → List ℕ
+outOf s = partOf (length (now (s .args .depth))) (now (s .args .offsets)) (now (s .args .targets))
+
+baseOf : (s : tie.Start Inv-loop μ-loop) → Base (length (now (s .args .depth))) (outOf s) (s .args .root)
+baseOf s = record { inside = s .pre .0; root = s .pre .1 .0; few = omega arith }
+
 fill-signed-requires : tie.Need-fill-signed-requires Inv-loop μ-loop
 fill-signed-requires c κs = tt
 
 relax-requires : tie.Need-relax-requires Inv-loop μ-loop
 relax-requires c κs =
-    let s = c .before .before .before .before .before .before .before .before in
     let f = c .before .before .before .fill-signed in
-    (serving-ready _ _ _ (s .pre .0) (s .pre .1 .0) (omega arith) _ _ (f .ensures) (s .pre .1 .1), (omega (arith, f .kept .0), omega arith))
+    (serving-ready _ _ _ (baseOf (c .before .before .before .before .before .before .before .before)) _ _ (f .ensures) (c .before .before .before .before .before .before .before .before .pre .1 .1), (omega (arith, f .kept .0), omega arith))
 
 loop-holds : tie.Need-loop-holds Inv-loop μ-loop
-loop-holds c =
-    let s = c .before .before .before .before .before .before .before .before .before .before .before .before in
-    serving-begin _ _ _ (s .pre .0) (s .pre .1 .0) (omega arith) _ _ (c .before .before .before .before .before .before .before .fill-signed .ensures) (s .pre .1 .1) _ (c .before .before .before .relax .ensures)
+loop-holds c = serving-begin _ _ _ (baseOf (c .before .before .before .before .before .before .before .before .before .before .before .before)) _ _ (c .before .before .before .before .before .before .before .fill-signed .ensures) (c .before .before .before .before .before .before .before .before .before .before .before .before .pre .1 .1) (c .before .before .before .relax .ensures)
 
 advance-requires : tie.Need-advance-requires Inv-loop μ-loop
-advance-requires c κs = serving-level _ _ _ _ _ _ (c .before .loop .inv)
+advance-requires c κs = omega (arith, serving-level _ _ _ (c .before .loop .inv))
 
 mul-part : tie.Need-mul-part Inv-loop μ-loop
-mul-part c = omega (arith, serving-tail _ _ _ _ _ _ (c .before .before .loop .inv))
+mul-part c = omega (arith, serving-tail _ _ _ (c .before .before .loop .inv))
 
 slice-read-part : tie.Need-slice-read-part Inv-loop μ-loop
-slice-read-part c = let v = c .before .before .before .loop .inv in omega (arith, serving-tail _ _ _ _ _ _ v, serving-room _ _ _ _ _ _ v)
+slice-read-part c = let v = c .before .before .before .loop .inv in omega (arith, serving-tail _ _ _ v, serving-room _ _ _ v)
 
 part-requires : tie.Need-part-requires Inv-loop μ-loop
 part-requires c κs = tt
 
 add-walk : tie.Need-add-walk Inv-loop μ-loop
-add-walk c = omega (arith, serving-deeper _ _ _ _ _ _ (c .before .before .before .before .before .before .loop .inv) (c .before .before .before .before .before .loop-test .taken) _ (c .before .before .before .before .advance .ensures))
+add-walk c = omega (arith, serving-deeper _ _ _ (c .before .before .before .before .before .before .loop .inv) (c .before .before .before .before .before .loop-test .taken) (c .before .before .before .before .advance .ensures))
 
 walk-requires : tie.Need-walk-requires Inv-loop μ-loop
 walk-requires c κs = (
-  c .before .before .before .before .before .before .loop .inv .inv .ready,
+  c .before .before .before .before .before .before .loop .inv .ready,
   (
-    rw (c .before .before .part .ensures) (serving-part _ _ _ _ _ _ (c .before .before .before .before .before .before .loop .inv) (c .before .before .before .before .before .loop-test .taken) _ (c .before .before .before .before .advance .ensures)),
-    serving-deeper _ _ _ _ _ _ (c .before .before .before .before .before .before .loop .inv) (c .before .before .before .before .before .loop-test .taken) _ (c .before .before .before .before .advance .ensures),
+    rw (c .before .before .part .ensures) (serving-part _ _ _ (c .before .before .before .before .before .before .loop .inv) (c .before .before .before .before .before .loop-test .taken) (c .before .before .before .before .advance .ensures)),
+    serving-deeper _ _ _ (c .before .before .before .before .before .before .loop .inv) (c .before .before .before .before .before .loop-test .taken) (c .before .before .before .before .advance .ensures),
   ),
 )
 
 add-head : tie.Need-add-head Inv-loop μ-loop
-add-head c = let v = c .before .before .before .before .before .before .before .before .before .before .loop .inv in omega (arith, serving-tail _ _ _ _ _ _ v)
+add-head c = let v = c .before .before .before .before .before .before .before .before .before .before .loop .inv in omega (arith, serving-tail _ _ _ v)
 
 loop-less : tie.Need-loop-less Inv-loop μ-loop
-loop-less c = let v = c .before .before .before .before .before .before .before .before .before .before .loop .inv in omega (arith, serving-tail _ _ _ _ _ _ v)
+loop-less c = let v = c .before .before .before .before .before .before .before .before .before .before .loop .inv in omega (arith, serving-tail _ _ _ v)
 
 loop-again : tie.Need-loop-again Inv-loop μ-loop
 loop-again c =
-    serving-more _ _ _ _ _ _ (c .before .before .before .before .before .before .before .before .before .before .loop .inv) (c .before .before .before .before .before .before .before .before .before .loop-test .taken) _ (c .before .before .before .before .before .before .before .before .advance .ensures) _ (c .before .before .before .before .before .before .part .ensures) _ (c .before .before .before .walk .ensures)
+    serving-more _ _ _ (c .before .before .before .before .before .before .before .before .before .before .loop .inv) (c .before .before .before .before .before .before .before .before .before .loop-test .taken) (c .before .before .before .before .before .before .before .before .advance .ensures) (c .before .before .before .before .before .before .part .ensures) (c .before .before .before .walk .ensures)
 
 same-length : tie.Need-same-length Inv-loop μ-loop
 same-length c = c .before .loop .inv .len
 
 same-length-2 : tie.Need-same-length-2 Inv-loop μ-loop
-same-length-2 c = serving-room _ _ _ _ _ _ (c .before .loop .inv) ∙ sym (c .before .before .before .before .before .before .before .before .before .before .before .before .before .before .pre .1 .1)
+same-length-2 c = serving-room _ _ _ (c .before .loop .inv) ∙ sym (c .before .before .before .before .before .before .before .before .before .before .before .before .before .before .pre .1 .1)
 
 returns : tie.Need-returns Inv-loop μ-loop
-returns c = serving-end _ _ _ _ _ _ (c .before .loop .inv) (c .loop-test .left)
+returns c = serving-end _ _ _ (c .before .loop .inv) (c .loop-test .left)
 
 pub search-spec : {M : Type 1} → statement M
 search-spec =
