@@ -1,7 +1,7 @@
 -- P4 and each refusal, computed: BFS on the sheet's graph of 01, vertices -3 2 5 9 20 and arcs 2→5, 2→9, 5→2, 5→9, 9→20. Assumes nothing.
 use Prim.Native.Nat.{ℕ}
 use mathlib.Core.Path.{_≡_, refl}
-use mathlib.Core.List.{_∷_}
+use mathlib.Core.List.{[], _∷_}
 use lib.IntN.{pos, negsuc}
 use Rattle.basis.specs.Refusal.{gives, refuses, plain}
 use Rattle.basis.specs.Area.{column}

@@ -1,7 +1,7 @@
 -- What a call of the BFS kernel answers, and what it leaves in the two areas lent for writing.
 use Prim.Native.Nat.{ℕ}
 use mathlib.Core.Bool.{Bool, true, false, _&&_}
-use mathlib.Core.List.{List}
+use mathlib.Core.List.{List, []}
 use lib.IntN.{ℤ, pos}
 use lib.ListN.{length}
 use lib.Dec.{leb}

@@ -1,7 +1,7 @@
 -- 01 "Kernels" and 000, 2.3.1: depths of breadth-first search, over the arcs that leave each vertex.
 use Prim.Native.Nat.{ℕ, zero, suc}
 use mathlib.Core.Bool.{Bool, true, false}
-use mathlib.Core.List.{List, _∷_, _++_}
+use mathlib.Core.List.{List, [], _∷_, _++_}
 use lib.IntN.{ℤ, pos}
 use Rattle.basis.specs.Area.{column}
 use Rattle.basis.specs.Scan.{mem}
