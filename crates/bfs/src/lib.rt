@@ -1,4 +1,4 @@
-// BFS: least hops along outgoing arcs from a root, by a queue in which each vertex is served once.
+// BFS: least hops along outgoing arcs from a root, by the queue of document 000, A.1, in which each vertex is served once.
 use basis::area::clear;
 use basis::area::clear_signed;
 use basis::area::fill_signed;
@@ -28,12 +28,13 @@ ghost use Rattle.bfs.specs.Steps.{refusal, fromRoot, Inside, Ready, boar
 
 const UNREACHABLE: i64 = 9223372036854775807;
 
-// The ring that is served: it ends at a place of the queue, and its vertices have one depth.
+// The ring that is served: it ends at a place of the queue, and its vertices have one depth. So no depth is read back from the results.
 struct Ring {
     end: usize,
     level: usize,
 }
 
+// A depth as a result area holds it.
 fn signed(d: usize) -> i64
     requires { ⌜ d < infinity ⌝ }
     ensures { λ r. ⌜ r ≡ pos d ⌝ }
@@ -87,7 +88,7 @@ fn advance(ring: Ring, head: usize, tail: usize) -> Ring
     }
 }
 
-// The queue: each vertex is served once, in the order in which it was met.
+// The whole search: each vertex that is met is served once, in the order in which it was met.
 fn search(offsets: &[usize], targets: &[usize], root: usize, depth: &mut [i64], queue: &mut [usize])
     requires { ⌜ Inside (length (now depth)) (partOf (length (now depth)) (now offsets) (now targets)) ⌝ }
     requires { ⌜ (root < length (now depth)) × (length (now queue) ≡ length (now depth)) ⌝ }
@@ -141,7 +142,7 @@ fn from_root(
     Answer::Done
 }
 
-// The depths from the vertex whose identifier is root, in the first places of `depth`; `queue` is a working area.
+// The depths from the vertex that has the identifier root, in vertex order; `queue` is a working area.
 pub fn bfs(
     size: Size,
     ids: &[i64],

@@ -82,8 +82,10 @@ same-length-6 c = search needs
 
 returns-3 : tie.Need-returns-3
 returns-3 c =
-    let f = c .before .before .before .before .before .before .before .before .before .before .search in
-    root-done _ _ _ _ _ _ _ (f .last .1 .1 .1 .1 .0) _ _ (c .before .before .before .before .before .before .before .before .before .before .before .before .before .before .if1 .left) (c .before .before .before .before .before .before .before .before .before .before .before .before .before .if2 .left) (f .ensures) (f .kept .1 .1 .1 .1 .0) (c .before .before .before .before .before .clear-signed .ensures) (c .before .before .clear .ensures)
+    let f = c .before .before .before .before .before .before .before .before .before .before in
+    let k = f .before .before .before in
+    root-done _ _ _ _ _ _ _ (f .search .last .1 .1 .1 .1 .0) _ _ (k .before .if1 .left) (k .if2 .left) (f .search .ensures) (f .search .kept .1 .1 .1 .1 .0)
+    (c .before .before .before .before .before .clear-signed .ensures) (c .before .before .clear .ensures)
 
 pub from-root-spec : {M : Type 1} → statement M
 from-root-spec =

@@ -15,7 +15,9 @@ use Rattle.bfs.proofs.relax.Tie as tie
 
 -- the code's test is the definition's
 told : (c : tie.After-same) → c .same .result ≡ isFar (getD (now (c .before .before .before .args .depth)) (c .before .before .before .args .w) (pos 0))
-told c = c .same .ensures ∙ ap isFar (toZ-ofZ {w = w64} {z = getD (now (c .before .before .before .args .depth)) (c .before .before .before .args .w) (pos 0)} (record { sfits = c .before .same-arg .given }))
+told c =
+    let a = c .before .before .before .args in
+    c .same .ensures ∙ ap isFar (toZ-ofZ {w = w64} {z = getD (now (a .depth)) (a .w) (pos 0)} (record { sfits = c .before .same-arg .given }))
 
 room : (c : tie.After-signed) → c .before .before .before .before .before .args .tail < length (now (c .before .before .before .before .before .args .queue))
 room c =
