@@ -6,14 +6,20 @@ use mathlib.Core.List.{List, [], _∷_, _++_}
 use native.Mathlib.Omega.{arith}
 use lib.IntN.{ℤ, pos, negsuc, natAbs}
 use lib.Signed.{ltZ, nonNeg}
-use lib.ListN.{length, replicate}
+use lib.ListN.{length, replicate, take, drop}
+use lib.Seq.{length-take-le, length-front}
 use lib.Dec.{leb, ltb}
-use borrow.Author.Tests.{lt-leb, le-leb}
+use borrow.Author.Tests.{lt-leb, le-leb, leb-true}
 use Rattle.basis.specs.Refusal.{Said, gives, refuses, plain}
-use Rattle.basis.specs.Area.{cleared, clearedZ, leaves}
-use Rattle.basis.proofs.Tests.{and-off}
+use Rattle.basis.specs.Area.{cleared, clearedZ, padWith}
+use Rattle.basis.proofs.Tests.{and-first, and-second}
+use Rattle.graph.specs.declared.Size.{Size}
+use Rattle.graph.specs.Sound.{Graph, lent, soundGraph}
+use Rattle.graph.proofs.Sounds.{Sound, sound-of}
+use Rattle.cdlp.specs.Rounds.{cdlpOf}
 use Rattle.cdlp.specs.Promise.{goodRounds, roomFor, Outcome, outcome, leftBy, cdlpCall}
-use Rattle.cdlp.specs.Steps.{Worked, worked}
+use Rattle.cdlp.specs.Steps.{Exact, Worked, worked}
+use Rattle.cdlp.proofs.Runs.{cdlp-length}
 
 -- ---- a number of rounds within the limit
 pub allowed-negative : (z : ℤ) → ltZ z (pos 0) ≡ true → false ≡ goodRounds z
@@ -60,3 +66,86 @@ module _ (s : Said (Unit {0})) (k : ℕ) (R R₁ : List ℤ) (L N C L₁ N₁ C�
   unfolding leftBy
   refuse-all p q r =
       outcomes p q (ap (λ (w : Worked). w .labels) r) (ap (λ (w : Worked). w .next) r) (ap (λ (w : Worked). w .counts) r)
+
+-- ---- an area with room for n places: its first n places
+pub record Roomy (n : ℕ) (R : List ℤ) (L N C : List ℕ) : Type 0 where
+  pub result : n ≤ length R
+  pub labels : n ≤ length L
+  pub next : n ≤ length N
+  pub counts : n ≤ length C
+
+pub roomy-of : (n : ℕ) (R : List ℤ) (L N C : List ℕ) → roomFor n R L N C ≡ true → Roomy n R L N C
+unfolding roomFor
+roomy-of n R L N C h =
+    let r = leb n (length R) in let l = leb n (length L) in let m = leb n (length N) in let c = leb n (length C) in
+    let p = and-first ((r && l) && m) c h in
+    let q = and-first (r && l) m p in
+    record {
+      result = leb-true n (length R) (and-first r l q);
+      labels = leb-true n (length L) (and-second r l q);
+      next = leb-true n (length N) (and-second (r && l) m p);
+      counts = leb-true n (length C) (and-second ((r && l) && m) c h);
+    }
+
+module _ (n : ℕ) (R : List ℤ) (L N C : List ℕ) (h : roomFor n R L N C ≡ true) (R₁ : List ℤ) (e : length R₁ ≡ length R) where
+  pub first-result : n ≤ length R₁
+  first-result = let r = roomy-of n R L N C h .result in omega arith
+
+  pub taken-result : n ≡ length (take n R₁)
+  taken-result = sym (length-take-le n R₁ first-result)
+
+  pub exact-of : Exact n (take n R₁) (take n L) (take n N) (take n C)
+  exact-of =
+      let r = roomy-of n R L N C h in
+      record {
+        roomResult = sym taken-result;
+        roomLabels = length-take-le n L (r .labels);
+        roomNext = length-take-le n N (r .next);
+        roomCounts = length-take-le n C (r .counts);
+      }
+
+module _ (n : ℕ) (R : List ℤ) (L N C : List ℕ) (h : roomFor n R L N C ≡ true) where
+  pub first-labels : n ≤ length L
+  first-labels = roomy-of n R L N C h .labels
+
+  pub first-next : n ≤ length N
+  first-next = roomy-of n R L N C h .next
+
+  pub first-counts : n ≤ length C
+  first-counts = roomy-of n R L N C h .counts
+
+  pub taken-labels : n ≡ length (take n L)
+  taken-labels = sym (length-take-le n L first-labels)
+
+  pub taken-next : n ≡ length (take n N)
+  taken-next = sym (length-take-le n N first-next)
+
+  pub taken-counts : n ≡ length (take n C)
+  taken-counts = sym (length-take-le n C first-counts)
+
+drop-zeros : {A : Type 0} (z : A) (n m : ℕ) → drop n (replicate m z) ≡ replicate (m - n) z
+drop-zeros z zero m = let e : m ≡ m - 0 = omega arith in ap (λ k. replicate k z) e
+drop-zeros z (suc n) zero = let e : _≡_ {A = ℕ} 0 (0 - suc n) = omega arith in ap (λ k. replicate k z) e
+drop-zeros z (suc n) (suc m) = let e : m - n ≡ suc m - suc n = omega arith in drop-zeros z n m ∙ ap (λ k. replicate k z) e
+
+-- the labels with zeros behind them
+fill-result : (g : Graph) (k : ℕ) (R R₁ X : List ℤ) → Sound g → R₁ ≡ clearedZ R → X ≡ cdlpOf g k → X ++ drop (g .vertices) R₁ ≡ padWith (pos 0) (length R) (cdlpOf g k)
+fill-result g k R R₁ X s e q =
+    ap₂ (λ x y. x ++ y) q (ap (drop (g .vertices)) e ∙ drop-zeros (pos 0) (g .vertices) (length R))
+    ∙ ap (λ (j : ℕ). cdlpOf g k ++ replicate (length R - j) (pos 0)) (sym (cdlp-length g s k))
+
+-- zeros throughout, whatever the first places held
+front-cleared : (n : ℕ) (L M : List ℕ) → length M ≡ length (take n L) → cleared (M ++ drop n L) ≡ cleared L
+front-cleared n L M e = ap (λ (k : ℕ). replicate k 0) (length-front L M n e)
+
+module _ (size : Size) (ids : List ℤ) (oo ot io is : List ℕ) (k : ℕ) (R R₁ X : List ℤ) (L N C L₂ N₂ C₂ L₃ N₃ C₃ : List ℕ) where
+  pub fill-all : soundGraph (lent size ids oo ot io is) ≡ true → R₁ ≡ clearedZ R → X ≡ cdlpOf (lent size ids oo ot io is) k
+      → length L₂ ≡ length (take (size .vertices) L) → length N₂ ≡ length (take (size .vertices) N) → length C₂ ≡ length (take (size .vertices) C)
+      → worked L₃ N₃ C₃ ≡ worked (cleared (L₂ ++ drop (size .vertices) L)) (cleared (N₂ ++ drop (size .vertices) N)) (cleared (C₂ ++ drop (size .vertices) C))
+      → outcome (gives tt) (X ++ drop (size .vertices) R₁) L₃ N₃ C₃ ≡ leftBy (gives tt) (cdlpOf (lent size ids oo ot io is) k) R L N C
+  unfolding leftBy
+  fill-all h e q l n c w =
+      outcomes refl (fill-result (lent size ids oo ot io is) k R R₁ X (sound-of (lent size ids oo ot io is) h) e q)
+      (ap (λ (t : Worked). t .labels) w ∙ front-cleared (size .vertices) L L₂ l)
+      (ap (λ (t : Worked). t .next) w ∙ front-cleared (size .vertices) N N₂ n)
+      (ap (λ (t : Worked). t .counts) w ∙ front-cleared (size .vertices) C C₂ c)

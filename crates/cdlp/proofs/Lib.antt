@@ -4,4 +4,5 @@ pub mod Lists
 pub mod Tallies
 pub mod Names
 pub mod Boards
+pub mod Runs
 pub mod Calls

@@ -9,8 +9,10 @@ use native.Mathlib.Omega.{arith}
 use lib.ListN.{length, getD, take, drop, replicate, drop-of-length-le}
 use lib.Seq.{drop-cons}
 use Rattle.basis.specs.Area.{column}
+use Rattle.basis.specs.Order.{rising}
 use Rattle.basis.specs.Scan.{allBelow}
 use Rattle.basis.proofs.Areas.{column-is}
+use Rattle.basis.proofs.Orders.{rising-lt}
 use Rattle.basis.proofs.Scans.{below-at}
 use Rattle.cdlp.specs.Rounds.{labelsAt}
 use Rattle.cdlp.specs.Steps.{Low}
@@ -35,6 +37,17 @@ low-of n (x ∷ l) h = (h 0 (omega arith), low-of n l (λ i g. h (suc i) (omega 
 
 pub below-low : (n : ℕ) (l : List ℕ) → allBelow n l ≡ true → Low n l
 below-low n l h = low-of n l (below-at n l h)
+
+-- a list that rises and stays below n has at most n members
+rising-least : (l : List ℕ) → rising l ≡ true → (i : ℕ) → i < length l → i ≤ getD l i 0
+rising-least l r zero h = omega arith
+rising-least l r (suc i) h = let a = rising-least l r i (omega arith) in let b = rising-lt l r i (suc i) (omega arith) h in omega arith
+
+pub rising-short : (n : ℕ) (l : List ℕ) → rising l ≡ true → allBelow n l ≡ true → length l ≤ n
+rising-short n [] r h = omega arith
+rising-short n (x ∷ l) r h =
+    let a = rising-least (x ∷ l) r (length l) (omega arith) in let b = below-at n (x ∷ l) h (length l) (omega arith) in
+    omega arith
 
 pub column-low : (f : ℕ → ℕ) (n s k m : ℕ) → s + k ≤ m → ((v : ℕ) → v < m → f v < n) → Low n (column f s k)
 unfolding column

@@ -57,24 +57,24 @@ pub record Walk (part labels counts : List ℕ) : Type 0 where
 pub record Heard (part labels counts : List ℕ) : Type 0 where
   pub lowPart : Low (length labels) part
   pub lowLabels : Low (length counts) labels
-  pub under : Under 2097152 counts
-  pub short : length part ≤ 2097152
+  pub under : Under 65536 counts
+  pub short : length part ≤ 65536
 
 -- a vertex's two parts, the labels, and counts that are zero
 pub record Parts (inward outward labels counts : List ℕ) : Type 0 where
   pub lowIn : Low (length labels) inward
   pub lowOut : Low (length labels) outward
   pub lowLabels : Low (length counts) labels
-  pub shortIn : length inward ≤ 2097152
-  pub shortOut : length outward ≤ 2097152
+  pub shortIn : length inward ≤ 65536
+  pub shortOut : length outward ≤ 65536
   pub fresh : counts ≡ replicate (length counts) 0
 
--- the two parts of a vertex of n: vertices below n, within the limit of arcs
+-- the two parts of a vertex of n: vertices below n, within the limit of vertices
 pub record Near (n : ℕ) (inward outward : List ℕ) : Type 0 where
   pub lowIn : Low n inward
   pub lowOut : Low n outward
-  pub shortIn : length inward ≤ 2097152
-  pub shortOut : length outward ≤ 2097152
+  pub shortIn : length inward ≤ 65536
+  pub shortOut : length outward ≤ 65536
 
 abbrev pub Inside : ℕ → List ℕ → List ℕ → List ℕ → List ℕ → Type 0
 Inside n io is oo ot = (v : ℕ) → v < n → Near n (partOf n io is v) (partOf n oo ot v)
@@ -110,6 +110,11 @@ pub record Exact (n : ℕ) (result : List ℤ) (labels next counts : List ℕ) :
   pub roomLabels : length labels ≡ n
   pub roomNext : length next ≡ n
   pub roomCounts : length counts ≡ n
+
+-- the labels can be named: each has an identifier, and each name a place
+pub record Nameable (ids : List ℤ) (labels : List ℕ) (result : List ℤ) : Type 0 where
+  pub lowLabels : Low (length ids) labels
+  pub roomResult : length result ≡ length labels
 
 -- the three working areas
 pub record Worked : Type 0 where

@@ -10,7 +10,6 @@ use rounds::propagate;
 ghost use mathlib.Core.Path.{_≡_};
 ghost use mathlib.Core.Bool.{true};
 ghost use mathlib.Core.List.{[]};
-ghost use lib.IntN.{natAbs};
 ghost use Rattle.basis.specs.Refusal.{gives, refuses, plain};
 ghost use Rattle.basis.specs.Area.{cleared};
 ghost use Rattle.graph.specs.Sound.{lent, soundGraph};
@@ -81,16 +80,15 @@ fn fill(
     out_targets: &[usize],
     in_offsets: &[usize],
     in_sources: &[usize],
-    iterations: i64,
+    k: usize,
     result: &mut [i64],
     labels: &mut [usize],
     next: &mut [usize],
     counts: &mut [usize],
 ) -> Answer
     requires { ⌜ soundGraph (lent size (now ids) (now «out_offsets») (now «out_targets») (now «in_offsets») (now «in_sources»)) ≡ true ⌝ }
-    requires { ⌜ goodRounds iterations ≡ true ⌝ }
     requires { ⌜ roomFor (size .vertices) (now result) (now labels) (now next) (now counts) ≡ true ⌝ }
-    ensures { λ r. ⌜ outcome (says r) (now (result .exit)) (now (labels .exit)) (now (next .exit)) (now (counts .exit)) ≡ leftBy (gives tt) (cdlpOf (lent size (now (ids .entry)) (now («out_offsets» .entry)) (now («out_targets» .entry)) (now («in_offsets» .entry)) (now («in_sources» .entry))) (natAbs iterations)) (now (result .entry)) (now (labels .entry)) (now (next .entry)) (now (counts .entry)) ⌝ }
+    ensures { λ r. ⌜ outcome (says r) (now (result .exit)) (now (labels .exit)) (now (next .exit)) (now (counts .exit)) ≡ leftBy (gives tt) (cdlpOf (lent size (now (ids .entry)) (now («out_offsets» .entry)) (now («out_targets» .entry)) (now («in_offsets» .entry)) (now («in_sources» .entry))) k) (now (result .entry)) (now (labels .entry)) (now (next .entry)) (now (counts .entry)) ⌝ }
 {
     clear_signed(result);
     propagate(
@@ -100,7 +98,7 @@ fn fill(
         out_targets,
         in_offsets,
         in_sources,
-        iterations as usize,
+        k,
         &mut result[..size.vertices],
         &mut labels[..size.vertices],
         &mut next[..size.vertices],

@@ -10,7 +10,7 @@ ghost use lib.ListN.{length};
 ghost use lib.IntN.{pos};
 ghost use Rattle.graph.specs.Sound.{lent, soundGraph};
 ghost use Rattle.cdlp.specs.Rounds.{labelsAt, cdlpOf};
-ghost use Rattle.cdlp.specs.Steps.{Low, Board, nextNumbers, numbersAfter, upTo, Exact};
+ghost use Rattle.cdlp.specs.Steps.{Board, nextNumbers, numbersAfter, upTo, Exact, Nameable};
 
 // Every label is the vertex's own number.
 fn number(labels: &mut [usize])
@@ -36,8 +36,7 @@ fn copy(from: &[usize], to: &mut [usize])
 
 // The identifiers of the labels.
 fn name(ids: &[i64], labels: &[usize], result: &mut [i64])
-    requires { ⌜ Low (length (now ids)) (now labels) ⌝ }
-    requires { ⌜ length (now result) ≡ length (now labels) ⌝ }
+    requires { ⌜ Nameable (now ids) (now labels) (now result) ⌝ }
     ensures { λ _. ⌜ now (result .exit) ≡ labelsAt (pos 0) (now (ids .entry)) (now (labels .entry)) ⌝ }
 {
     let mut v = 0;

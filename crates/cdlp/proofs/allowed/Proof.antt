@@ -1,3 +1,7 @@
+use mathlib.Core.Path.{ap, _∙_}
+use mir.Facts.{toZ-ofZ}
+use Rattle.cdlp.specs.Promise.{goodRounds}
+use Rattle.cdlp.proofs.Calls.{allowed-negative, allowed-above, allowed-within}
 use Rattle.cdlp.proofs.allowed.Statement.{statement}
 use Rattle.cdlp.proofs.allowed.Tie as tie
 use Rattle.cdlp.proofs.allowed.Reads as reads
@@ -5,15 +9,15 @@ use Rattle.cdlp.proofs.allowed.Lts as lts
 
 -- src/lib.rt:29:9
 returns : tie.Need-returns
-returns c = ?
+returns c = allowed-negative _ (c .if1 .taken) ∙ ap goodRounds (toZ-ofZ (c .before .fits .iterations))
 
 -- src/lib.rt:32:9
 returns-2 : tie.Need-returns-2
-returns-2 c = ?
+returns-2 c = allowed-above _ (c .before .if1 .left) (c .if2 .taken) ∙ ap goodRounds (toZ-ofZ (c .before .before .fits .iterations))
 
 -- src/lib.rt:25:1
 returns-3 : tie.Need-returns-3
-returns-3 c = ?
+returns-3 c = allowed-within _ (c .before .if1 .left) (c .if2 .left) ∙ ap goodRounds (toZ-ofZ (c .before .before .fits .iterations))
 
 pub allowed-spec : {M : Type 1} → statement M
 allowed-spec = tie.close (tie.spec returns returns-2 returns-3)

@@ -14,7 +14,7 @@ use Rattle.cdlp.proofs.label.hear.Tie as tie
 
 abbrev Inv-loop : tie.InvT-loop
 Inv-loop part labels counts₀ best₀ i₀ counts best i =
-    (i ≤ length part) × (length counts ≡ length counts₀) × Under (2097152 + i) counts
+    (i ≤ length part) × (length counts ≡ length counts₀) × Under (65536 + i) counts
     × (countedAll (labelsAt 0 labels (drop i part)) (tally counts best) ≡ countedAll (labelsAt 0 labels part) (tally counts₀ best₀))
 
 abbrev μ-loop : tie.MeasureT-loop
@@ -89,7 +89,7 @@ loop-again c =
     let n = c .before .before .before .before in (
       omega arith,
       length-set (l .loop .counts) (label l) _ ∙ l .loop .inv .1,
-      under-more 2097152 (l .loop .i) (l .loop .counts) (label l) (l-low n) (l .loop .inv .2),
+      under-more 65536 (l .loop .i) (l .loop .counts) (label l) (l-low n) (l .loop .inv .2),
       hear-more (labelsOf l) (partOf l) (l .loop .i) (l .loop .counts) (l .loop .best) (c .lead .result) _ (n .loop-test .taken) (l .loop .inv .3) (c .lead .ensures),
     )
 

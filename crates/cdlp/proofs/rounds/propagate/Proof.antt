@@ -1,4 +1,6 @@
 use borrow.Author.Needs.{needs}
+use denote.Ref.{now}
+use Rattle.cdlp.proofs.Runs.{run-board, run-nameable, run-named}
 use Rattle.cdlp.proofs.rounds.propagate.Statement.{statement}
 use Rattle.cdlp.proofs.rounds.propagate.Tie as tie
 use Rattle.cdlp.proofs.rounds.propagate.Reads as reads
@@ -18,11 +20,15 @@ clear-requires c κs = search needs
 
 -- src/rounds.rt:117:5
 turns-requires : tie.Need-turns-requires
-turns-requires c κs = ?
+turns-requires c κs = search run-board
 
 -- src/rounds.rt:118:5
 name-requires : tie.Need-name-requires
-name-requires c κs = ?
+name-requires c κs =
+    let s = c .before .before .before .before .before .before .before .before .before .before .before .before .before .before .before .before .before .before .before .before .before .before .before .before .before .before .before in
+    let a = s .args in
+    run-nameable (a .size) (now (a .ids)) (now (a .oo)) (now (a .ot)) (now (a .io)) (now (a .is)) (s .pre .0) (now (a .result)) (now (a .labels)) (now (a .next)) (now (a .counts)) (s .pre .1)
+    (c .before .before .before .before .before .before .before .before .before .before .before .before .before .before .before .before .before .before .number .last .0) (c .before .before .before .before .before .before .before .before .before .before .before .before .before .before .clear .last .0) (c .before .before .before .before .before .before .before .before .before .before .before .before .before .before .before .before .before .before .number .ensures) (c .before .before .before .before .before .before .before .before .before .before .before .before .before .before .clear .ensures) (a .k) _ (c .before .before .before .before .before .before .before .before .turns .ensures)
 
 -- src/rounds.rt:98:1
 same-length : tie.Need-same-length
@@ -42,7 +48,7 @@ same-length-4 c = search needs
 
 -- src/rounds.rt:98:1
 returns : tie.Need-returns
-returns c = ?
+returns c = search run-named
 
 pub propagate-spec : {M : Type 1} → statement M
 propagate-spec =

@@ -75,7 +75,7 @@ returns c =
     let l = c .before .loop in
     let a = c .before .before .before .before .before .before .before .before .before .args in
     let e : l .done ≡ a .k = omega arith in
-    (l .inv .4 ∙ ap (numbersAfter (now (a .io)) (now (a .is)) (now (a .oo)) (now (a .ot)) (now (a .labels))) e, l .inv .3)
+    l .inv .4 ∙ ap (numbersAfter (now (a .io)) (now (a .is)) (now (a .oo)) (now (a .ot)) (now (a .labels))) e
 
 pub turns-spec : {M : Type 1} → statement M
 turns-spec =
