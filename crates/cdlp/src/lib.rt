@@ -4,6 +4,7 @@ mod rounds;
 
 use basis::area::{clear, clear_signed};
 use basis::refusal::{BAD_ROUNDS, NO_ROOM, UNSOUND};
+use graph::sound::sound;
 use graph::Size;
 use kernels::{refused, Answer};
 use rounds::propagate;
@@ -106,4 +107,44 @@ fn fill(
     );
     clear_work(labels, next, counts);
     Answer::Done
+}
+
+// The labels of a sound graph after so many rounds, as identifiers; or a refusal: 9, 11 or 8.
+pub fn cdlp(
+    size: Size,
+    ids: &[i64],
+    out_offsets: &[usize],
+    out_targets: &[usize],
+    in_offsets: &[usize],
+    in_sources: &[usize],
+    iterations: i64,
+    result: &mut [i64],
+    labels: &mut [usize],
+    next: &mut [usize],
+    counts: &mut [usize],
+) -> Answer
+    ensures { λ r. ⌜ outcome (says r) (now (result .exit)) (now (labels .exit)) (now (next .exit)) (now (counts .exit)) ≡ cdlpCall (lent size (now (ids .entry)) (now («out_offsets» .entry)) (now («out_targets» .entry)) (now («in_offsets» .entry)) (now («in_sources» .entry))) iterations (now (result .entry)) (now (labels .entry)) (now (next .entry)) (now (counts .entry)) ⌝ }
+{
+    if !sound(size, ids, out_offsets, out_targets, in_offsets, in_sources) {
+        return refuse(UNSOUND, result, labels, next, counts);
+    }
+    if !allowed(iterations) {
+        return refuse(BAD_ROUNDS, result, labels, next, counts);
+    }
+    if !room(size.vertices, result, labels, next, counts) {
+        return refuse(NO_ROOM, result, labels, next, counts);
+    }
+    fill(
+        size,
+        ids,
+        out_offsets,
+        out_targets,
+        in_offsets,
+        in_sources,
+        iterations as usize,
+        result,
+        labels,
+        next,
+        counts,
+    )
 }
