@@ -1,6 +1,7 @@
 -- Laws of tests: what a conjunction of tests says of each, and a test by its two cases. Assumes nothing.
 use mathlib.Core.Path.{_≡_, refl, sym, ap, _∙_}
-use mathlib.Core.Bool.{Bool, true, false, _&&_, _||_, false≢true}
+use mathlib.Core.Bool.{Bool, true, false, not, _&&_, _||_, false≢true}
+use borrow.Author.Tests.{not-true, not-false}
 
 -- a test that is both ways proves anything
 pub clash {ℓ} : {X : Type ℓ} {t : Bool} → t ≡ true → t ≡ false → X
@@ -41,3 +42,10 @@ or-first s t h = ap (λ (x : Bool). x || t) h
 pub or-second : (s t : Bool) → t ≡ true → (s || t) ≡ true
 or-second true t h = refl
 or-second false t h = h
+
+-- after `if !f(..)`: what the answer t of a call says of the test b that it promises
+pub failed : (t b : Bool) → t ≡ b → not t ≡ true → b ≡ false
+failed t b e h = sym e ∙ not-true t h
+
+pub held : (t b : Bool) → t ≡ b → not t ≡ false → b ≡ true
+held t b e h = sym e ∙ not-false t h

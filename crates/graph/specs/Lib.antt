@@ -3,3 +3,4 @@ pub mod Part
 pub mod Arcs
 pub mod Sound
 pub mod Find
+pub mod Steps

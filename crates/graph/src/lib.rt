@@ -1,6 +1,7 @@
 // A lent graph: its size by value, and five areas. Vertices are numbers from 0; a vertex's part of the targets holds its neighbours.
 pub mod find;
 pub mod part;
+pub mod sound;
 
 // How many vertices and arcs a lent graph is said to have.
 pub struct Size {
