@@ -97,11 +97,11 @@ returns-3 c = search (call-short, toZ-ofZ)
 
 -- src/lib.rt:158:9
 cast-fill : tie.Need-cast-fill
-cast-fill c = search rounds-cast
+cast-fill c = rounds-cast _ _ (c .before .before .before .before .before .before .before .allowed .ensures) (c .before .before .before .before .before .before .if2 .left)
 
 -- src/lib.rt:151:5
 fill-requires : tie.Need-fill-requires
-fill-requires c κs = (search passed, search passed)
+fill-requires c κs = (passed _ _ (c .before .before .before .before .before .before .before .before .before .before .before .before .before .sound .ensures) (c .before .before .before .before .before .before .before .before .before .before .before .before .if1 .left), passed _ _ (c .before .before .before .before .before .room .ensures) (c .before .before .before .before .if3 .left))
 
 -- src/lib.rt:127:1
 same-length-13 : tie.Need-same-length-13
@@ -121,7 +121,9 @@ same-length-16 c = search needs
 
 -- src/lib.rt:127:1
 returns-4 : tie.Need-returns-4
-returns-4 c = search (call-done, toZ-ofZ)
+returns-4 c =
+    call-done _ _ _ _ _ _ _ _ _ _ _ _ _ (c .before .before .before .before .before .before .before .before .before .before .before .before .before .before .before .before .before .before .before .before .before .sound .ensures) (c .before .before .before .before .before .before .before .before .before .before .before .before .before .before .before .before .before .before .before .before .if1 .left) _ (toZ-ofZ (c .before .before .before .before .before .before .before .before .before .before .before .before .before .before .before .before .before .before .before .before .before .before .before .before .before .before .before .before .before .fits .iterations)) _ (c .before .before .before .before .before .before .before .before .before .before .before .before .before .before .before .before .before .before .before .allowed .ensures) (c .before .before .before .before .before .before .before .before .before .before .before .before .before .before .before .before .before .before .if2 .left)
+    _ (c .before .before .before .before .before .before .before .before .before .before .before .before .before .room .ensures) (c .before .before .before .before .before .before .before .before .before .before .before .before .if3 .left) (c .before .before .before .before .before .before .before .fill .ensures)
 
 pub cdlp-spec : {M : Type 1} → statement M
 cdlp-spec =
