@@ -1,8 +1,7 @@
 -- 01 "Checked examples", P6 and P8, on the definition and through the call; and refusals. Assumes nothing.
-use Prim.Native.Nat.{ℕ}
 use mathlib.Core.Path.{_≡_, refl}
-use mathlib.Core.List.{List, [], _∷_}
-use lib.IntN.{ℤ, pos, negsuc}
+use mathlib.Core.List.{[], _∷_}
+use lib.IntN.{pos, negsuc}
 use Rattle.basis.specs.Refusal.{gives, refuses, plain}
 use Rattle.basis.specs.Area.{column}
 use Rattle.basis.specs.Scan.{every, each, mem}
@@ -11,7 +10,7 @@ use Rattle.graph.specs.Sound.{Graph, soundIds, soundOffsets, soundSide, mirrore
 use Rattle.kernels.specs.Answer.{kernelSays}
 use Rattle.cdlp.specs.Label.{times, mostTimes, standing, mostCommon, smallest, smallestOr, nextLabel}
 use Rattle.cdlp.specs.Rounds.{around, labelsAt, nextAt, oneRound, rounds, cdlpOf}
-use Rattle.cdlp.specs.Promise.{goodRounds, roomFor, Outcome, outcome, leftBy, cdlpCall}
+use Rattle.cdlp.specs.Promise.{goodRounds, roomFor, outcome, leftBy, cdlpCall}
 
 -- the sheet's graph: directed, vertices -3 2 5 9 20, edges 2 5, 2 9, 5 2, 5 9, 9 20
 abbrev pub sheet : Graph

@@ -1,12 +1,11 @@
 -- Labels as vertex numbers and labels as names: rounds on the one are rounds on the other. Assumes nothing.
-use Prim.Native.Nat.{ℕ, zero, suc, _+_, _≤_, _<_}
+use Prim.Native.Nat.{ℕ, zero, suc, _+_, _<_}
 use mathlib.Core.Path.{_≡_, refl, sym, ap, ap₂, _∙_, subst}
 use mathlib.Core.Bool.{Bool, true, false, cond}
 use mathlib.Core.List.{List, [], _∷_}
 use native.Mathlib.Omega.{arith}
 use lib.ListN.{length, getD}
 use lib.Dec.{eqb, ltb}
-use Rattle.basis.specs.Area.{column}
 use Rattle.basis.specs.Order.{risingBy}
 use Rattle.basis.proofs.Areas.{column-length, column-is}
 use Rattle.basis.proofs.Orders.{Order, less-places, same-places}

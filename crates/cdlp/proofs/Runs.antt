@@ -1,12 +1,12 @@
 -- A whole run on a sound graph: from the vertex numbers, through the rounds, to the identifiers of the labels. Assumes nothing.
-use Prim.Native.Nat.{ℕ, zero, suc, _≤_, _<_}
-use mathlib.Core.Path.{_≡_, refl, sym, ap, ap₂, _∙_, subst}
+use Prim.Native.Nat.{ℕ, zero, suc, _<_}
+use mathlib.Core.Path.{_≡_, sym, ap, ap₂, _∙_, subst}
 use mathlib.Core.Bool.{true}
 use mathlib.Core.List.{List}
 use native.Mathlib.Omega.{arith}
 use lib.IntN.{ℤ, pos}
 use lib.Signed.{ltZ}
-use lib.ListN.{length, replicate, take, length-replicate}
+use lib.ListN.{length, replicate, length-replicate}
 use lib.Dec.{eqb, ltb}
 use Rattle.basis.specs.Order.{sameZ}
 use Rattle.basis.specs.Area.{cleared}
@@ -15,7 +15,7 @@ use Rattle.basis.proofs.Orders.{signed-order}
 use Rattle.graph.specs.declared.Size.{Size}
 use Rattle.graph.specs.Sound.{Graph, lent, inward, outward, names, soundGraph}
 use Rattle.graph.proofs.Sounds.{Sound, sound-of, names-length, inward-rises, inward-below, outward-rises, outward-below}
-use Rattle.cdlp.specs.Rounds.{around, labelsAt, nextAt, oneRound, rounds, cdlpOf}
+use Rattle.cdlp.specs.Rounds.{labelsAt, oneRound, rounds, cdlpOf}
 use Rattle.cdlp.specs.Steps.{Low, Inside, Board, near, numbersAfter, itself, upTo, Exact, Nameable}
 use Rattle.cdlp.proofs.Lists.{low-up, below-low, rising-short, labels-front}
 use Rattle.cdlp.proofs.Names.{rounds-low, rounds-length, upTo-low, numbers-named}
@@ -95,5 +95,5 @@ module _ (size : Size) (ids : List ℤ) (oo ot io is : List ℕ) (h : soundGraph
     run-named X q =
         q ∙ labels-front (pos 0) n ids L₂ low ∙ ap (labelsAt (pos 0) (names g)) run
         ∙ subst (λ (j : ℕ). labelsAt (pos 0) (names g) (rounds eqb ltb 0 (near n io is oo ot) j (upTo j) k) ≡ rounds sameZ ltZ (pos 0) (near n io is oo ot) j (names g) k)
-          (names-length g s)
-          (numbers-named signed-order (pos 0) (names g) (s .idsRise) (near n io is oo ot) (λ v l. subst (λ (j : ℕ). Low j (near n io is oo ot v)) (sym (names-length g s)) (nears v (subst (λ (j : ℕ). v < j) (names-length g s) l))) k)
+        (names-length g s)
+        (numbers-named signed-order (pos 0) (names g) (s .idsRise) (near n io is oo ot) (λ v l. subst (λ (j : ℕ). Low j (near n io is oo ot v)) (sym (names-length g s)) (nears v (subst (λ (j : ℕ). v < j) (names-length g s) l))) k)

@@ -2,11 +2,15 @@
 mod label;
 mod rounds;
 
-use basis::area::{clear, clear_signed};
-use basis::refusal::{BAD_ROUNDS, NO_ROOM, UNSOUND};
-use graph::sound::sound;
+use basis::area::clear;
+use basis::area::clear_signed;
+use basis::refusal::BAD_ROUNDS;
+use basis::refusal::NO_ROOM;
+use basis::refusal::UNSOUND;
 use graph::Size;
-use kernels::{refused, Answer};
+use graph::sound::sound;
+use kernels::Answer;
+use kernels::refused;
 use rounds::propagate;
 ghost use mathlib.Core.Path.{_≡_};
 ghost use mathlib.Core.Bool.{true};

@@ -1,9 +1,8 @@
 // Rounds of label propagation on areas that have one place a vertex.
-use basis::area::clear;
-use graph::part::part;
-use graph::Size;
-
 use crate::label::settle;
+use basis::area::clear;
+use graph::Size;
+use graph::part::part;
 ghost use mathlib.Core.Path.{_≡_};
 ghost use mathlib.Core.Bool.{true};
 ghost use lib.ListN.{length};

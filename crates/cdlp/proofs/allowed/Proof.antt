@@ -4,18 +4,13 @@ use Rattle.cdlp.specs.Promise.{goodRounds}
 use Rattle.cdlp.proofs.Calls.{allowed-negative, allowed-above, allowed-within}
 use Rattle.cdlp.proofs.allowed.Statement.{statement}
 use Rattle.cdlp.proofs.allowed.Tie as tie
-use Rattle.cdlp.proofs.allowed.Reads as reads
-use Rattle.cdlp.proofs.allowed.Lts as lts
 
--- src/lib.rt:29:9
 returns : tie.Need-returns
 returns c = allowed-negative _ (c .if1 .taken) ∙ ap goodRounds (toZ-ofZ (c .before .fits .iterations))
 
--- src/lib.rt:32:9
 returns-2 : tie.Need-returns-2
 returns-2 c = allowed-above _ (c .before .if1 .left) (c .if2 .taken) ∙ ap goodRounds (toZ-ofZ (c .before .before .fits .iterations))
 
--- src/lib.rt:25:1
 returns-3 : tie.Need-returns-3
 returns-3 c = allowed-within _ (c .before .if1 .left) (c .if2 .left) ∙ ap goodRounds (toZ-ofZ (c .before .before .fits .iterations))
 

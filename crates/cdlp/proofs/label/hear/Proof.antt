@@ -1,12 +1,12 @@
 use Prim.Native.Nat.{ℕ, _+_, _-_, _≤_, _<_}
 use mathlib.Core.List.{List}
-use mathlib.Core.Path.{_≡_, refl, sym, ap, _∙_}
+use mathlib.Core.Path.{_≡_, _∙_}
 use borrow.Author.Needs.{needs}
 use native.Mathlib.Omega.{arith}
 use denote.Ref.{now}
-use lib.ListN.{length, getD, set, drop, length-set}
+use lib.ListN.{length, getD, drop, length-set}
 use Rattle.cdlp.specs.Rounds.{labelsAt}
-use Rattle.cdlp.specs.Steps.{Low, Under, Tally, tally, countedAll}
+use Rattle.cdlp.specs.Steps.{Under, tally, countedAll}
 use Rattle.cdlp.proofs.Lists.{low-at}
 use Rattle.cdlp.proofs.Tallies.{hear-more, hear-end, under-more}
 use Rattle.cdlp.proofs.label.hear.Statement.{statement}

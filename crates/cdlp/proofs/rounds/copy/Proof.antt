@@ -1,16 +1,14 @@
-use Prim.Native.Nat.{ℕ, _+_, _-_, _≤_, _<_}
-use mathlib.Core.List.{List, _++_}
-use mathlib.Core.Path.{_≡_, refl, sym, ap, ap₂, _∙_, subst}
+use Prim.Native.Nat.{_-_, _≤_}
+use mathlib.Core.List.{_++_}
+use mathlib.Core.Path.{_≡_, refl, _∙_}
 use borrow.Author.Needs.{needs}
 use native.Mathlib.Omega.{arith}
 use denote.Ref.{now}
-use lib.ListN.{length, getD, set, drop, replicate, length-set}
+use lib.ListN.{length, getD, drop, length-set}
 use Rattle.basis.specs.Area.{column}
 use Rattle.basis.proofs.Areas.{column-none, column-more, column-end, column-is}
 use Rattle.cdlp.proofs.rounds.copy.Statement.{statement}
 use Rattle.cdlp.proofs.rounds.copy.Tie as tie
-use Rattle.cdlp.proofs.rounds.copy.Reads as reads
-use Rattle.cdlp.proofs.rounds.copy.Lts as lts
 
 abbrev Inv-loop : tie.InvT-loop
 Inv-loop from to₀ i₀ to i =

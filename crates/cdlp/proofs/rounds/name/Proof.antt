@@ -1,21 +1,18 @@
-use Prim.Native.Nat.{ℕ, _+_, _-_, _≤_, _<_}
-use mathlib.Core.List.{List, _++_}
-use mathlib.Core.Path.{_≡_, refl, sym, ap, ap₂, _∙_, subst}
+use Prim.Native.Nat.{_-_, _≤_, _<_}
+use mathlib.Core.List.{_++_}
+use mathlib.Core.Path.{_≡_, refl, _∙_}
 use borrow.Author.Needs.{needs}
 use native.Mathlib.Omega.{arith}
 use denote.Ref.{now}
-use lib.ListN.{length, getD, set, drop, replicate, length-set}
-use lib.IntN.{ℤ, pos}
+use lib.ListN.{length, getD, drop, length-set}
+use lib.IntN.{pos}
 use mir.Facts.{toZ-ofZ}
 use mir.Syntax.{w64}
-use Rattle.cdlp.specs.Steps.{Low}
 use Rattle.basis.specs.Area.{column}
 use Rattle.basis.proofs.Areas.{column-none, column-more, column-end}
 use Rattle.cdlp.proofs.Lists.{low-at, look, column-look}
 use Rattle.cdlp.proofs.rounds.name.Statement.{statement}
 use Rattle.cdlp.proofs.rounds.name.Tie as tie
-use Rattle.cdlp.proofs.rounds.name.Reads as reads
-use Rattle.cdlp.proofs.rounds.name.Lts as lts
 
 abbrev Inv-loop : tie.InvT-loop
 Inv-loop ids labels result₀ v₀ result v =

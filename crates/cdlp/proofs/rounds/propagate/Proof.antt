@@ -3,26 +3,16 @@ use denote.Ref.{now}
 use Rattle.cdlp.proofs.Runs.{run-board, run-nameable, run-named}
 use Rattle.cdlp.proofs.rounds.propagate.Statement.{statement}
 use Rattle.cdlp.proofs.rounds.propagate.Tie as tie
-use Rattle.cdlp.proofs.rounds.propagate.Reads as reads
-use Rattle.cdlp.proofs.rounds.propagate.Lts as lts
-use Rattle.basis.proofs.area.clear.Reads as clear-reads
-use Rattle.cdlp.proofs.rounds.name.Reads as name-reads
-use Rattle.cdlp.proofs.rounds.number.Reads as number-reads
-use Rattle.cdlp.proofs.rounds.turns.Reads as turns-reads
 
--- src/rounds.rt:115:5
 number-requires : tie.Need-number-requires
 number-requires c κs = search needs
 
--- src/rounds.rt:116:5
 clear-requires : tie.Need-clear-requires
 clear-requires c κs = search needs
 
--- src/rounds.rt:117:5
 turns-requires : tie.Need-turns-requires
 turns-requires c κs = search run-board
 
--- src/rounds.rt:118:5
 name-requires : tie.Need-name-requires
 name-requires c κs =
     let s = c .before .before .before .before .before .before .before .before .before .before .before .before .before .before .before .before .before .before .before .before .before .before .before .before .before .before .before in
@@ -30,23 +20,18 @@ name-requires c κs =
     run-nameable (a .size) (now (a .ids)) (now (a .oo)) (now (a .ot)) (now (a .io)) (now (a .is)) (s .pre .0) (now (a .result)) (now (a .labels)) (now (a .next)) (now (a .counts)) (s .pre .1)
     (c .before .before .before .before .before .before .before .before .before .before .before .before .before .before .before .before .before .before .number .last .0) (c .before .before .before .before .before .before .before .before .before .before .before .before .before .before .clear .last .0) (c .before .before .before .before .before .before .before .before .before .before .before .before .before .before .before .before .before .before .number .ensures) (c .before .before .before .before .before .before .before .before .before .before .before .before .before .before .clear .ensures) (a .k) _ (c .before .before .before .before .before .before .before .before .turns .ensures)
 
--- src/rounds.rt:98:1
 same-length : tie.Need-same-length
 same-length c = search needs
 
--- src/rounds.rt:98:1
 same-length-2 : tie.Need-same-length-2
 same-length-2 c = search needs
 
--- src/rounds.rt:98:1
 same-length-3 : tie.Need-same-length-3
 same-length-3 c = search needs
 
--- src/rounds.rt:98:1
 same-length-4 : tie.Need-same-length-4
 same-length-4 c = search needs
 
--- src/rounds.rt:98:1
 returns : tie.Need-returns
 returns c = search run-named
 
