@@ -29,13 +29,9 @@ module _ {io is oo ot labels : List ℕ} where
   -- what `settle` asks of v
   pub parts-of : {next counts a b C : List ℕ} → Board io is oo ot labels next counts → (v : ℕ) → v < length labels → a ≡ partOf (length labels) io is v → b ≡ partOf (length labels) oo ot v → C ≡ counts → Parts a b labels C
   parts-of s v h p q e =
-      let w = s .inside v h in
       record {
-        lowIn = rw p (w .lowIn);
-        lowOut = rw q (w .lowOut);
+        sides = rw (p, q) (s .inside v h);
         lowLabels = subst (λ (n : ℕ). Low n labels) (sym (s .roomCounts) ∙ sym (ap length e)) (s .lowLabels);
-        shortIn = rw p (w .shortIn);
-        shortOut = rw q (w .shortOut);
         fresh = subst (λ (D : List ℕ). D ≡ replicate (length D) 0) (sym e) (s .fresh);
       }
 

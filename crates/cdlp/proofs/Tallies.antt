@@ -288,20 +288,19 @@ module _ (n own : ℕ) (L us : List ℕ) (h : Low (length L) us) (hL : Low n L) 
       (λ j g. forgotten-zero (labelsAt 0 L us) (after n own (labelsAt 0 L us) .counts) j (λ e. count-at j (omega arith) ∙ e) ∙ sym (replicate-at 0 n j))
 
 -- ---- a vertex's two parts: what the steps of `settle` ask, and what they give in the end
+pub walk-in : {L a b C D : List ℕ} → Parts a b L C → length D ≡ length C → Walk a L D
+walk-in {L} p e = record { lowPart = p .sides .lowIn; lowLabels = subst (λ (k : ℕ). Low k L) (sym e) (p .lowLabels) }
+
+pub walk-out : {L a b C D : List ℕ} → Parts a b L C → length D ≡ length C → Walk b L D
+walk-out {L} p e = record { lowPart = p .sides .lowOut; lowLabels = subst (λ (k : ℕ). Low k L) (sym e) (p .lowLabels) }
+
 pub settle-first : (L a b C : List ℕ) → Parts a b L C → Heard a L C
 settle-first L a b C p =
     record {
-      lowPart = p .lowIn;
-      lowLabels = p .lowLabels;
+      walk = record { lowPart = p .sides .lowIn; lowLabels = p .lowLabels };
       under = λ j. let z = replicate-at {A = ℕ} 0 (length C) j in rw (p .fresh) (omega arith);
-      short = p .shortIn;
+      short = p .sides .shortIn;
     }
-
-pub walk-in : {L a b C D : List ℕ} → Parts a b L C → length D ≡ length C → Walk a L D
-walk-in {L} p e = record { lowPart = p .lowIn; lowLabels = subst (λ (k : ℕ). Low k L) (sym e) (p .lowLabels) }
-
-pub walk-out : {L a b C D : List ℕ} → Parts a b L C → length D ≡ length C → Walk b L D
-walk-out {L} p e = record { lowPart = p .lowOut; lowLabels = subst (λ (k : ℕ). Low k L) (sym e) (p .lowLabels) }
 
 module _ (own : ℕ) (L a b C₀ : List ℕ) (p : Parts a b L C₀) (C₁ : List ℕ) (b₁ : Best)
     (e₁ : tally C₁ b₁ ≡ countedAll (labelsAt 0 L a) (tally C₀ (best own 0))) where
@@ -317,15 +316,14 @@ module _ (own : ℕ) (L a b C₀ : List ℕ) (p : Parts a b L C₀) (C₁ : List
   pub settle-second : Heard b L C₁
   settle-second =
       record {
-        lowPart = p .lowOut;
-        lowLabels = subst (λ (k : ℕ). Low k L) (sym (ap length once-counts ∙ counting n own L a (p .lowIn) (p .lowLabels) .len)) (p .lowLabels);
-        under = λ j. let u = after-under n own L a (p .lowIn) (p .lowLabels) j in let s = p .shortIn in rw once-counts (omega arith);
-        short = p .shortOut;
+        walk = walk-out p (ap length once-counts ∙ counting n own L a (p .sides .lowIn) (p .lowLabels) .len);
+        under = λ j. let u = after-under n own L a (p .sides .lowIn) (p .lowLabels) j in let s = p .sides .shortIn in rw once-counts (omega arith);
+        short = p .sides .shortOut;
       }
 
   module _ (C₂ : List ℕ) (b₂ : Best) (e₂ : tally C₂ b₂ ≡ countedAll (labelsAt 0 L b) (tally C₁ b₁)) where
     low : Low (length L) (a ++ b)
-    low = low-append (length L) a b (p .lowIn) (p .lowOut)
+    low = low-append (length L) a b (p .sides .lowIn) (p .sides .lowOut)
 
     twice : tally C₂ b₂ ≡ after n own (labelsAt 0 L (a ++ b))
     twice =

@@ -55,27 +55,24 @@ pub record Walk (part labels counts : List ℕ) : Type 0 where
 
 -- and its labels counted: no count wraps
 pub record Heard (part labels counts : List ℕ) : Type 0 where
-  pub lowPart : Low (length labels) part
-  pub lowLabels : Low (length counts) labels
+  pub walk : Walk part labels counts
   pub under : Under 65536 counts
   pub short : length part ≤ 65536
 
--- a vertex's two parts, the labels, and counts that are zero
-pub record Parts (inward outward labels counts : List ℕ) : Type 0 where
-  pub lowIn : Low (length labels) inward
-  pub lowOut : Low (length labels) outward
-  pub lowLabels : Low (length counts) labels
-  pub shortIn : length inward ≤ 65536
-  pub shortOut : length outward ≤ 65536
-  pub fresh : counts ≡ replicate (length counts) 0
-
--- the two parts of a vertex of n: vertices below n, within the limit of vertices
+-- the two parts of a vertex of n: vertices below n, and no more of them than a graph may have
 pub record Near (n : ℕ) (inward outward : List ℕ) : Type 0 where
   pub lowIn : Low n inward
   pub lowOut : Low n outward
   pub shortIn : length inward ≤ 65536
   pub shortOut : length outward ≤ 65536
 
+-- a vertex's two parts, the labels, and counts that are zero
+pub record Parts (inward outward labels counts : List ℕ) : Type 0 where
+  pub sides : Near (length labels) inward outward
+  pub lowLabels : Low (length counts) labels
+  pub fresh : counts ≡ replicate (length counts) 0
+
+-- the arcs of n vertices stay inside
 abbrev pub Inside : ℕ → List ℕ → List ℕ → List ℕ → List ℕ → Type 0
 Inside n io is oo ot = (v : ℕ) → v < n → Near n (partOf n io is v) (partOf n oo ot v)
 

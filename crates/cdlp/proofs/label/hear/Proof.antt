@@ -36,12 +36,12 @@ abbrev label : Loop → ℕ
 label l = getD (labelsOf l) (getD (partOf l) (l .loop .i) 0) 0
 
 u-low : (c : tie.In-loop Inv-loop μ-loop) → getD (partOf (c .before)) (c .before .loop .i) 0 < length (labelsOf (c .before))
-u-low c = let l = c .before in low-at (length (labelsOf l)) (partOf l) (l .loop .i) (startOf l .pre .lowPart) (c .loop-test .taken)
+u-low c = let l = c .before in low-at (length (labelsOf l)) (partOf l) (l .loop .i) (startOf l .pre .walk .lowPart) (c .loop-test .taken)
 
 l-low : (c : tie.In-loop Inv-loop μ-loop) → label (c .before) < length (c .before .loop .counts)
 l-low c =
     let l = c .before in
-    let h = low-at (length (now (startOf l .args .counts))) (labelsOf l) (getD (partOf l) (l .loop .i) 0) (startOf l .pre .lowLabels) (u-low c) in
+    let h = low-at (length (now (startOf l .args .counts))) (labelsOf l) (getD (partOf l) (l .loop .i) 0) (startOf l .pre .walk .lowLabels) (u-low c) in
     rw (l .loop .inv .1) h
 
 loop-holds : tie.Need-loop-holds Inv-loop μ-loop

@@ -18,7 +18,7 @@ name-requires c κs =
     let s = c .before .before .before .before .before .before .before .before .before .before .before .before .before .before .before .before .before .before .before .before .before .before .before .before .before .before .before in
     let a = s .args in
     run-nameable (a .size) (now (a .ids)) (now (a .oo)) (now (a .ot)) (now (a .io)) (now (a .is)) (s .pre .0) (now (a .result)) (now (a .labels)) (now (a .next)) (now (a .counts)) (s .pre .1)
-    (c .before .before .before .before .before .before .before .before .before .before .before .before .before .before .before .before .before .before .number .last .0) (c .before .before .before .before .before .before .before .before .before .before .before .before .before .before .clear .last .0) (c .before .before .before .before .before .before .before .before .before .before .before .before .before .before .before .before .before .before .number .ensures) (c .before .before .before .before .before .before .before .before .before .before .before .before .before .before .clear .ensures) (a .k) _ (c .before .before .before .before .before .before .before .before .turns .ensures)
+    (c .before .before .before .before .before .before .before .before .before .before .before .before .before .before .before .before .before .before .number .last .0) (c .before .before .before .before .before .before .before .before .before .before .before .before .before .before .clear .last .0) (c .before .before .before .before .before .before .before .before .before .before .before .before .before .before .before .before .before .before .number .ensures) (c .before .before .before .before .before .before .before .before .before .before .before .before .before .before .clear .ensures) _ _ (c .before .before .before .before .before .before .before .before .turns .ensures)
 
 same-length : tie.Need-same-length
 same-length c = search needs
