@@ -21,7 +21,7 @@ use Rattle.graph.proofs.Sounds.{Sound, sound-of}
 use Rattle.kernels.specs.Answer.{kernelSays}
 use Rattle.cdlp.specs.Rounds.{cdlpOf}
 use Rattle.cdlp.specs.Promise.{goodRounds, roomFor, Outcome, outcome, leftBy, cdlpCall}
-use Rattle.cdlp.specs.Steps.{Exact, Worked, worked}
+use Rattle.cdlp.specs.Steps.{Ready, Worked, worked}
 use Rattle.cdlp.proofs.Runs.{cdlp-length}
 
 -- ---- a number of rounds within the limit
@@ -97,16 +97,6 @@ module _ (n : ℕ) (R : List ℤ) (L N C : List ℕ) (h : roomFor n R L N C ≡ 
   pub taken-result : n ≡ length (take n R₁)
   taken-result = sym (length-take-le n R₁ first-result)
 
-  pub exact-of : Exact n (take n R₁) (take n L) (take n N) (take n C)
-  exact-of =
-      let r = roomy-of n R L N C h in
-      record {
-        roomResult = sym taken-result;
-        roomLabels = length-take-le n L (r .labels);
-        roomNext = length-take-le n N (r .next);
-        roomCounts = length-take-le n C (r .counts);
-      }
-
 module _ (n : ℕ) (R : List ℤ) (L N C : List ℕ) (h : roomFor n R L N C ≡ true) where
   pub first-labels : n ≤ length L
   first-labels = roomy-of n R L N C h .labels
@@ -125,6 +115,18 @@ module _ (n : ℕ) (R : List ℤ) (L N C : List ℕ) (h : roomFor n R L N C ≡ 
 
   pub taken-counts : n ≡ length (take n C)
   taken-counts = sym (length-take-le n C first-counts)
+
+pub ready-of : (size : Size) (ids : List ℤ) (oo ot io is : List ℕ) (R R₁ : List ℤ) (L N C : List ℕ) → soundGraph (lent size ids oo ot io is) ≡ true
+    → roomFor (size .vertices) R L N C ≡ true → length R₁ ≡ length R
+    → Ready size ids oo ot io is (take (size .vertices) R₁) (take (size .vertices) L) (take (size .vertices) N) (take (size .vertices) C)
+ready-of size ids oo ot io is R R₁ L N C s h e =
+    record {
+      sound = s;
+      roomResult = sym (taken-result (size .vertices) R L N C h R₁ e);
+      roomLabels = sym (taken-labels (size .vertices) R L N C h);
+      roomNext = sym (taken-next (size .vertices) R L N C h);
+      roomCounts = sym (taken-counts (size .vertices) R L N C h);
+    }
 
 drop-zeros : {A : Type 0} (z : A) (n m : ℕ) → drop n (replicate m z) ≡ replicate (m - n) z
 drop-zeros z zero m = let e : m ≡ m - 0 = omega arith in ap (λ k. replicate k z) e

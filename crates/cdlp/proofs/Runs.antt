@@ -1,7 +1,6 @@
 -- A whole run on a sound graph: from the vertex numbers, through the rounds, to the identifiers of the labels. Assumes nothing.
 use Prim.Native.Nat.{ℕ, zero, suc, _<_}
 use mathlib.Core.Path.{_≡_, sym, ap, ap₂, _∙_, subst}
-use mathlib.Core.Bool.{true}
 use mathlib.Core.List.{List}
 use native.Mathlib.Omega.{arith}
 use lib.IntN.{ℤ, pos}
@@ -13,10 +12,10 @@ use Rattle.basis.specs.Area.{cleared}
 use Rattle.basis.proofs.Areas.{column-length}
 use Rattle.basis.proofs.Orders.{signed-order}
 use Rattle.graph.specs.declared.Size.{Size}
-use Rattle.graph.specs.Sound.{Graph, lent, inward, outward, names, soundGraph}
+use Rattle.graph.specs.Sound.{Graph, lent, inward, outward, names}
 use Rattle.graph.proofs.Sounds.{Sound, sound-of, names-length, inward-rises, inward-below, outward-rises, outward-below}
 use Rattle.cdlp.specs.Rounds.{labelsAt, oneRound, rounds, cdlpOf}
-use Rattle.cdlp.specs.Steps.{Low, Inside, Board, near, numbersAfter, itself, upTo, Exact, Nameable}
+use Rattle.cdlp.specs.Steps.{Low, Inside, Board, near, numbersAfter, itself, upTo, Ready, Nameable}
 use Rattle.cdlp.proofs.Lists.{low-up, below-low, rising-short, labels-front}
 use Rattle.cdlp.proofs.Names.{rounds-low, rounds-length, upTo-low, numbers-named}
 use Rattle.cdlp.proofs.Boards.{near-low}
@@ -40,9 +39,8 @@ unfolding cdlpOf rounds oneRound
 cdlp-length g s zero = names-length g s
 cdlp-length g s (suc k) = column-length _ 0 (g .vertices)
 
-module _ (size : Size) (ids : List ℤ) (oo ot io is : List ℕ) (h : soundGraph (lent size ids oo ot io is) ≡ true)
-    (R : List ℤ) (L N C : List ℕ) (x : Exact (size .vertices) R L N C)
-    (L₁ C₁ : List ℕ) (e₁ : L₁ ≡ upTo (length L)) (e₂ : C₁ ≡ cleared C) where
+module _ {size : Size} {ids : List ℤ} {oo ot io is : List ℕ} {R : List ℤ} {L N C L₁ C₁ : List ℕ} (x : Ready size ids oo ot io is R L N C)
+    (e₁ : L₁ ≡ upTo (length L)) (e₂ : C₁ ≡ cleared C) where
   abbrev g : Graph
   g = lent size ids oo ot io is
 
@@ -50,7 +48,7 @@ module _ (size : Size) (ids : List ℤ) (oo ot io is : List ℕ) (h : soundGraph
   n = size .vertices
 
   s : Sound g
-  s = sound-of g h
+  s = sound-of g (x .sound)
 
   numbers : L₁ ≡ upTo n
   numbers = e₁ ∙ ap upTo (x .roomLabels)
@@ -73,7 +71,7 @@ module _ (size : Size) (ids : List ℤ) (oo ot io is : List ℕ) (h : soundGraph
         fresh = e₂ ∙ ap (λ (k : ℕ). replicate k 0) (sym c);
       }
 
-  module _ (k : ℕ) (L₂ : List ℕ) (e₃ : L₂ ≡ numbersAfter io is oo ot L₁ k) where
+  module _ {L₂ : List ℕ} (k : ℕ) (e₃ : L₂ ≡ numbersAfter io is oo ot L₁ k) where
     nears : (v : ℕ) → v < n → Low n (near n io is oo ot v)
     nears = near-low n io is oo ot (sound-inside g s)
 
@@ -90,9 +88,9 @@ module _ (size : Size) (ids : List ℤ) (oo ot io is : List ℕ) (h : soundGraph
           roomResult = x .roomResult ∙ sym (ap length run ∙ rounds-length (near n io is oo ot) n nears (upTo n) k upTo-length);
         }
 
-    pub run-named : (X : List ℤ) → X ≡ labelsAt (pos 0) ids L₂ → X ≡ cdlpOf g k
+    pub run-named : {X : List ℤ} → X ≡ labelsAt (pos 0) ids L₂ → X ≡ cdlpOf g k
     unfolding cdlpOf
-    run-named X q =
+    run-named q =
         q ∙ labels-front (pos 0) n ids L₂ low ∙ ap (labelsAt (pos 0) (names g)) run
         ∙ subst (λ (j : ℕ). labelsAt (pos 0) (names g) (rounds eqb ltb 0 (near n io is oo ot) j (upTo j) k) ≡ rounds sameZ ltZ (pos 0) (near n io is oo ot) j (names g) k)
         (names-length g s)

@@ -1,13 +1,15 @@
 -- What the private functions do and need, on vertex numbers as labels.
 use Prim.Native.Nat.{ℕ, _+_, _≤_, _<_}
-use mathlib.Core.Bool.{cond}
+use mathlib.Core.Bool.{true, cond}
 use mathlib.Core.List.{List, [], _∷_}
 use mathlib.Core.Path.{_≡_}
 use lib.IntN.{ℤ}
 use lib.ListN.{length, getD, set, replicate}
 use lib.Dec.{eqb, ltb}
 use Rattle.basis.specs.Area.{column}
+use Rattle.graph.specs.declared.Size.{Size}
 use Rattle.graph.specs.Part.{partOf}
+use Rattle.graph.specs.Sound.{lent, soundGraph}
 use Rattle.cdlp.specs.Rounds.{around, oneRound, rounds}
 use Rattle.cdlp.specs.declared.label.Best.{Best}
 
@@ -101,12 +103,13 @@ itself v = v
 unfoldable pub upTo : ℕ → List ℕ
 upTo n = column itself 0 n
 
--- the result and the working areas have n places
-pub record Exact (n : ℕ) (result : List ℤ) (labels next counts : List ℕ) : Type 0 where
-  pub roomResult : length result ≡ n
-  pub roomLabels : length labels ≡ n
-  pub roomNext : length next ≡ n
-  pub roomCounts : length counts ≡ n
+-- the kernel can be run: the graph is sound, and the result and the working areas have one place a vertex
+pub record Ready (size : Size) (ids : List ℤ) (oo ot io is : List ℕ) (result : List ℤ) (labels next counts : List ℕ) : Type 0 where
+  pub sound : soundGraph (lent size ids oo ot io is) ≡ true
+  pub roomResult : length result ≡ size .vertices
+  pub roomLabels : length labels ≡ size .vertices
+  pub roomNext : length next ≡ size .vertices
+  pub roomCounts : length counts ≡ size .vertices
 
 -- the labels can be named: each has an identifier, and each name a place
 pub record Nameable (ids : List ℤ) (labels : List ℕ) (result : List ℤ) : Type 0 where

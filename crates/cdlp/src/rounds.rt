@@ -1,15 +1,15 @@
-// Rounds of label propagation on areas that have one place a vertex.
+// Rounds of label propagation on areas that have one place a vertex. `io` and `is` are the graph's inward offsets and sources, `oo` and `ot` its
+// outward offsets and targets.
 use crate::label::settle;
 use basis::area::clear;
 use graph::Size;
 use graph::part::part;
 ghost use mathlib.Core.Path.{_≡_};
-ghost use mathlib.Core.Bool.{true};
 ghost use lib.ListN.{length};
 ghost use lib.IntN.{pos};
-ghost use Rattle.graph.specs.Sound.{lent, soundGraph};
+ghost use Rattle.graph.specs.Sound.{lent};
 ghost use Rattle.cdlp.specs.Rounds.{labelsAt, cdlpOf};
-ghost use Rattle.cdlp.specs.Steps.{Board, nextNumbers, numbersAfter, upTo, Exact, Nameable};
+ghost use Rattle.cdlp.specs.Steps.{Board, nextNumbers, numbersAfter, upTo, Ready, Nameable};
 
 // Every label is the vertex's own number.
 fn number(labels: &mut [usize])
@@ -106,8 +106,7 @@ pub(crate) fn propagate(
     next: &mut [usize],
     counts: &mut [usize],
 )
-    requires { ⌜ soundGraph (lent size (now ids) (now oo) (now ot) (now io) (now is)) ≡ true ⌝ }
-    requires { ⌜ Exact (size .vertices) (now result) (now labels) (now next) (now counts) ⌝ }
+    requires { ⌜ Ready size (now ids) (now oo) (now ot) (now io) (now is) (now result) (now labels) (now next) (now counts) ⌝ }
     ensures { λ _. ⌜ now (result .exit) ≡ cdlpOf (lent size (now (ids .entry)) (now (oo .entry)) (now (ot .entry)) (now (io .entry)) (now (is .entry))) k ⌝ }
 {
     number(labels);

@@ -1,5 +1,5 @@
 use borrow.Author.Needs.{needs}
-use Rattle.cdlp.proofs.Calls.{first-result, first-labels, first-next, first-counts, taken-result, taken-labels, taken-next, taken-counts, exact-of, fill-all}
+use Rattle.cdlp.proofs.Calls.{first-result, first-labels, first-next, first-counts, taken-result, taken-labels, taken-next, taken-counts, ready-of, fill-all}
 use Rattle.cdlp.proofs.fill.Statement.{statement}
 use Rattle.cdlp.proofs.fill.Tie as tie
 
@@ -31,7 +31,7 @@ slice-aggregate-propagate-4 : tie.Need-slice-aggregate-propagate-4
 slice-aggregate-propagate-4 c = search taken-counts
 
 propagate-requires : tie.Need-propagate-requires
-propagate-requires c κs = (search needs, search exact-of)
+propagate-requires c κs = search ready-of
 
 clear-work-requires : tie.Need-clear-work-requires
 clear-work-requires c κs = search needs

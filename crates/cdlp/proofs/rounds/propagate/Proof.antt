@@ -1,5 +1,4 @@
 use borrow.Author.Needs.{needs}
-use denote.Ref.{now}
 use Rattle.cdlp.proofs.Runs.{run-board, run-nameable, run-named}
 use Rattle.cdlp.proofs.rounds.propagate.Statement.{statement}
 use Rattle.cdlp.proofs.rounds.propagate.Tie as tie
@@ -14,11 +13,7 @@ turns-requires : tie.Need-turns-requires
 turns-requires c κs = search run-board
 
 name-requires : tie.Need-name-requires
-name-requires c κs =
-    let s = c .before .before .before .before .before .before .before .before .before .before .before .before .before .before .before .before .before .before .before .before .before .before .before .before .before .before .before in
-    let a = s .args in
-    run-nameable (a .size) (now (a .ids)) (now (a .oo)) (now (a .ot)) (now (a .io)) (now (a .is)) (s .pre .0) (now (a .result)) (now (a .labels)) (now (a .next)) (now (a .counts)) (s .pre .1)
-    (c .before .before .before .before .before .before .before .before .before .before .before .before .before .before .before .before .before .before .number .last .0) (c .before .before .before .before .before .before .before .before .before .before .before .before .before .before .clear .last .0) (c .before .before .before .before .before .before .before .before .before .before .before .before .before .before .before .before .before .before .number .ensures) (c .before .before .before .before .before .before .before .before .before .before .before .before .before .before .clear .ensures) _ _ (c .before .before .before .before .before .before .before .before .turns .ensures)
+name-requires c κs = run-nameable (c .before .before .before .before .before .before .before .before .before .before .before .before .before .before .before .before .before .before .before .before .before .before .before .before .before .before .before .pre) (c .before .before .before .before .before .before .before .before .before .before .before .before .before .before .before .before .before .before .number .ensures) (c .before .before .before .before .before .before .before .before .before .before .before .before .before .before .clear .ensures) _ (c .before .before .before .before .before .before .before .before .turns .ensures)
 
 same-length : tie.Need-same-length
 same-length c = search needs
@@ -33,7 +28,7 @@ same-length-4 : tie.Need-same-length-4
 same-length-4 c = search needs
 
 returns : tie.Need-returns
-returns c = search run-named
+returns c = run-named (c .before .before .before .before .before .before .before .before .before .before .before .before .before .before .before .before .before .before .before .before .before .before .before .before .before .before .before .before .before .pre) (c .before .before .before .before .before .before .before .before .before .before .before .before .before .before .before .before .before .before .before .before .number .ensures) (c .before .before .before .before .before .before .before .before .before .before .before .before .before .before .before .before .clear .ensures) (c .before .before .before .before .before .before .before .before .before .before .before .before .before .before .before .before .before .before .before .before .before .before .before .before .before .before .before .before .before .args .k) (c .before .before .before .before .before .before .before .before .before .before .turns .ensures) (c .before .name .ensures)
 
 pub propagate-spec : {M : Type 1} → statement M
 propagate-spec =
