@@ -1,6 +1,6 @@
 -- Laws of the bisection, over any order: what a loop that bisects keeps, and that in a rising list it finds what is there. Assumes nothing.
 use Prim.Native.Nat.{ℕ, zero, suc, _+_, _-_, _/_, _≤_, _<_}
-use mathlib.Core.Path.{_≡_, refl, sym, ap, _∙_, subst}
+use mathlib.Core.Path.{_≡_, refl, sym, ap, _∙_}
 use mathlib.Core.Logic.{_↔_}
 use mathlib.Core.Bool.{Bool, true, false}
 use mathlib.Core.List.{List, [], _∷_}
@@ -9,14 +9,10 @@ use native.Mathlib.Nat.{not-suc-le-zero, sub-self, sub-zero}
 use native.Mathlib.Decide.{ℕ-discrete, decLt}
 use lib.IntN.{ℤ, pos}
 use lib.ListN.{length, getD}
-use lib.Signed.{ltZ}
-use lib.Dec.{eqb, ltb}
 use borrow.Author.Tests.{lt-ltb, le-ltb, eqb-true}
-use Rattle.basis.specs.Order.{sameZ, rising, risingBy, risingZ}
-use Rattle.basis.specs.Scan.{mem}
+use Rattle.basis.specs.Order.{sameZ, risingBy, risingZ}
 use Rattle.basis.proofs.Tests.{clash, bool-cases}
-use Rattle.basis.proofs.Scans.{mem-index, mem-none}
-use Rattle.basis.proofs.Orders.{Order, less-trans, less-differs, more-differs, rising-less, same-places, number-order, signed-order}
+use Rattle.basis.proofs.Orders.{Order, less-trans, rising-less, same-places, signed-order}
 use Rattle.graph.specs.declared.find.Found.{Found}
 use Rattle.graph.specs.declared.find.Found.the-variants.{At, Missing}
 use Rattle.graph.specs.Find.{placeFrom, placeIn, bisect, bisectBy, bisected}

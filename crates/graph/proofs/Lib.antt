@@ -1,5 +1,6 @@
--- Laws of parts and of sound graphs.
+-- Laws of parts, of the bisection and of sound graphs, then the laws behind the soundness check, and graphs computed.
 pub mod Parts
-pub mod Sounds
 pub mod Finds
+pub mod Sounds
 pub mod Steps
+pub mod Examples

@@ -1,20 +1,20 @@
 -- Laws of the steps of the soundness check: one for each answer that a step gives, by the tests that the code makes. Assumes nothing.
-use Prim.Native.Nat.{ℕ, zero, suc, _+_, _-_, _/_, _≤_, _<_}
+use Prim.Native.Nat.{ℕ, suc, _+_, _-_, _/_, _≤_, _<_}
 use mathlib.Core.Path.{_≡_, refl, sym, ap, _∙_}
 use mathlib.Core.Bool.{Bool, true, false, not, _&&_}
-use mathlib.Core.List.{List, [], _∷_}
+use mathlib.Core.List.{List}
 use native.Mathlib.Omega.{arith}
 use native.Mathlib.Numerals.{add-one}
 use native.Mathlib.Decide.{decLt}
 use lib.IntN.{ℤ, pos}
 use lib.ListN.{length, getD, take, length-take}
 use lib.Seq.{getD-take}
-use lib.Dec.{eqb, leb, ltb}
+use lib.Dec.{leb, ltb}
 use lib.Signed.{ltZ}
 use borrow.Author.Tests.{lt-ltb, le-ltb, le-leb, lt-leb, eq-eqb, ne-eqb, not-false}
-use Rattle.basis.specs.Order.{rising, risingBy, risingZ}
+use Rattle.basis.specs.Order.{rising, risingBy}
 use Rattle.basis.specs.Scan.{every, each, mem}
-use Rattle.basis.proofs.Tests.{and-second, and-off}
+use Rattle.basis.proofs.Tests.{clash, false-of, and-second, and-both, and-off}
 use Rattle.basis.proofs.Scans.{every-at, every-more, every-fail, every-end, each-fail, each-every, mem-index, mem-none}
 use Rattle.basis.proofs.Orders.{risingBy-of, risingBy-fail, number-order}
 use Rattle.graph.specs.declared.Size.{Size}
@@ -25,7 +25,7 @@ use Rattle.graph.specs.Find.{bisectBy}
 use Rattle.graph.specs.Sound.{lent, soundIds, other, soundOffsets, soundPart, soundSide, mirrored, soundGraph}
 use Rattle.graph.specs.Steps.{idsRise, neverFall, soundParts, located, bisectFinds, answered}
 use Rattle.graph.proofs.Parts.{part-far}
-use Rattle.graph.proofs.Sounds.{part-rises}
+use Rattle.graph.proofs.Sounds.{Sound, sound-of, side-from, part-rises}
 use Rattle.graph.proofs.Finds.{Halving, halving-here, halving-end, Right, bisect-finds}
 
 -- ---- neighbours in a list
@@ -190,39 +190,33 @@ module _ (n : ℕ) (from back : List ℕ) (from′ back′ : List ℕ) where
   unfolding mirrored
   mirrored-end u a b h = every-end (λ u. answered n back′ back u (partOf n from′ from u)) n u a b h
 
--- ---- the whole graph
+-- ---- the whole graph: a clause that fails, and all of them
 module _ (size : Size) (ids : List ℤ) (oo ot io is : List ℕ) where
+  unsound : (Sound (lent size ids oo ot io is) → ⊥) → false ≡ soundGraph (lent size ids oo ot io is)
+  unsound h = sym (false-of (soundGraph (lent size ids oo ot io is)) (λ e. h (sound-of (lent size ids oo ot io is) e)))
+
   pub graph-vertices : 65536 < size .vertices → false ≡ soundGraph (lent size ids oo ot io is)
-  unfolding soundGraph
-  graph-vertices h = rw (lt-leb (size .vertices) 65536 h)
+  graph-vertices h = unsound (λ s. let e = s .fewVertices in omega arith)
 
-  module _ (a : size .vertices ≤ 65536) where
-    pub graph-arcs : 2097152 < size .arcs → false ≡ soundGraph (lent size ids oo ot io is)
-    unfolding soundGraph
-    graph-arcs h = rw (le-leb (size .vertices) 65536 a, lt-leb (size .arcs) 2097152 h)
+  pub graph-arcs : 2097152 < size .arcs → false ≡ soundGraph (lent size ids oo ot io is)
+  graph-arcs h = unsound (λ s. let e = s .fewArcs in omega arith)
 
-    module _ (b : size .arcs ≤ 2097152) where
-      pub graph-ids : idsRise (size .vertices) ids ≡ false → false ≡ soundGraph (lent size ids oo ot io is)
-      unfolding soundGraph soundIds
-      graph-ids h = rw (le-leb (size .vertices) 65536 a, le-leb (size .arcs) 2097152 b, h)
+  pub graph-ids : idsRise (size .vertices) ids ≡ false → false ≡ soundGraph (lent size ids oo ot io is)
+  graph-ids h = unsound (λ s. clash (and-both (le-leb (size .vertices) (length ids) (s .idsRoom)) (s .idsRise)) h)
 
-      module _ (i : idsRise (size .vertices) ids ≡ true) where
-        pub graph-out : soundSide (size .vertices) (size .arcs) oo ot ≡ false → false ≡ soundGraph (lent size ids oo ot io is)
-        unfolding soundGraph soundIds
-        graph-out h = rw (le-leb (size .vertices) 65536 a, le-leb (size .arcs) 2097152 b, i, h)
+  pub graph-out : soundSide (size .vertices) (size .arcs) oo ot ≡ false → false ≡ soundGraph (lent size ids oo ot io is)
+  graph-out h = unsound (λ s. clash (side-from (s .outwardSide)) h)
 
-        module _ (c : soundSide (size .vertices) (size .arcs) oo ot ≡ true) where
-          pub graph-in : soundSide (size .vertices) (size .arcs) io is ≡ false → false ≡ soundGraph (lent size ids oo ot io is)
-          unfolding soundGraph soundIds
-          graph-in h = rw (le-leb (size .vertices) 65536 a, le-leb (size .arcs) 2097152 b, i, c, h)
+  pub graph-in : soundSide (size .vertices) (size .arcs) io is ≡ false → false ≡ soundGraph (lent size ids oo ot io is)
+  graph-in h = unsound (λ s. clash (side-from (s .inwardSide)) h)
 
-          module _ (d : soundSide (size .vertices) (size .arcs) io is ≡ true) where
-            pub graph-back : mirrored (size .vertices) (partOf (size .vertices) oo ot) (partOf (size .vertices) io is) ≡ false
-                → false ≡ soundGraph (lent size ids oo ot io is)
-            unfolding soundGraph soundIds
-            graph-back h = rw (le-leb (size .vertices) 65536 a, le-leb (size .arcs) 2097152 b, i, c, d, h)
+  pub graph-back : mirrored (size .vertices) (partOf (size .vertices) oo ot) (partOf (size .vertices) io is) ≡ false
+      → false ≡ soundGraph (lent size ids oo ot io is)
+  graph-back h = unsound (λ s. clash (s .back) h)
 
-            pub graph-rest : mirrored (size .vertices) (partOf (size .vertices) oo ot) (partOf (size .vertices) io is) ≡ true
-                → (t : Bool) → t ≡ mirrored (size .vertices) (partOf (size .vertices) io is) (partOf (size .vertices) oo ot) → t ≡ soundGraph (lent size ids oo ot io is)
-            unfolding soundGraph soundIds
-            graph-rest h t e = rw (le-leb (size .vertices) 65536 a, le-leb (size .arcs) 2097152 b, i, c, d, h) e
+  pub graph-rest : size .vertices ≤ 65536 → size .arcs ≤ 2097152 → idsRise (size .vertices) ids ≡ true
+      → soundSide (size .vertices) (size .arcs) oo ot ≡ true → soundSide (size .vertices) (size .arcs) io is ≡ true
+      → mirrored (size .vertices) (partOf (size .vertices) oo ot) (partOf (size .vertices) io is) ≡ true
+      → (t : Bool) → t ≡ mirrored (size .vertices) (partOf (size .vertices) io is) (partOf (size .vertices) oo ot) → t ≡ soundGraph (lent size ids oo ot io is)
+  unfolding soundGraph soundIds
+  graph-rest a b i c d h t e = rw (le-leb (size .vertices) 65536 a, le-leb (size .arcs) 2097152 b, i, c, d, h) e

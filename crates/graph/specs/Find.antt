@@ -34,10 +34,10 @@ module _ {A : Type 0} (less : A → A → Bool) (z : A) (l : List A) (x : A) whe
         | false ↦ Missing
       ]
 
-  -- the bisection of the whole list; in a list that rises it finds x where it stands (`find-rising`)
+  -- the bisection of the whole list; in a list that rises it finds x where it stands (law `bisect-finds`)
   abbrev pub bisectBy : Found
   bisectBy = bisect (length l) 0 (length l)
 
--- the place of an identifier by bisection, whatever the list: in one that rises it is `placeIn` (`find-rising`)
+-- the place of an identifier by bisection, whatever the list: in one that rises it is `placeIn` (law `find-rising`)
 abbrev pub bisected : List ℤ → ℤ → Found
 bisected l id = bisectBy ltZ (pos 0) l id

@@ -1,6 +1,6 @@
 -- 01 "The loaded graph": one vertex's part of a target area.
 use Prim.Native.Nat.{ℕ, _+_, _-_}
-use mathlib.Core.Bool.{Bool, true, false, cond, _&&_}
+use mathlib.Core.Bool.{cond, _&&_}
 use mathlib.Core.List.{List, []}
 use lib.ListN.{length, getD, take, drop}
 use lib.Dec.{ltb, leb}

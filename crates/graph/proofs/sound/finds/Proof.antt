@@ -1,14 +1,10 @@
-use borrow.Author.Needs.{needs}
 use Rattle.graph.proofs.Finds.{Halving, halving-start, halving-up, halving-down}
 use Rattle.graph.proofs.Steps.{found-here, found-none}
 use borrow.Author.Tests.{lt-ltb, le-ltb}
 use lib.Dec.{ltb}
-use Rattle.basis.specs.Scan.{every}
-use lib.ListN.{length, getD}
+use lib.ListN.{length}
 use native.Mathlib.Omega.{arith}
-use mathlib.Core.Bool.{true, false}
-use mathlib.Core.Path.{_≡_, refl, sym}
-use Prim.Native.Nat.{ℕ, _+_, _-_, _<_, _≤_}
+use Prim.Native.Nat.{_-_, _≤_}
 use Rattle.graph.proofs.sound.finds.Statement.{statement}
 use Rattle.graph.proofs.sound.finds.Tie as tie
 
@@ -49,7 +45,7 @@ loop-again-2 : tie.Need-loop-again-2 Inv-loop μ-loop
 loop-again-2 c = (omega arith, search (halving-down, lt-ltb, le-ltb))
 
 returns : tie.Need-returns Inv-loop μ-loop
-returns c = search (found-here, lt-ltb, le-ltb)
+returns c = search (found-here, le-ltb)
 
 returns-2 : tie.Need-returns-2 Inv-loop μ-loop
 returns-2 c = search found-none

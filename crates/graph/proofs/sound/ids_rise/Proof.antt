@@ -4,11 +4,10 @@ use Rattle.basis.proofs.Scans.{every-none}
 use lib.Signed.{ltZ}
 use lib.IntN.{pos}
 use Rattle.basis.specs.Scan.{every}
-use lib.ListN.{length, getD}
 use native.Mathlib.Omega.{arith}
-use mathlib.Core.Bool.{true, false}
-use mathlib.Core.Path.{_≡_, refl, sym}
-use Prim.Native.Nat.{ℕ, _+_, _-_, _<_, _≤_}
+use mathlib.Core.Bool.{true}
+use mathlib.Core.Path.{_≡_}
+use Prim.Native.Nat.{_-_, _≤_}
 use Rattle.graph.proofs.sound.ids_rise.Statement.{statement}
 use Rattle.graph.proofs.sound.ids_rise.Tie as tie
 

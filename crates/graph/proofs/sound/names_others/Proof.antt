@@ -5,9 +5,9 @@ use Rattle.basis.proofs.Scans.{every-none, every-more}
 use Rattle.basis.specs.Scan.{every}
 use lib.ListN.{length, getD}
 use native.Mathlib.Omega.{arith}
-use mathlib.Core.Bool.{true, false}
-use mathlib.Core.Path.{_≡_, refl, sym}
-use Prim.Native.Nat.{ℕ, _+_, _-_, _<_, _≤_}
+use mathlib.Core.Bool.{true}
+use mathlib.Core.Path.{_≡_}
+use Prim.Native.Nat.{_-_, _≤_}
 use Rattle.graph.proofs.sound.names_others.Statement.{statement}
 use Rattle.graph.proofs.sound.names_others.Tie as tie
 

@@ -3,11 +3,11 @@ use Rattle.basis.proofs.Scans.{every-none, every-more, every-fail, every-end}
 use lib.Dec.{leb}
 use borrow.Author.Tests.{le-leb, lt-leb}
 use Rattle.basis.specs.Scan.{every}
-use lib.ListN.{length, getD}
+use lib.ListN.{getD}
 use native.Mathlib.Omega.{arith}
-use mathlib.Core.Bool.{true, false}
-use mathlib.Core.Path.{_≡_, refl, sym}
-use Prim.Native.Nat.{ℕ, _+_, _-_, _<_, _≤_}
+use mathlib.Core.Bool.{true}
+use mathlib.Core.Path.{_≡_, sym}
+use Prim.Native.Nat.{_+_, _-_, _≤_}
 use Rattle.graph.proofs.sound.never_fall.Statement.{statement}
 use Rattle.graph.proofs.sound.never_fall.Tie as tie
 

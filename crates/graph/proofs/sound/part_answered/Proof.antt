@@ -3,13 +3,12 @@ use borrow.Author.Needs.{needs}
 use Rattle.graph.proofs.Steps.{members-end, answered-more, answered-stop}
 use Rattle.graph.specs.Part.{partOf}
 use Rattle.basis.proofs.Scans.{every-more, every-none}
-use Rattle.basis.specs.Scan.{mem}
-use Rattle.basis.specs.Scan.{every}
+use Rattle.basis.specs.Scan.{every, mem}
 use lib.ListN.{length, getD}
 use native.Mathlib.Omega.{arith}
-use mathlib.Core.Bool.{true, false}
-use mathlib.Core.Path.{_≡_, refl, sym}
-use Prim.Native.Nat.{ℕ, _+_, _-_, _<_, _≤_}
+use mathlib.Core.Bool.{true}
+use mathlib.Core.Path.{_≡_}
+use Prim.Native.Nat.{_-_, _≤_}
 use Rattle.graph.proofs.sound.part_answered.Statement.{statement}
 use Rattle.graph.proofs.sound.part_answered.Tie as tie
 

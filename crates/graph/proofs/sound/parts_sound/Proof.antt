@@ -5,11 +5,10 @@ use Rattle.graph.specs.Sound.{soundPart}
 use Rattle.graph.specs.Part.{partOf}
 use Rattle.basis.proofs.Scans.{every-more, every-none, every-end}
 use Rattle.basis.specs.Scan.{every}
-use lib.ListN.{length, getD}
 use native.Mathlib.Omega.{arith}
-use mathlib.Core.Bool.{true, false}
-use mathlib.Core.Path.{_≡_, refl, sym}
-use Prim.Native.Nat.{ℕ, _+_, _-_, _<_, _≤_}
+use mathlib.Core.Bool.{true}
+use mathlib.Core.Path.{_≡_}
+use Prim.Native.Nat.{_-_, _≤_}
 use Rattle.graph.proofs.sound.parts_sound.Statement.{statement}
 use Rattle.graph.proofs.sound.parts_sound.Tie as tie
 
