@@ -98,9 +98,9 @@ restWord s at = cond (hasAt s (endAt s at) lf) (decimalOf (upTo lf (drop at s)))
 unfoldable pub restAt : List ℕ → ℕ → Scanned Decimal
 restAt s at = scanned (restWord s at) (cond (wellFormed (restWord s at)) (endAt s at + 1) at)
 
-abbrev pub restSays : ℕ → Rest → Scanned Decimal
-restSays at R.Bad = scanned malformed at
-restSays at (R.Value d p) = scanned (value d) p
+abbrev pub restSays : Rest → Scanned Decimal
+restSays (R.Bad p) = scanned malformed p
+restSays (R.Value d p) = scanned (value d) p
 
 -- a word and what was scanned after it
 abbrev pub beside : {A B : Type 0} → Word A → Scanned B → Scanned (A × B)
