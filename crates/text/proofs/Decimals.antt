@@ -1,18 +1,18 @@
 -- Laws of the decimal of a coefficient claim: one for each way the code leaves, and that its number is never cut down. Assumes nothing.
-use Prim.Native.Nat.{ℕ, zero, suc, _+_, _-_, _*_, _^_, _≤_, _<_, min}
-use mathlib.Core.Path.{_≡_, refl, sym, ap, ap₂, _∙_, subst}
+use Prim.Native.Nat.{ℕ, suc, _+_, _-_, _*_, _^_, _≤_, _<_}
+use mathlib.Core.Path.{_≡_, refl, sym, ap, ap₂, _∙_}
 use mathlib.Core.List.{List, [], _∷_}
-use mathlib.Core.Bool.{Bool, true, false, cond, not, _&&_, _||_}
+use mathlib.Core.Bool.{Bool, true, false, cond, not, _&&_}
 use mathlib.Core.Logic.{⊎-elim}
 use native.Mathlib.Omega.{arith}
-use native.Mathlib.Nat.{zero-add, one-mul, le-trans, mul-le-mul-right, mul-assoc, pow-succ', pow-le-pow-right, le-mul-of-pos-right, one-le-pow, eq-or-lt-of-le, add-sub-cancel-left}
-use borrow.Author.Tests.{le-leb, lt-leb, leb-true, leb-false, lt-ltb, le-ltb, eq-eqb, ne-eqb, eqb-true, not-true, not-false}
+use native.Mathlib.Nat.{zero-add, one-mul, le-trans, mul-le-mul-right, mul-assoc, pow-succ', pow-le-pow-right, eq-or-lt-of-le, add-sub-cancel-left}
+use borrow.Author.Tests.{le-leb, lt-leb, leb-true, lt-ltb, le-ltb, eq-eqb, ne-eqb, eqb-true, not-true, not-false}
 use lib.Dec.{leb, ltb, eqb}
 use lib.ListN.{length, getD, drop, length-drop, List·getD-eq-default}
 use lib.Pow.{pow-add}
-use Rattle.basis.proofs.Tests.{bool-cases, and-off, and-both}
-use Rattle.text.specs.Word.{Word, malformed, outside, value, isDigit, stepped, runLen, runVal}
-use Rattle.text.specs.Decimal.{digitLimit, decimal, digitOf, Exponent, up, down, wrong, pastPoint, wholeIsGood, signedPower, powerAt, scaled, partsOf, fractionOf, decimalOf, powerSays, decimalSays}
+use Rattle.basis.proofs.Tests.{bool-cases, and-off}
+use Rattle.text.specs.Word.{malformed, value, isDigit, stepped, runLen, runVal}
+use Rattle.text.specs.Decimal.{digitLimit, decimal, digitOf, up, down, wrong, pastPoint, wholeIsGood, signedPower, powerAt, scaled, partsOf, fractionOf, decimalOf, powerSays, decimalSays}
 use Rattle.text.specs.Scan.{capped, runAt}
 use Rattle.text.specs.declared.count.Run.{Run}
 use Rattle.text.specs.declared.decimal.DecimalWord.{DecimalWord}

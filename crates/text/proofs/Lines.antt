@@ -1,13 +1,13 @@
 -- Laws of lines: what is scanned is what the definitions say of a line's bytes; one law for each way the code leaves. Assumes nothing.
-use Prim.Native.Nat.{ℕ, suc, _+_, _-_, _≤_, _<_}
+use Prim.Native.Nat.{ℕ, _+_, _-_, _≤_, _<_}
 use mathlib.Core.Path.{_≡_, refl, sym, ap, _∙_}
 use mathlib.Core.List.{List, [], _∷_, _++_, append-assoc}
-use mathlib.Core.Bool.{Bool, true, false, cond, not}
+use mathlib.Core.Bool.{Bool, true, false, not}
 use native.Mathlib.Omega.{arith}
 use borrow.Author.Tests.{le-leb, lt-leb, not-true, not-false}
-use lib.Dec.{leb, eqb}
+use lib.Dec.{eqb}
 use lib.IntN.{ℤ}
-use lib.ListN.{length, getD, take, drop, length-drop, length-append}
+use lib.ListN.{length, take, drop, length-append}
 use lib.Seq.{getD-append-seam}
 use Rattle.basis.specs.Refusal.{badForm, outOfRange}
 use Rattle.basis.specs.Scan.{mem}

@@ -1,9 +1,9 @@
 -- What the code scans from a place on, without knowing where the word ends. Past the end of a file `getD s at 0` is 0, which begins and continues nothing.
-use Prim.Native.Nat.{ℕ, _+_, _-_, _^_, min}
-use mathlib.Core.List.{List, [], _∷_}
+use Prim.Native.Nat.{ℕ, _+_, min}
+use mathlib.Core.List.{List}
 use mathlib.Core.Bool.{Bool, true, false, cond, _&&_}
 use lib.ListN.{length, getD, drop}
-use lib.Dec.{ltb, leb, eqb}
+use lib.Dec.{ltb, eqb}
 use lib.IntN.{ℤ}
 use Rattle.basis.specs.Refusal.{badForm, outOfRange}
 use Rattle.text.specs.Word.{Word, malformed, outside, value, within, runLen, runVal, rangedOf, signedOf}
