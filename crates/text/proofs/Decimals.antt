@@ -1,18 +1,18 @@
 -- Laws of the decimal of a coefficient claim: one for each way the code leaves, and that its number is never cut down. Assumes nothing.
-use Prim.Native.Nat.{ℕ, zero, suc, _+_, _-_, _*_, _^_, _≤_, _<_, min}
-use mathlib.Core.Path.{_≡_, refl, sym, ap, ap₂, _∙_, subst}
+use Prim.Native.Nat.{ℕ, suc, _+_, _-_, _*_, _^_, _≤_, _<_}
+use mathlib.Core.Path.{_≡_, refl, sym, ap, ap₂, _∙_}
 use mathlib.Core.List.{List, [], _∷_}
-use mathlib.Core.Bool.{Bool, true, false, cond, not, _&&_, _||_}
+use mathlib.Core.Bool.{Bool, true, false, cond, not, _&&_}
 use mathlib.Core.Logic.{⊎-elim}
 use native.Mathlib.Omega.{arith}
-use native.Mathlib.Nat.{zero-add, one-mul, le-trans, mul-le-mul-right, mul-assoc, pow-succ', pow-le-pow-right, le-mul-of-pos-right, one-le-pow, eq-or-lt-of-le, add-sub-cancel-left}
-use borrow.Author.Tests.{le-leb, lt-leb, leb-true, leb-false, lt-ltb, le-ltb, eq-eqb, ne-eqb, eqb-true, not-true, not-false}
+use native.Mathlib.Nat.{zero-add, one-mul, le-trans, mul-le-mul-right, mul-assoc, pow-succ', pow-le-pow-right, eq-or-lt-of-le, add-sub-cancel-left}
+use borrow.Author.Tests.{le-leb, lt-leb, leb-true, lt-ltb, le-ltb, eq-eqb, ne-eqb, eqb-true, not-true, not-false}
 use lib.Dec.{leb, ltb, eqb}
 use lib.ListN.{length, getD, drop, length-drop, List·getD-eq-default}
 use lib.Pow.{pow-add}
-use Rattle.basis.proofs.Tests.{bool-cases, and-off, and-both}
-use Rattle.text.specs.Word.{Word, malformed, outside, value, isDigit, stepped, runLen, runVal}
-use Rattle.text.specs.Decimal.{digitLimit, decimal, digitOf, Exponent, up, down, wrong, pastPoint, wholeIsGood, signedPower, powerAt, scaled, partsOf, fractionOf, decimalOf, powerSays, decimalSays}
+use Rattle.basis.proofs.Tests.{bool-cases, and-off}
+use Rattle.text.specs.Word.{malformed, value, isDigit, stepped, runLen, runVal}
+use Rattle.text.specs.Decimal.{digitLimit, decimal, digitOf, up, down, wrong, pastPoint, wholeIsGood, signedPower, powerAt, scaled, partsOf, fractionOf, decimalOf, powerSays, decimalSays}
 use Rattle.text.specs.Scan.{capped, runAt}
 use Rattle.text.specs.declared.count.Run.{Run}
 use Rattle.text.specs.declared.decimal.DecimalWord.{DecimalWord}
@@ -146,13 +146,13 @@ module _ (s : List ℕ) (w p n q : ℕ) (t : Bool) (h : t ≡ wholeIsGood s w) w
 
   pub parts-limit : not t ≡ false → p ≤ w + (q - p) → digitLimit < w + (q - p) → malformed ≡ partsOf s w p n q
   unfolding partsOf
-  parts-limit e k l = rw (← h, not-false t e, le-leb p (w + (q - p)) k, lt-leb (w + (q - p)) 15 l)
+  parts-limit e k l = rw (← h, not-false t e, le-leb p (w + (q - p)) k, lt-leb (w + (q - p)) digitLimit l)
 
   pub parts-good : not t ≡ false → p ≤ w + (q - p) → w + (q - p) ≤ digitLimit
       → (y : Power) → powerSays y ≡ powerAt s q → (r : DecimalWord) → decimalSays r ≡ scaled n (q - p) (powerSays y) → decimalSays r ≡ partsOf s w p n q
   unfolding partsOf
   parts-good e k l y f r g =
-      rw (← h, not-false t e, le-leb p (w + (q - p)) k, le-leb (w + (q - p)) 15 l) (g ∙ ap (scaled n (q - p)) f)
+      rw (← h, not-false t e, le-leb p (w + (q - p)) k, le-leb (w + (q - p)) digitLimit l) (g ∙ ap (scaled n (q - p)) f)
 
 -- ---- digits so few are never cut down
 pub run-small : (a : ℕ) (l : List ℕ) → suc (runVal a l) ≤ suc a * 10 ^ runLen l
@@ -167,20 +167,20 @@ run-small a (b ∷ l) = by (isDigit b) refl (λ k. run-small k l)
         rw (val-digit a b l e, q) (rw pow-succ' (rw (← mul-assoc) (le-trans (f (stepped a b)) (mul-le-mul-right (10 ^ runLen l) m))))
     by false e f = rw (val-stop a b l e, len-stop b l e) (omega arith)
 
-few-digits : (s : List ℕ) (p : ℕ) → runLen s + runLen (drop p s) ≤ 15 → runVal (runVal 0 s) (drop p s) < 10 ^ 15
+few-digits : (s : List ℕ) (p : ℕ) → runLen s + runLen (drop p s) ≤ digitLimit → runVal (runVal 0 s) (drop p s) < 10 ^ digitLimit
 few-digits s p h =
     let a : suc (runVal 0 s) ≤ 10 ^ runLen s = rw one-mul at (run-small 0 s) in
     let b : suc (runVal (runVal 0 s) (drop p s)) ≤ suc (runVal 0 s) * 10 ^ runLen (drop p s) = run-small (runVal 0 s) (drop p s) in
-    let t : 10 ^ (runLen s + runLen (drop p s)) ≤ 10 ^ 15 = pow-le-pow-right (omega arith) h in
+    let t : 10 ^ (runLen s + runLen (drop p s)) ≤ 10 ^ digitLimit = pow-le-pow-right (omega arith) h in
     le-trans b (le-trans (mul-le-mul-right (10 ^ runLen (drop p s)) a) (rw pow-add at t))
 
 parts-cut : (s : List ℕ) (p : ℕ)
     → partsOf s (runLen s) p (capped (runVal (runVal 0 s) (drop p s))) (p + runLen (drop p s)) ≡ fractionOf s (runLen s) p
 unfolding partsOf fractionOf
 parts-cut s p =
-    bool-cases (leb (runLen s + (p + runLen (drop p s) - p)) 15) _
+    bool-cases (leb (runLen s + (p + runLen (drop p s) - p)) digitLimit) _
     (λ e. let f : p + runLen (drop p s) - p ≡ runLen (drop p s) = add-sub-cancel-left p (runLen (drop p s)) in
-    let h : runVal (runVal 0 s) (drop p s) < 10 ^ 15 = few-digits s p (omega (arith, leb-true (runLen s + (p + runLen (drop p s) - p)) 15 e)) in
+    let h : runVal (runVal 0 s) (drop p s) < 10 ^ digitLimit = few-digits s p (omega (arith, leb-true (runLen s + (p + runLen (drop p s) - p)) digitLimit e)) in
     let c : capped (runVal (runVal 0 s) (drop p s)) ≡ runVal (runVal 0 s) (drop p s) = omega arith in
     rw c)
     (λ e. rw (e, and-off (leb p (runLen s + (p + runLen (drop p s) - p))) false refl, and-off (wholeIsGood s (runLen s)) false refl))

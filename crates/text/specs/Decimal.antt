@@ -1,11 +1,11 @@
 -- 01 "Claims and verdicts": "a plain or scientific decimal: `0` or digits without a leading zero, optionally `.` and at least one digit,
 -- optionally `e`, a sign and two digits. It has no minus before it". 46 is `.`, 101 `e`, 43 `+`, 45 `-`.
-use Prim.Native.Nat.{ℕ, suc, _+_, _-_, _*_}
-use mathlib.Core.List.{List, [], _∷_}
-use mathlib.Core.Bool.{Bool, true, false, cond, _&&_, _||_}
+use Prim.Native.Nat.{ℕ, _+_, _-_, _*_}
+use mathlib.Core.List.{List}
+use mathlib.Core.Bool.{Bool, cond, _&&_, _||_}
 use lib.ListN.{length, getD, drop}
 use lib.Dec.{ltb, leb, eqb}
-use Rattle.text.specs.Word.{Word, malformed, outside, value, isDigit, runLen, runVal}
+use Rattle.text.specs.Word.{Word, malformed, value, isDigit, runLen, runVal}
 use Rattle.text.specs.declared.decimal.Decimal.{Decimal}
 use Rattle.text.specs.declared.decimal.DecimalWord.{DecimalWord}
 use Rattle.text.specs.declared.decimal.DecimalWord.the-variants as DW

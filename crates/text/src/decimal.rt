@@ -2,7 +2,7 @@
 use crate::count::Run;
 use crate::count::digits;
 ghost use mathlib.Core.Path.{_≡_};
-ghost use Prim.Native.Nat.{ℕ, _+_, _*_, _≤_};
+ghost use Prim.Native.Nat.{_+_, _*_, _≤_};
 ghost use lib.ListN.{length};
 ghost use Rattle.text.specs.Word.{isDigit};
 ghost use Rattle.text.specs.Decimal.{digitOf, pastPoint, wholeIsGood, signedPower, powerAt, powerSays, scaled, decimalSays, partsOf, decimalOf};
@@ -159,6 +159,7 @@ fn parts(s: &[u8], w: usize, p: usize, all: Run) -> DecimalWord
     if !whole_is_good(s, w) {
         return DecimalWord::Bad;
     }
+    // a point with no digit after it
     if w + f < p {
         return DecimalWord::Bad;
     }
