@@ -1,5 +1,4 @@
 // The decimal of a coefficient claim.
-use crate::count::Run;
 use crate::count::digits;
 ghost use mathlib.Core.Path.{_≡_};
 ghost use Prim.Native.Nat.{_+_, _*_, _≤_};
@@ -150,12 +149,11 @@ fn with_power(n: u64, f: u8, p: Power) -> DecimalWord
     }
 }
 
-// w digits before the point; after it digits from p on, the number of both being `all`.
-fn parts(s: &[u8], w: usize, p: usize, all: Run) -> DecimalWord
-    requires { ⌜ (w ≤ p) × (p ≤ all .next) × (all .next ≤ length (now s)) ⌝ }
-    ensures { λ r. ⌜ decimalSays r ≡ partsOf (now (s .entry)) w p (all .n) (all .next) ⌝ }
+// w digits before the point and f after it, from p on, that make the number n.
+fn parts(s: &[u8], w: usize, p: usize, f: usize, n: u64) -> DecimalWord
+    requires { ⌜ (w ≤ p) × (p + f ≤ length (now s)) ⌝ }
+    ensures { λ r. ⌜ decimalSays r ≡ partsOf (now (s .entry)) w p f n ⌝ }
 {
-    let f = all.next - p;
     if !whole_is_good(s, w) {
         return DecimalWord::Bad;
     }
@@ -166,7 +164,7 @@ fn parts(s: &[u8], w: usize, p: usize, all: Run) -> DecimalWord
     if DIGITS < w + f {
         return DecimalWord::Bad;
     }
-    with_power(all.n, f as u8, power_at(s, all.next))
+    with_power(n, f as u8, power_at(s, p + f))
 }
 
 // What the bytes of a whole decimal say.
@@ -176,5 +174,5 @@ pub fn decimal_of(s: &[u8]) -> DecimalWord
     let whole = digits(s, 0, 0);
     let p = past_point(s, whole.next);
     let all = digits(s, p, whole.n);
-    parts(s, whole.next, p, all)
+    parts(s, whole.next, p, all.next - p, all.n)
 }
