@@ -1,0 +1,2 @@
+-- Laws of the WCC kernel.
+pub mod Steps

@@ -1,0 +1,68 @@
+use Rattle.wcc.proofs.groups.join_part.Statement.{statement}
+use Rattle.wcc.proofs.groups.join_part.Tie as tie
+use Rattle.wcc.proofs.groups.join_part.Reads as reads
+use Rattle.wcc.proofs.groups.join_part.Lts as lts
+use Rattle.book.proofs.joining.join.Reads as join-reads
+
+abbrev Inv-loop : tie.InvT-loop
+Inv-loop parents₀ sizes₀ u next i₀ parents sizes i = ?
+
+abbrev μ-loop : tie.MeasureT-loop
+μ-loop parents₀ sizes₀ u next i₀ parents sizes i = ?
+
+-- src/groups.rt:26:5
+loop-holds : tie.Need-loop-holds Inv-loop μ-loop
+loop-holds c = ?
+
+-- src/groups.rt:27:33
+mul-join : tie.Need-mul-join Inv-loop μ-loop
+mul-join c = ?
+
+-- src/groups.rt:27:33
+shared-slice-read-join : tie.Need-shared-slice-read-join Inv-loop μ-loop
+shared-slice-read-join c = ?
+
+-- src/groups.rt:27:9
+join-requires : tie.Need-join-requires Inv-loop μ-loop
+join-requires c κs = ?
+
+-- src/groups.rt:28:9
+add-i : tie.Need-add-i Inv-loop μ-loop
+add-i c = ?
+
+-- src/groups.rt:26:5
+loop-less : tie.Need-loop-less Inv-loop μ-loop
+loop-less c = ?
+
+-- src/groups.rt:26:5
+loop-again : tie.Need-loop-again Inv-loop μ-loop
+loop-again c = ?
+
+-- src/groups.rt:22:1
+same-length : tie.Need-same-length Inv-loop μ-loop
+same-length c = ?
+
+-- src/groups.rt:22:1
+same-length-2 : tie.Need-same-length-2 Inv-loop μ-loop
+same-length-2 c = ?
+
+-- src/groups.rt:22:1
+returns : tie.Need-returns Inv-loop μ-loop
+returns c = ?
+
+pub join-part-spec : {M : Type 1} → statement M
+join-part-spec =
+    tie.close
+    (tie.spec
+    Inv-loop
+    μ-loop
+    loop-holds
+    mul-join
+    shared-slice-read-join
+    join-requires
+    add-i
+    loop-less
+    loop-again
+    same-length
+    same-length-2
+    returns)
