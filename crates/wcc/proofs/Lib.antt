@@ -1,2 +1,3 @@
 -- Laws of the WCC kernel.
 pub mod Steps
+pub mod Calls

@@ -14,7 +14,7 @@ use Rattle.book.specs.Rules.{Joining, Done, done, joinBook, headOf}
 use Rattle.book.specs.Two.{Areas, areas, two, twoBook}
 use Rattle.book.specs.Says.{saysHeaded}
 use Rattle.book.specs.Series.{headIn}
-use Rattle.wcc.specs.Steps.{headHere, joinPart, joinArcs, marked, copied}
+use Rattle.wcc.specs.Steps.{headHere, joinPart, joinArcs, marked, copied, Within}
 
 -- ---- the head that a call gives
 module _ (ps ss : List ℕ) (v : ℕ) (r : Headed) (e : saysHeaded r ≡ headOf (two ps ss) v) where
@@ -52,6 +52,9 @@ module _ (out : ℕ → List ℕ) (a : Areas) where
 
 -- ---- labels
 module _ (g : ℕ → ℕ) where
+  pub mark-none : (ids R : List ℤ) (n : ℕ) → marked g ids (n - 0) R ≡ marked g ids n R
+  mark-none ids R n = let q : n - 0 ≡ n = omega arith in ap (λ (k : ℕ). marked g ids k R) q
+
   -- what is left to mark after i turns is the first n - i vertices
   pub mark-more : (ids R T : List ℤ) (n i h : ℕ) (z : ℤ) → i < n → h ≡ g (n - 1 - i) → z ≡ getD ids (n - 1 - i) (pos 0) → marked g ids (n - i) R ≡ T
       → marked g ids (n - (i + 1)) (set R h z) ≡ T
@@ -60,6 +63,9 @@ module _ (g : ℕ → ℕ) where
       let s : n - i ≡ suc (n - 1 - i) = omega arith in
       let t : n - (i + 1) ≡ n - 1 - i = omega arith in
       ap₂ (λ (k : ℕ) (x : List ℤ). marked g ids k x) t (ap₂ (set R) q f) ∙ ap (λ (k : ℕ). marked g ids k R) (sym s) ∙ e
+
+  pub mark-below : (n i h : ℕ) (R : List ℤ) → Within n g → i < n → h ≡ g (n - 1 - i) → length R ≡ n → h < length R
+  mark-below n i h R w l q e = let k = w (n - 1 - i) (omega arith) in omega arith
 
   pub mark-end : (ids R T : List ℤ) (n i : ℕ) → n ≤ i → marked g ids (n - i) R ≡ T → R ≡ T
   unfolding marked
@@ -73,6 +79,9 @@ module _ (g : ℕ → ℕ) where
   unfolding copied
   copy-more R S v h z q f e =
       rw add-one (ap (set S v) f ∙ ap (λ (x : ℕ). set S v (getD S x (pos 0))) q ∙ ap (λ (X : List ℤ). set X v (getD X (g v) (pos 0))) e)
+
+  pub copy-below : (n v h : ℕ) (R : List ℤ) → Within n g → v < length R → h ≡ g v → length R ≡ n → h < length R
+  copy-below n v h R w l q e = let k = w v (omega arith) in omega arith
 
   pub copy-end : (R S : List ℤ) (v n : ℕ) → v ≤ n → n ≤ v → S ≡ copied g v R → S ≡ copied g n R
   copy-end R S v n l k e = let q : v ≡ n = omega arith in e ∙ ap (λ (x : ℕ). copied g x R) q

@@ -14,7 +14,7 @@ fn mark(parents: &[usize], sizes: &[usize], ids: &[i64], result: &mut [i64])
     requires { ⌜ length (now ids) ≡ length (now result) ⌝ }
     ensures { λ _. ⌜ now (result .exit) ≡ marked (headHere (now (parents .entry)) (now (sizes .entry))) (now (ids .entry)) (length (now (result .entry))) (now (result .entry)) ⌝ }
 {
-    let n = ids.len();
+    let n = result.len();
     let mut i = 0;
     while i < n {
         let v = n - 1 - i;

@@ -1,4 +1,5 @@
 use borrow.Author.Needs.{needs}
+use Rattle.wcc.proofs.Calls.{refuse-all}
 use Rattle.wcc.proofs.refuse.Statement.{statement}
 use Rattle.wcc.proofs.refuse.Tie as tie
 use Rattle.wcc.proofs.refuse.Reads as reads
@@ -37,7 +38,7 @@ same-length-3 c = search needs
 
 -- src/lib.rt:37:1
 returns : tie.Need-returns
-returns c = ?
+returns c = search refuse-all
 
 pub refuse-spec : {M : Type 1} → statement M
 refuse-spec =

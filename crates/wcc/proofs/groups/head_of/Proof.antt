@@ -1,4 +1,5 @@
 use borrow.Author.Needs.{needs}
+use Rattle.wcc.proofs.Steps.{head-given, head-refused}
 use Rattle.wcc.proofs.groups.head_of.Statement.{statement}
 use Rattle.wcc.proofs.groups.head_of.Tie as tie
 use Rattle.wcc.proofs.groups.head_of.Reads as reads
@@ -19,11 +20,11 @@ enum-told c = search needs
 
 -- src/groups.rt:12:1
 returns : tie.Need-returns
-returns c = ?
+returns c = search head-given
 
 -- src/groups.rt:12:1
 returns-2 : tie.Need-returns-2
-returns-2 c = ?
+returns-2 c = search head-refused
 
 pub head-of-spec : {M : Type 1} → statement M
 head-of-spec = tie.close (tie.spec head-requires enum-known-h enum-told returns returns-2)

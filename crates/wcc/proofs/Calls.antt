@@ -1,0 +1,90 @@
+-- Laws of the call's promise: one for each way that a function of it ends, its premises the code's tests. Assumes nothing.
+use Prim.Native.Nat.{ℕ, _≤_, _<_}
+use mathlib.Core.Path.{_≡_, refl, sym, ap, _∙_}
+use mathlib.Core.Bool.{Bool, true, false, not, _&&_}
+use mathlib.Core.List.{List, [], _++_}
+use native.Mathlib.Omega.{arith}
+use lib.IntN.{ℤ, pos}
+use lib.ListN.{length, replicate, take, drop}
+use lib.Seq.{length-take-le, length-front}
+use lib.Dec.{leb}
+use borrow.Author.Tests.{lt-leb, le-leb, leb-true}
+use Rattle.basis.specs.Refusal.{Said, gives, refuses, plain}
+use Rattle.basis.specs.Area.{cleared, clearedZ, leaves}
+use Rattle.basis.proofs.Tests.{and-first, and-second, failed, held}
+use Rattle.basis.proofs.Areas.{column-length, pad-lent}
+use Rattle.graph.specs.declared.Size.{Size}
+use Rattle.graph.specs.Sound.{Graph, outward, names, lent, soundGraph}
+use Rattle.graph.proofs.Sounds.{Sound, sound-of, outward-below, names-length}
+use Rattle.kernels.specs.Answer.{kernelSays}
+use Rattle.wcc.specs.Component.{labelOf, wccOf}
+use Rattle.wcc.specs.Promise.{roomFor, Outcome, outcome, leftBy, wccCall}
+use Rattle.wcc.specs.Steps.{Exact}
+
+-- ---- room for n places, area by area
+module _ (n : ℕ) (R : List ℤ) (P S : List ℕ) where
+  pub room-result : length R < n → false ≡ roomFor n R P S
+  unfolding roomFor
+  room-result h = rw (lt-leb n (length R) h)
+
+  pub room-parents : n ≤ length R → length P < n → false ≡ roomFor n R P S
+  unfolding roomFor
+  room-parents g h = rw (le-leb n (length R) g, lt-leb n (length P) h)
+
+  pub room-sizes : n ≤ length R → n ≤ length P → leb n (length S) ≡ roomFor n R P S
+  unfolding roomFor
+  room-sizes g h = rw (le-leb n (length R) g, le-leb n (length P) h)
+
+-- equal parts, equal outcomes
+outcomes : {s t : Said (Unit {0})} {R R′ : List ℤ} {P P′ S S′ : List ℕ} → s ≡ t → R ≡ R′ → P ≡ P′ → S ≡ S′ → outcome s R P S ≡ outcome t R′ P′ S′
+outcomes d p q r = cc
+
+pub refuse-all : (s : Said (Unit {0})) (k : ℕ) (R R₁ : List ℤ) (P S P₁ S₁ : List ℕ) → s ≡ refuses (plain k) → R₁ ≡ clearedZ R → P₁ ≡ cleared P → S₁ ≡ cleared S
+    → outcome s R₁ P₁ S₁ ≡ leftBy (refuses (plain k)) [] R P S
+unfolding leftBy
+refuse-all s k R R₁ P S P₁ S₁ d p q r = outcomes d p q r
+
+-- ---- areas with room for n places: their first n places
+module _ (n : ℕ) (R : List ℤ) (P S : List ℕ) (h : roomFor n R P S ≡ true) where
+  pub first-parents : n ≤ length P
+  unfolding roomFor
+  first-parents = leb-true n (length P) (and-second (leb n (length R)) (leb n (length P)) (and-first (leb n (length R) && leb n (length P)) (leb n (length S)) h))
+
+  pub first-sizes : n ≤ length S
+  unfolding roomFor
+  first-sizes = leb-true n (length S) (and-second (leb n (length R) && leb n (length P)) (leb n (length S)) h)
+
+  pub taken-parents : n ≡ length (take n P)
+  taken-parents = sym (length-take-le n P first-parents)
+
+  pub taken-sizes : n ≡ length (take n S)
+  taken-sizes = sym (length-take-le n S first-sizes)
+
+  module _ (R₁ : List ℤ) (e : length R₁ ≡ length R) where
+    pub first-result : n ≤ length R₁
+    unfolding roomFor
+    first-result = let r = leb-true n (length R) (and-first (leb n (length R)) (leb n (length P)) (and-first (leb n (length R) && leb n (length P)) (leb n (length S)) h)) in omega arith
+
+    pub taken-result : n ≡ length (take n R₁)
+    taken-result = sym (length-take-le n R₁ first-result)
+
+module _ (size : Size) (ids : List ℤ) (oo ot io is : List ℕ) (s : soundGraph (lent size ids oo ot io is) ≡ true) where
+  abbrev g : Graph
+  g = lent size ids oo ot io is
+
+  pub taken-ids : size .vertices ≡ length (take (size .vertices) ids)
+  taken-ids = sym (names-length g (sound-of g s))
+
+  pub first-ids : size .vertices ≤ length ids
+  first-ids = sound-of g s .idsRoom
+
+  pub exact-of : (R : List ℤ) (P S : List ℕ) → roomFor (size .vertices) R P S ≡ true → (n : ℕ) → size .vertices ≡ n
+      → Exact n (outward g) (take (size .vertices) ids) (take (size .vertices) P) (take (size .vertices) S)
+  exact-of R P S h n e =
+      rw (sym e) (record {
+        few = sound-of g s .fewVertices;
+        inside = outward-below g (sound-of g s);
+        named = sym taken-ids;
+        parentsRoom = sym (taken-parents (size .vertices) R P S h);
+        sizesRoom = sym (taken-sizes (size .vertices) R P S h);
+      })

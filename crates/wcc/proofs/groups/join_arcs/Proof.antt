@@ -1,0 +1,64 @@
+use Rattle.wcc.proofs.groups.join_arcs.Statement.{statement}
+use Rattle.wcc.proofs.groups.join_arcs.Tie as tie
+use Rattle.wcc.proofs.groups.join_arcs.Reads as reads
+use Rattle.wcc.proofs.groups.join_arcs.Lts as lts
+use Rattle.graph.proofs.part.part.Reads as part-reads
+use Rattle.wcc.proofs.groups.join_part.Reads as join-part-reads
+
+abbrev Inv-loop : tie.InvT-loop
+Inv-loop n offsets targets parents₀ sizes₀ u₀ parents sizes u = ?
+
+abbrev μ-loop : tie.MeasureT-loop
+μ-loop n offsets targets parents₀ sizes₀ u₀ parents sizes u = ?
+
+-- src/groups.rt:43:5
+loop-holds : tie.Need-loop-holds Inv-loop μ-loop
+loop-holds c = ?
+
+-- src/groups.rt:44:38
+part-requires : tie.Need-part-requires Inv-loop μ-loop
+part-requires c κs = ?
+
+-- src/groups.rt:44:9
+join-part-requires : tie.Need-join-part-requires Inv-loop μ-loop
+join-part-requires c κs = ?
+
+-- src/groups.rt:45:9
+add-u : tie.Need-add-u Inv-loop μ-loop
+add-u c = ?
+
+-- src/groups.rt:43:5
+loop-less : tie.Need-loop-less Inv-loop μ-loop
+loop-less c = ?
+
+-- src/groups.rt:43:5
+loop-again : tie.Need-loop-again Inv-loop μ-loop
+loop-again c = ?
+
+-- src/groups.rt:33:1
+same-length : tie.Need-same-length Inv-loop μ-loop
+same-length c = ?
+
+-- src/groups.rt:33:1
+same-length-2 : tie.Need-same-length-2 Inv-loop μ-loop
+same-length-2 c = ?
+
+-- src/groups.rt:33:1
+returns : tie.Need-returns Inv-loop μ-loop
+returns c = ?
+
+pub join-arcs-spec : {M : Type 1} → statement M
+join-arcs-spec =
+    tie.close
+    (tie.spec
+    Inv-loop
+    μ-loop
+    loop-holds
+    part-requires
+    join-part-requires
+    add-u
+    loop-less
+    loop-again
+    same-length
+    same-length-2
+    returns)
