@@ -1,6 +1,6 @@
 -- Laws of the call's promise: one for each way that a function of it ends, its premises the code's tests. Assumes nothing.
 use Prim.Native.Nat.{ℕ, _≤_, _<_}
-use mathlib.Core.Path.{_≡_, refl, sym, ap, _∙_}
+use mathlib.Core.Path.{_≡_, refl, sym, ap, ap₂, _∙_}
 use mathlib.Core.Bool.{Bool, true, false, not, _&&_}
 use mathlib.Core.List.{List, [], _++_}
 use native.Mathlib.Omega.{arith}
@@ -14,6 +14,7 @@ use Rattle.basis.specs.Area.{cleared, clearedZ, leaves}
 use Rattle.basis.proofs.Tests.{and-first, and-second, failed, held}
 use Rattle.basis.proofs.Areas.{column-length, pad-lent}
 use Rattle.graph.specs.declared.Size.{Size}
+use Rattle.graph.specs.Part.{partOf}
 use Rattle.graph.specs.Sound.{Graph, outward, names, lent, soundGraph}
 use Rattle.graph.proofs.Sounds.{Sound, sound-of, outward-below, names-length}
 use Rattle.kernels.specs.Answer.{kernelSays}
@@ -78,13 +79,53 @@ module _ (size : Size) (ids : List ℤ) (oo ot io is : List ℕ) (s : soundGraph
   pub first-ids : size .vertices ≤ length ids
   first-ids = sound-of g s .idsRoom
 
-  pub exact-of : (R : List ℤ) (P S : List ℕ) → roomFor (size .vertices) R P S ≡ true → (n : ℕ) → size .vertices ≡ n
-      → Exact n (outward g) (take (size .vertices) ids) (take (size .vertices) P) (take (size .vertices) S)
-  exact-of R P S h n e =
-      rw (sym e) (record {
-        few = sound-of g s .fewVertices;
-        inside = outward-below g (sound-of g s);
-        named = sym taken-ids;
-        parentsRoom = sym (taken-parents (size .vertices) R P S h);
-        sizesRoom = sym (taken-sizes (size .vertices) R P S h);
-      })
+  module _ (R R₁ : List ℤ) (P S : List ℕ) (h : roomFor (size .vertices) R P S ≡ true) where
+    pub exact-of : length R₁ ≡ length R → Exact (size .vertices) (partOf (size .vertices) oo ot) (take (size .vertices) ids) (take (size .vertices) R₁) (take (size .vertices) P) (take (size .vertices) S)
+    exact-of e =
+        record {
+          few = sound-of g s .fewVertices;
+          inside = outward-below g (sound-of g s);
+          named = sym taken-ids;
+          resultRoom = sym (taken-result (size .vertices) R P S h R₁ e);
+          parentsRoom = sym (taken-parents (size .vertices) R P S h);
+          sizesRoom = sym (taken-sizes (size .vertices) R P S h);
+        }
+
+  -- the labels with zeros behind them, and working areas of zeros, whatever their first places held
+  pub fill-all : (R R₁ X : List ℤ) (P S P₂ S₂ P₃ S₃ : List ℕ) → R₁ ≡ clearedZ R → X ≡ wccOf g
+      → length P₂ ≡ length (take (size .vertices) P) → length S₂ ≡ length (take (size .vertices) S)
+      → P₃ ≡ cleared (P₂ ++ drop (size .vertices) P) → S₃ ≡ cleared (S₂ ++ drop (size .vertices) S)
+      → outcome (gives tt) (X ++ drop (size .vertices) R₁) P₃ S₃ ≡ leftBy (gives tt) (wccOf g) R P S
+  unfolding leftBy
+  fill-all R R₁ X P S P₂ S₂ P₃ S₃ e q p t c d =
+      outcomes refl
+      (ap₂ (λ x y. x ++ drop (size .vertices) y) q e
+      ∙ pad-lent (pos 0) (size .vertices) (length R) (wccOf g) (column-length (labelOf (size .vertices) (outward g) (names g)) 0 (size .vertices)))
+      (c ∙ ap (λ (k : ℕ). replicate k 0) (length-front P P₂ (size .vertices) p))
+      (d ∙ ap (λ (k : ℕ). replicate k 0) (length-front S S₂ (size .vertices) t))
+
+-- ---- the call: how it ends, by its tests in their order
+module _ (g : Graph) (R : List ℤ) (P S : List ℕ) where
+  call-refused : (k : ℕ) → kernelSays (soundGraph g) true 0 (roomFor (g .vertices) R P S) ≡ refuses (plain k) → leftBy (refuses (plain k)) [] R P S ≡ wccCall g R P S
+  unfolding wccCall leftBy
+  call-refused k h = ap (λ (s : Said (Unit {0})). outcome s (leaves s (pos 0) (length R) (wccOf g)) (cleared P) (cleared S)) (sym h)
+
+  call-given : kernelSays (soundGraph g) true 0 (roomFor (g .vertices) R P S) ≡ gives tt → leftBy (gives tt) (wccOf g) R P S ≡ wccCall g R P S
+  unfolding wccCall
+  call-given h = ap (λ (s : Said (Unit {0})). leftBy s (wccOf g) R P S) (sym h)
+
+module _ (size : Size) (ids : List ℤ) (oo ot io is : List ℕ) (R : List ℤ) (P S : List ℕ) (o : Outcome) (s : Bool) (e : s ≡ soundGraph (lent size ids oo ot io is)) where
+  abbrev graph : Graph
+  graph = lent size ids oo ot io is
+
+  pub call-unsound : not s ≡ true → o ≡ leftBy (refuses (plain 9)) [] R P S → o ≡ wccCall graph R P S
+  call-unsound h q = q ∙ call-refused graph R P S 9 (unfold kernelSays in rw (failed s (soundGraph graph) e h))
+
+  module _ (h : not s ≡ false) (r : Bool) (i : r ≡ roomFor (size .vertices) R P S) where
+    pub call-short : not r ≡ true → o ≡ leftBy (refuses (plain 8)) [] R P S → o ≡ wccCall graph R P S
+    call-short l q =
+        q ∙ call-refused graph R P S 8 (unfold kernelSays in rw (held s (soundGraph graph) e h, failed r (roomFor (size .vertices) R P S) i l))
+
+    pub call-done : not r ≡ false → o ≡ leftBy (gives tt) (wccOf graph) R P S → o ≡ wccCall graph R P S
+    call-done l q =
+        q ∙ call-given graph R P S (unfold kernelSays in rw (held s (soundGraph graph) e h, held r (roomFor (size .vertices) R P S) i l))

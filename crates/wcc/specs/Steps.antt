@@ -38,10 +38,11 @@ copied g (suc v) R = set (copied g v R) v (getD (copied g v R) (g v) (pos 0))
 abbrev pub Within : ℕ → (ℕ → ℕ) → Type 0
 Within n g = (v : ℕ) → v < n → g v < n
 
--- arcs among n vertices, an identifier for each, and a book with one place for each
-pub record Exact (n : ℕ) (out : ℕ → List ℕ) (ids : List ℤ) (ps ss : List ℕ) : Type 0 where
+-- arcs among n vertices, an identifier for each, and one place for each in every area
+pub record Exact (n : ℕ) (out : ℕ → List ℕ) (ids R : List ℤ) (ps ss : List ℕ) : Type 0 where
   pub few : n ≤ 65536
   pub inside : (u : ℕ) → u < n → allBelow n (out u) ≡ true
   pub named : length ids ≡ n
+  pub resultRoom : length R ≡ n
   pub parentsRoom : length ps ≡ n
   pub sizesRoom : length ss ≡ n

@@ -37,8 +37,9 @@ fn copy_labels(parents: &[usize], sizes: &[usize], result: &mut [i64])
     }
 }
 
-// The working areas keep the book.
+// The labels of n vertices. The working areas keep the book.
 pub(crate) fn label(
+    n: usize,
     offsets: &[usize],
     targets: &[usize],
     ids: &[i64],
@@ -46,11 +47,11 @@ pub(crate) fn label(
     parents: &mut [usize],
     sizes: &mut [usize],
 )
-    requires { ⌜ Exact (length (now result)) (partOf (length (now result)) (now offsets) (now targets)) (now ids) (now parents) (now sizes) ⌝ }
-    ensures { λ _. ⌜ now (result .exit) ≡ labels (length (now (result .entry))) (partOf (length (now (result .entry))) (now (offsets .entry)) (now (targets .entry))) (now (ids .entry)) ⌝ }
+    requires { ⌜ Exact n (partOf n (now offsets) (now targets)) (now ids) (now result) (now parents) (now sizes) ⌝ }
+    ensures { λ _. ⌜ now (result .exit) ≡ labels n (partOf n (now (offsets .entry)) (now (targets .entry))) (now (ids .entry)) ⌝ }
 {
     open_book(parents, sizes);
-    join_arcs(result.len(), offsets, targets, parents, sizes);
+    join_arcs(n, offsets, targets, parents, sizes);
     mark(parents, sizes, ids, result);
     copy_labels(parents, sizes, result);
 }

@@ -61,6 +61,7 @@ fn fill(
 {
     clear_signed(result);
     label(
+        size.vertices,
         out_offsets,
         out_targets,
         &ids[..size.vertices],
