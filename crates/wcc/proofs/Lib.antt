@@ -5,3 +5,5 @@ pub mod Firsts
 pub mod Passes
 pub mod Joins
 pub mod Calls
+pub mod Meaning
+pub mod Examples
