@@ -16,7 +16,7 @@ use Rattle.basis.proofs.Areas.{column-length, pad-lent}
 use Rattle.graph.specs.declared.Size.{Size}
 use Rattle.graph.specs.Part.{partOf}
 use Rattle.graph.specs.Sound.{Graph, outward, names, lent, soundGraph}
-use Rattle.graph.proofs.Sounds.{Sound, sound-of, outward-below, names-length}
+use Rattle.graph.proofs.Sounds.{sound-of, outward-below, names-length}
 use Rattle.kernels.specs.Answer.{kernelSays}
 use Rattle.wcc.specs.Component.{labelOf, wccOf}
 use Rattle.wcc.specs.Promise.{roomFor, Outcome, outcome, leftBy, wccCall}
@@ -47,9 +47,12 @@ refuse-all s k R R₁ P S P₁ S₁ d p q r = outcomes d p q r
 
 -- ---- areas with room for n places: their first n places
 module _ (n : ℕ) (R : List ℤ) (P S : List ℕ) (h : roomFor n R P S ≡ true) where
-  pub first-parents : n ≤ length P
+  first-two : (leb n (length R) && leb n (length P)) ≡ true
   unfolding roomFor
-  first-parents = leb-true n (length P) (and-second (leb n (length R)) (leb n (length P)) (and-first (leb n (length R) && leb n (length P)) (leb n (length S)) h))
+  first-two = and-first (leb n (length R) && leb n (length P)) (leb n (length S)) h
+
+  pub first-parents : n ≤ length P
+  first-parents = leb-true n (length P) (and-second (leb n (length R)) (leb n (length P)) first-two)
 
   pub first-sizes : n ≤ length S
   unfolding roomFor
@@ -63,8 +66,7 @@ module _ (n : ℕ) (R : List ℤ) (P S : List ℕ) (h : roomFor n R P S ≡ true
 
   module _ (R₁ : List ℤ) (e : length R₁ ≡ length R) where
     pub first-result : n ≤ length R₁
-    unfolding roomFor
-    first-result = let r = leb-true n (length R) (and-first (leb n (length R)) (leb n (length P)) (and-first (leb n (length R) && leb n (length P)) (leb n (length S)) h)) in omega arith
+    first-result = let r = leb-true n (length R) (and-first (leb n (length R)) (leb n (length P)) first-two) in omega arith
 
     pub taken-result : n ≡ length (take n R₁)
     taken-result = sym (length-take-le n R₁ first-result)
@@ -75,9 +77,6 @@ module _ (size : Size) (ids : List ℤ) (oo ot io is : List ℕ) (s : soundGraph
 
   pub taken-ids : size .vertices ≡ length (take (size .vertices) ids)
   taken-ids = sym (names-length g (sound-of g s))
-
-  pub first-ids : size .vertices ≤ length ids
-  first-ids = sound-of g s .idsRoom
 
   module _ (R R₁ : List ℤ) (P S : List ℕ) (h : roomFor (size .vertices) R P S ≡ true) where
     pub exact-of : length R₁ ≡ length R → Exact (size .vertices) (partOf (size .vertices) oo ot) (take (size .vertices) ids) (take (size .vertices) R₁) (take (size .vertices) P) (take (size .vertices) S)

@@ -12,7 +12,7 @@ use lib.ListN.{length, getD, set, length-set}
 use lib.Seq.{getD-set-same, getD-set-other}
 use Rattle.basis.specs.Scan.{allBelow}
 use Rattle.basis.proofs.Areas.{column-is}
-use Rattle.wcc.specs.Component.{Linked, back, on, first, labelOf, labels}
+use Rattle.wcc.specs.Component.{Linked, first, labelOf, labels}
 use Rattle.wcc.specs.Steps.{marked, copied, Within}
 use Rattle.wcc.proofs.Firsts.{first-below, first-linked, first-least}
 

@@ -1,14 +1,14 @@
 -- The kernel's loops, a turn at a time. Assumes nothing.
-use Prim.Native.Nat.{ℕ, zero, suc, _+_, _-_, _≤_, _<_}
+use Prim.Native.Nat.{ℕ, suc, _+_, _-_, _≤_, _<_}
 use mathlib.Core.Path.{_≡_, refl, sym, ap, ap₂, _∙_}
-use mathlib.Core.List.{List, [], _∷_}
+use mathlib.Core.List.{List}
 use native.Mathlib.Omega.{arith}
 use native.Mathlib.Numerals.{add-one}
 use lib.IntN.{ℤ, pos}
 use lib.ListN.{length, getD, set, drop, drop-of-length-le}
 use lib.Seq.{drop-cons}
 use Rattle.basis.specs.declared.refusal.Refusal.{Refusal}
-use Rattle.basis.specs.Refusal.{Said, gives, refuses}
+use Rattle.basis.specs.Refusal.{Said}
 use Rattle.book.specs.declared.Headed.{Headed}
 use Rattle.book.specs.Rules.{Joining, Done, done, joinBook, headOf}
 use Rattle.book.specs.Two.{Areas, areas, two, twoBook}

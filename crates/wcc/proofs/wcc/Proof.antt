@@ -3,78 +3,55 @@ use Rattle.basis.proofs.Tests.{held}
 use Rattle.wcc.proofs.Calls.{call-unsound, call-short, call-done}
 use Rattle.wcc.proofs.wcc.Statement.{statement}
 use Rattle.wcc.proofs.wcc.Tie as tie
-use Rattle.wcc.proofs.wcc.Reads as reads
-use Rattle.wcc.proofs.wcc.Lts as lts
-use Rattle.graph.proofs.sound.sound.Reads as sound-reads
-use Rattle.wcc.proofs.fill.Reads as fill-reads
-use Rattle.wcc.proofs.refuse.Reads as refuse-reads
-use Rattle.wcc.proofs.room.Reads as room-reads
 
--- src/lib.rt:91:9
 sound-requires : tie.Need-sound-requires
 sound-requires c κs = search needs
 
--- src/lib.rt:92:9
 refuse-requires : tie.Need-refuse-requires
 refuse-requires c κs = search needs
 
--- src/lib.rt:92:9
 same-length : tie.Need-same-length
 same-length c = search needs
 
--- src/lib.rt:92:9
 same-length-2 : tie.Need-same-length-2
 same-length-2 c = search needs
 
--- src/lib.rt:92:9
 same-length-3 : tie.Need-same-length-3
 same-length-3 c = search needs
 
--- src/lib.rt:92:9
 returns : tie.Need-returns
 returns c = search call-unsound
 
--- src/lib.rt:94:9
 room-requires : tie.Need-room-requires
 room-requires c κs = search needs
 
--- src/lib.rt:95:9
 refuse-requires-2 : tie.Need-refuse-requires-2
 refuse-requires-2 c κs = search needs
 
--- src/lib.rt:95:9
 same-length-4 : tie.Need-same-length-4
 same-length-4 c = search needs
 
--- src/lib.rt:95:9
 same-length-5 : tie.Need-same-length-5
 same-length-5 c = search needs
 
--- src/lib.rt:95:9
 same-length-6 : tie.Need-same-length-6
 same-length-6 c = search needs
 
--- src/lib.rt:95:9
 returns-2 : tie.Need-returns-2
 returns-2 c = search call-short
 
--- src/lib.rt:97:5
 fill-requires : tie.Need-fill-requires
 fill-requires c κs = (held _ _ (c .before .before .before .before .before .before .before .before .before .sound .ensures) (c .before .before .before .before .before .before .before .before .if1 .left), held _ _ (c .before .before .before .before .room .ensures) (c .before .before .before .if2 .left))
 
--- src/lib.rt:78:1
 same-length-7 : tie.Need-same-length-7
 same-length-7 c = search needs
 
--- src/lib.rt:78:1
 same-length-8 : tie.Need-same-length-8
 same-length-8 c = search needs
 
--- src/lib.rt:78:1
 same-length-9 : tie.Need-same-length-9
 same-length-9 c = search needs
 
--- src/lib.rt:78:1
 returns-3 : tie.Need-returns-3
 returns-3 c = search call-done
 

@@ -2,27 +2,19 @@ use borrow.Author.Needs.{needs}
 use Rattle.wcc.proofs.Steps.{head-given, head-refused}
 use Rattle.wcc.proofs.groups.head_of.Statement.{statement}
 use Rattle.wcc.proofs.groups.head_of.Tie as tie
-use Rattle.wcc.proofs.groups.head_of.Reads as reads
-use Rattle.wcc.proofs.groups.head_of.Lts as lts
-use Rattle.book.proofs.readings.head.Reads as head-reads
 
--- src/groups.rt:15:11
 head-requires : tie.Need-head-requires
 head-requires c κs = search needs
 
--- src/groups.rt:16:22
 enum-known-h : tie.Need-enum-known-h
 enum-known-h c = search needs
 
--- src/groups.rt:17:31
 enum-told : tie.Need-enum-told
 enum-told c = search needs
 
--- src/groups.rt:12:1
 returns : tie.Need-returns
 returns c = search head-given
 
--- src/groups.rt:12:1
 returns-2 : tie.Need-returns-2
 returns-2 c = search head-refused
 

@@ -9,10 +9,6 @@ use Rattle.wcc.specs.Steps.{joinArcs}
 use Rattle.wcc.proofs.Steps.{arcs-none, arcs-more, arcs-end}
 use Rattle.wcc.proofs.groups.join_arcs.Statement.{statement}
 use Rattle.wcc.proofs.groups.join_arcs.Tie as tie
-use Rattle.wcc.proofs.groups.join_arcs.Reads as reads
-use Rattle.wcc.proofs.groups.join_arcs.Lts as lts
-use Rattle.graph.proofs.part.part.Reads as part-reads
-use Rattle.wcc.proofs.groups.join_part.Reads as join-part-reads
 
 abbrev Inv-loop : tie.InvT-loop
 Inv-loop n offsets targets parents₀ sizes₀ u₀ parents sizes u = (u ≤ n) × (length parents ≡ length parents₀) × (length sizes ≡ length sizes₀) × (areas parents sizes ≡ joinArcs (partOf n offsets targets) u (areas parents₀ sizes₀))
@@ -20,39 +16,30 @@ Inv-loop n offsets targets parents₀ sizes₀ u₀ parents sizes u = (u ≤ n) 
 abbrev μ-loop : tie.MeasureT-loop
 μ-loop n offsets targets parents₀ sizes₀ u₀ parents sizes u = n - u
 
--- src/groups.rt:43:5
 loop-holds : tie.Need-loop-holds Inv-loop μ-loop
 loop-holds c = (omega arith, refl, refl, search arcs-none)
 
--- src/groups.rt:44:38
 part-requires : tie.Need-part-requires Inv-loop μ-loop
 part-requires c κs = search needs
 
--- src/groups.rt:44:9
 join-part-requires : tie.Need-join-part-requires Inv-loop μ-loop
 join-part-requires c κs = search needs
 
--- src/groups.rt:45:9
 add-u : tie.Need-add-u Inv-loop μ-loop
 add-u c = search needs
 
--- src/groups.rt:43:5
 loop-less : tie.Need-loop-less Inv-loop μ-loop
 loop-less c = search needs
 
--- src/groups.rt:43:5
 loop-again : tie.Need-loop-again Inv-loop μ-loop
 loop-again c = (omega arith, search needs, search needs, search arcs-more)
 
--- src/groups.rt:33:1
 same-length : tie.Need-same-length Inv-loop μ-loop
 same-length c = search needs
 
--- src/groups.rt:33:1
 same-length-2 : tie.Need-same-length-2 Inv-loop μ-loop
 same-length-2 c = search needs
 
--- src/groups.rt:33:1
 returns : tie.Need-returns Inv-loop μ-loop
 returns c = search arcs-end
 

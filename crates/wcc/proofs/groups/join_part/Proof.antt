@@ -8,9 +8,6 @@ use Rattle.wcc.specs.Steps.{joinPart}
 use Rattle.wcc.proofs.Steps.{part-more, part-end}
 use Rattle.wcc.proofs.groups.join_part.Statement.{statement}
 use Rattle.wcc.proofs.groups.join_part.Tie as tie
-use Rattle.wcc.proofs.groups.join_part.Reads as reads
-use Rattle.wcc.proofs.groups.join_part.Lts as lts
-use Rattle.book.proofs.joining.join.Reads as join-reads
 
 abbrev Inv-loop : tie.InvT-loop
 Inv-loop parents₀ sizes₀ u next i₀ parents sizes i = (i ≤ length next) × (length parents ≡ length parents₀) × (length sizes ≡ length sizes₀) × (joinPart (areas parents sizes) u (drop i next) ≡ joinPart (areas parents₀ sizes₀) u next)
@@ -18,43 +15,33 @@ Inv-loop parents₀ sizes₀ u next i₀ parents sizes i = (i ≤ length next) �
 abbrev μ-loop : tie.MeasureT-loop
 μ-loop parents₀ sizes₀ u next i₀ parents sizes i = length next - i
 
--- src/groups.rt:26:5
 loop-holds : tie.Need-loop-holds Inv-loop μ-loop
 loop-holds c = (omega arith, refl, refl, refl)
 
--- src/groups.rt:27:33
 mul-join : tie.Need-mul-join Inv-loop μ-loop
 mul-join c = search needs
 
--- src/groups.rt:27:33
 shared-slice-read-join : tie.Need-shared-slice-read-join Inv-loop μ-loop
 shared-slice-read-join c = search needs
 
--- src/groups.rt:27:9
 join-requires : tie.Need-join-requires Inv-loop μ-loop
 join-requires c κs = search needs
 
--- src/groups.rt:28:9
 add-i : tie.Need-add-i Inv-loop μ-loop
 add-i c = search needs
 
--- src/groups.rt:26:5
 loop-less : tie.Need-loop-less Inv-loop μ-loop
 loop-less c = search needs
 
--- src/groups.rt:26:5
 loop-again : tie.Need-loop-again Inv-loop μ-loop
 loop-again c = (omega arith, search needs, search needs, search part-more)
 
--- src/groups.rt:22:1
 same-length : tie.Need-same-length Inv-loop μ-loop
 same-length c = search needs
 
--- src/groups.rt:22:1
 same-length-2 : tie.Need-same-length-2 Inv-loop μ-loop
 same-length-2 c = search needs
 
--- src/groups.rt:22:1
 returns : tie.Need-returns Inv-loop μ-loop
 returns c = search part-end
 

@@ -8,9 +8,6 @@ use Rattle.wcc.specs.Steps.{headHere, copied}
 use Rattle.wcc.proofs.Steps.{copy-none, copy-more, copy-below, copy-end}
 use Rattle.wcc.proofs.labels.copy_labels.Statement.{statement}
 use Rattle.wcc.proofs.labels.copy_labels.Tie as tie
-use Rattle.wcc.proofs.labels.copy_labels.Reads as reads
-use Rattle.wcc.proofs.labels.copy_labels.Lts as lts
-use Rattle.wcc.proofs.groups.head_of.Reads as head-of-reads
 
 abbrev Inv-loop : tie.InvT-loop
 Inv-loop parents sizes result₀ v₀ result v = (v ≤ length result₀) × (length result ≡ length result₀) × (result ≡ copied (headHere parents sizes) v result₀)
@@ -21,47 +18,36 @@ abbrev μ-loop : tie.MeasureT-loop
 below : (c : tie.After-head-of Inv-loop μ-loop) → c .head-of .result < length (c .before .before .loop .result)
 below c = search copy-below
 
--- src/labels.rt:33:5
 loop-holds : tie.Need-loop-holds Inv-loop μ-loop
 loop-holds c = (omega arith, refl, search copy-none)
 
--- src/labels.rt:34:13
 head-of-requires : tie.Need-head-of-requires Inv-loop μ-loop
 head-of-requires c κs = search needs
 
--- src/labels.rt:35:21
 mul-result : tie.Need-mul-result Inv-loop μ-loop
 mul-result c = let k = below c in search needs
 
--- src/labels.rt:35:21
 slice-copy-out-result : tie.Need-slice-copy-out-result Inv-loop μ-loop
 slice-copy-out-result c = let k = below c in search needs
 
--- src/labels.rt:35:9
 mul-t10 : tie.Need-mul-t10 Inv-loop μ-loop
 mul-t10 c = search needs
 
--- src/labels.rt:35:9
 slice-set-from-result : tie.Need-slice-set-from-result Inv-loop μ-loop
 slice-set-from-result c = search needs
 
--- src/labels.rt:36:9
 add-v : tie.Need-add-v Inv-loop μ-loop
 add-v c = search needs
 
--- src/labels.rt:33:5
 loop-less : tie.Need-loop-less Inv-loop μ-loop
 loop-less c = search needs
 
--- src/labels.rt:33:5
 loop-again : tie.Need-loop-again Inv-loop μ-loop
 loop-again c = (omega arith, rw length-set (omega arith), search (copy-more, toZ-ofZ))
 
--- src/labels.rt:28:1
 same-length : tie.Need-same-length Inv-loop μ-loop
 same-length c = search needs
 
--- src/labels.rt:28:1
 returns : tie.Need-returns Inv-loop μ-loop
 returns c = copy-end _ _ _ _ _ (omega arith) (omega arith) (c .before .loop .inv .2)
 

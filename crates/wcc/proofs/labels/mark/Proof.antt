@@ -8,9 +8,6 @@ use Rattle.wcc.specs.Steps.{headHere, marked}
 use Rattle.wcc.proofs.Steps.{mark-none, mark-more, mark-below, mark-end}
 use Rattle.wcc.proofs.labels.mark.Statement.{statement}
 use Rattle.wcc.proofs.labels.mark.Tie as tie
-use Rattle.wcc.proofs.labels.mark.Reads as reads
-use Rattle.wcc.proofs.labels.mark.Lts as lts
-use Rattle.wcc.proofs.groups.head_of.Reads as head-of-reads
 
 abbrev Inv-loop : tie.InvT-loop
 Inv-loop parents sizes ids result₀ n i₀ result i = (i ≤ n) × (length result ≡ length result₀) × (marked (headHere parents sizes) ids (n - i) result ≡ marked (headHere parents sizes) ids (length result₀) result₀)
@@ -21,55 +18,42 @@ abbrev μ-loop : tie.MeasureT-loop
 below : (c : tie.After-head-of Inv-loop μ-loop) → c .head-of .result < length (c .before .before .loop .result)
 below c = search mark-below
 
--- src/labels.rt:19:5
 loop-holds : tie.Need-loop-holds Inv-loop μ-loop
 loop-holds c = (omega arith, refl, search mark-none)
 
--- src/labels.rt:20:17
 sub-v : tie.Need-sub-v Inv-loop μ-loop
 sub-v c = search needs
 
--- src/labels.rt:20:17
 sub-v-2 : tie.Need-sub-v-2 Inv-loop μ-loop
 sub-v-2 c = search needs
 
--- src/labels.rt:21:13
 head-of-requires : tie.Need-head-of-requires Inv-loop μ-loop
 head-of-requires c κs = search needs
 
--- src/labels.rt:22:21
 mul-result : tie.Need-mul-result Inv-loop μ-loop
 mul-result c = search needs
 
--- src/labels.rt:22:21
 shared-slice-copy-out-result : tie.Need-shared-slice-copy-out-result Inv-loop μ-loop
 shared-slice-copy-out-result c = search needs
 
--- src/labels.rt:22:9
 mul-t13 : tie.Need-mul-t13 Inv-loop μ-loop
 mul-t13 c = let k = below (c .before) in search needs
 
--- src/labels.rt:22:9
 slice-set-from-result : tie.Need-slice-set-from-result Inv-loop μ-loop
 slice-set-from-result c = let k = below (c .before) in search needs
 
--- src/labels.rt:23:9
 add-i : tie.Need-add-i Inv-loop μ-loop
 add-i c = search needs
 
--- src/labels.rt:19:5
 loop-less : tie.Need-loop-less Inv-loop μ-loop
 loop-less c = search needs
 
--- src/labels.rt:19:5
 loop-again : tie.Need-loop-again Inv-loop μ-loop
 loop-again c = (omega arith, rw length-set (omega arith), search (mark-more, toZ-ofZ))
 
--- src/labels.rt:12:1
 same-length : tie.Need-same-length Inv-loop μ-loop
 same-length c = search needs
 
--- src/labels.rt:12:1
 returns : tie.Need-returns Inv-loop μ-loop
 returns c = search mark-end
 
