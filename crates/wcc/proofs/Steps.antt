@@ -52,6 +52,10 @@ module _ (out : ℕ → List ℕ) (a : Areas) where
 
 -- ---- labels
 module _ (g : ℕ → ℕ) where
+  -- a vertex's head has a place in an area of n places
+  pub head-below : (n m v h : ℕ) → Within n g → m ≡ n → h ≡ g v → v < n → h < m
+  head-below n m v h w e q l = let k = w v l in omega arith
+
   pub mark-none : (ids R : List ℤ) (n : ℕ) → marked g ids (n - 0) R ≡ marked g ids n R
   mark-none ids R n = let q : n - 0 ≡ n = omega arith in ap (λ (k : ℕ). marked g ids k R) q
 
@@ -63,9 +67,6 @@ module _ (g : ℕ → ℕ) where
       let s : n - i ≡ suc (n - 1 - i) = omega arith in
       let t : n - (i + 1) ≡ n - 1 - i = omega arith in
       ap₂ (λ (k : ℕ) (x : List ℤ). marked g ids k x) t (ap₂ (set R) q f) ∙ ap (λ (k : ℕ). marked g ids k R) (sym s) ∙ e
-
-  pub mark-below : (n i h : ℕ) (R : List ℤ) → Within n g → i < n → h ≡ g (n - 1 - i) → length R ≡ n → h < length R
-  mark-below n i h R w l q e = let k = w (n - 1 - i) (omega arith) in omega arith
 
   pub mark-end : (ids R T : List ℤ) (n i : ℕ) → n ≤ i → marked g ids (n - i) R ≡ T → R ≡ T
   unfolding marked
@@ -80,8 +81,5 @@ module _ (g : ℕ → ℕ) where
   copy-more R S v h z q f e =
       rw add-one (ap (set S v) f ∙ ap (λ (x : ℕ). set S v (getD S x (pos 0))) q ∙ ap (λ (X : List ℤ). set X v (getD X (g v) (pos 0))) e)
 
-  pub copy-below : (n v h : ℕ) (R : List ℤ) → Within n g → v < length R → h ≡ g v → length R ≡ n → h < length R
-  copy-below n v h R w l q e = let k = w v (omega arith) in omega arith
-
-  pub copy-end : (R S : List ℤ) (v n : ℕ) → v ≤ n → n ≤ v → S ≡ copied g v R → S ≡ copied g n R
-  copy-end R S v n l k e = let q : v ≡ n = omega arith in e ∙ ap (λ (x : ℕ). copied g x R) q
+  pub copy-end : (R S : List ℤ) (v : ℕ) → v ≤ length R → length S ≡ length R → length S ≤ v → S ≡ copied g v R → S ≡ copied g (length R) R
+  copy-end R S v l k h e = let q : v ≡ length R = omega arith in e ∙ ap (λ (x : ℕ). copied g x R) q

@@ -5,7 +5,7 @@ use Prim.Native.Nat.{_≤_, _<_, _-_}
 use native.Mathlib.Omega.{arith}
 use lib.ListN.{length, length-set}
 use Rattle.wcc.specs.Steps.{headHere, copied}
-use Rattle.wcc.proofs.Steps.{copy-none, copy-more, copy-below, copy-end}
+use Rattle.wcc.proofs.Steps.{copy-none, copy-more, head-below, copy-end}
 use Rattle.wcc.proofs.labels.copy_labels.Statement.{statement}
 use Rattle.wcc.proofs.labels.copy_labels.Tie as tie
 
@@ -16,7 +16,7 @@ abbrev μ-loop : tie.MeasureT-loop
 μ-loop parents sizes result₀ v₀ result v = length result₀ - v
 
 below : (c : tie.After-head-of Inv-loop μ-loop) → c .head-of .result < length (c .before .before .loop .result)
-below c = search copy-below
+below c = head-below _ _ _ _ _ (c .before .before .before .before .before .pre) (c .before .before .loop .inv .1) (c .head-of .ensures) (omega arith)
 
 loop-holds : tie.Need-loop-holds Inv-loop μ-loop
 loop-holds c = (omega arith, refl, search copy-none)
@@ -49,7 +49,7 @@ same-length : tie.Need-same-length Inv-loop μ-loop
 same-length c = search needs
 
 returns : tie.Need-returns Inv-loop μ-loop
-returns c = copy-end _ _ _ _ _ (omega arith) (omega arith) (c .before .loop .inv .2)
+returns c = search copy-end
 
 pub copy-labels-spec : {M : Type 1} → statement M
 copy-labels-spec =

@@ -5,7 +5,7 @@ use Prim.Native.Nat.{_≤_, _<_, _-_}
 use native.Mathlib.Omega.{arith}
 use lib.ListN.{length, length-set}
 use Rattle.wcc.specs.Steps.{headHere, marked}
-use Rattle.wcc.proofs.Steps.{mark-none, mark-more, mark-below, mark-end}
+use Rattle.wcc.proofs.Steps.{mark-none, mark-more, head-below, mark-end}
 use Rattle.wcc.proofs.labels.mark.Statement.{statement}
 use Rattle.wcc.proofs.labels.mark.Tie as tie
 
@@ -16,7 +16,7 @@ abbrev μ-loop : tie.MeasureT-loop
 μ-loop parents sizes ids result₀ n i₀ result i = n - i
 
 below : (c : tie.After-head-of Inv-loop μ-loop) → c .head-of .result < length (c .before .before .loop .result)
-below c = search mark-below
+below c = head-below _ _ _ _ _ (c .before .before .before .before .before .pre .0) (c .before .before .loop .inv .1) (c .head-of .ensures) (omega arith)
 
 loop-holds : tie.Need-loop-holds Inv-loop μ-loop
 loop-holds c = (omega arith, refl, search mark-none)
