@@ -142,8 +142,7 @@ pub fn host_verdict(vertices: &[u8], edges: &[u8], claim: &[u8], mode: u64, kern
     if mode > 1 || !(1..=4).contains(&kernel) {
         return coded(12, 0, 0);
     }
-    let judged = lists::load(mode, vertices, edges, crate::DESK, lists::ROOM_ENOUGH)
-        .and_then(|g| verdict(&g, kernel, parameter, claim, crate::DESK));
+    let judged = lists::load(mode, vertices, edges, crate::DESK, lists::ROOM_ENOUGH).and_then(|g| verdict(&g, kernel, parameter, claim, crate::DESK));
     match judged {
         Ok(v) => coded(v.number, 3, v.line as u64),
         Err(r) => coded(r.number, r.file, r.line),

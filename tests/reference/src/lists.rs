@@ -182,3 +182,56 @@ fn edge_file(mode: u64, file: &[u8], most: usize, ids: &[i64]) -> Result<Vec<(us
     }
     Ok(edges)
 }
+
+/// A graph as it is lent: stated counts and five areas.
+#[derive(Clone, Debug, PartialEq, Eq)]
+pub struct Lent {
+    pub vertices: usize,
+    pub arcs: usize,
+    pub ids: Vec<i64>,
+    pub out_offsets: Vec<usize>,
+    pub out_targets: Vec<usize>,
+    pub in_offsets: Vec<usize>,
+    pub in_sources: Vec<usize>,
+}
+
+impl Lent {
+    pub fn of(g: &Graph) -> Lent {
+        let (out_offsets, out_targets) = Graph::stored(&g.out);
+        let (in_offsets, in_sources) = Graph::stored(&g.into);
+        Lent { vertices: g.ids.len(), arcs: g.arcs(), ids: g.ids.clone(), out_offsets, out_targets, in_offsets, in_sources }
+    }
+
+    /// The graph, where it is sound; else refusal 9.
+    pub fn graph(&self) -> Result<Graph, Refusal> {
+        let unsound = || plain(9);
+        let (n, m) = (self.vertices, self.arcs);
+        if n > 65_536 || m > 2_097_152 || self.ids.len() < n || self.ids[..n].windows(2).any(|w| w[0] >= w[1]) {
+            return Err(unsound());
+        }
+        let out = parts(n, m, &self.out_offsets, &self.out_targets).ok_or_else(unsound)?;
+        let into = parts(n, m, &self.in_offsets, &self.in_sources).ok_or_else(unsound)?;
+        let arcs =
+            |way: &[Vec<usize>]| -> Vec<(usize, usize)> { way.iter().enumerate().flat_map(|(u, part)| part.iter().map(move |&w| (u, w))).collect() };
+        let mut reversed: Vec<(usize, usize)> = arcs(&into).into_iter().map(|(v, u)| (u, v)).collect();
+        reversed.sort_unstable();
+        if arcs(&out) != reversed {
+            return Err(unsound());
+        }
+        Ok(Graph { ids: self.ids[..n].to_vec(), out, into })
+    }
+}
+
+/// One way of a lent graph, vertex by vertex, where its offsets and parts are as they should be.
+fn parts(n: usize, m: usize, offsets: &[usize], targets: &[usize]) -> Option<Vec<Vec<usize>>> {
+    if offsets.len() <= n || targets.len() < m || offsets[0] != 0 || offsets[n] != m || offsets[..=n].windows(2).any(|w| w[0] > w[1]) {
+        return None;
+    }
+    let way: Vec<Vec<usize>> = offsets[..=n].windows(2).map(|w| targets[w[0]..w[1]].to_vec()).collect();
+    let good = |(v, part): (usize, &Vec<usize>)| part.iter().all(|&w| w < n && w != v) && part.windows(2).all(|w| w[0] < w[1]);
+    if way.iter().enumerate().all(good) {
+        Some(way)
+    } else {
+        None
+    }
+}

@@ -1,0 +1,180 @@
+//! Random lists, claims and damage, from a seed.
+
+use reference::kernels;
+use reference::lists::Graph;
+
+/// A small generator of random numbers (xorshift), the same on every machine.
+pub struct Dice(u64);
+
+impl Dice {
+    pub fn new(seed: u64) -> Dice {
+        Dice(seed.wrapping_mul(0x9e37_79b9_7f4a_7c15) | 1)
+    }
+
+    pub fn next(&mut self) -> u64 {
+        self.0 ^= self.0 << 13;
+        self.0 ^= self.0 >> 7;
+        self.0 ^= self.0 << 17;
+        self.0
+    }
+
+    pub fn below(&mut self, n: usize) -> usize {
+        (self.next() >> 11) as usize % n.max(1)
+    }
+
+    pub fn one_in(&mut self, n: usize) -> bool {
+        self.below(n) == 0
+    }
+
+    pub fn pick<'a, T>(&mut self, from: &'a [T]) -> &'a T {
+        &from[self.below(from.len())]
+    }
+}
+
+/// Two lists of one graph, and the mode that they are written for.
+pub struct Lists {
+    pub mode: u64,
+    pub vertices: Vec<u8>,
+    pub edges: Vec<u8>,
+}
+
+fn identifiers(dice: &mut Dice) -> Vec<i64> {
+    let n = if dice.one_in(12) { dice.below(90) } else { dice.below(12) };
+    let mut ids: Vec<i64> = (0..n)
+        .map(|_| match dice.below(8) {
+            0 => i64::MIN + dice.below(3) as i64,
+            1 => i64::MAX - dice.below(3) as i64,
+            2 => dice.next() as i64,
+            _ => dice.below(40) as i64 - 20,
+        })
+        .collect();
+    ids.sort_unstable();
+    ids.dedup();
+    ids
+}
+
+pub fn lists(dice: &mut Dice) -> Lists {
+    let mode = dice.below(2) as u64;
+    let ids = identifiers(dice);
+    let mut pairs: Vec<(i64, i64)> = Vec::new();
+    if ids.len() > 1 {
+        for _ in 0..dice.below(ids.len() * 3) {
+            let (a, b) = (*dice.pick(&ids), *dice.pick(&ids));
+            if a != b {
+                pairs.push(if mode == 0 && a > b { (b, a) } else { (a, b) });
+            }
+        }
+    }
+    pairs.sort_unstable();
+    pairs.dedup();
+    let vertices = ids.iter().map(|z| format!("{}\n", z)).collect::<String>().into_bytes();
+    let edges = pairs.iter().map(|(a, b)| format!("{} {}\n", a, b)).collect::<String>().into_bytes();
+    Lists { mode, vertices, edges }
+}
+
+/// One damage: a byte changed, left out or put in, a line twice, exchanged or gone, the end cut off.
+pub fn damage(dice: &mut Dice, file: &mut Vec<u8>) {
+    const BYTES: &[u8] = b"0123456789-+. e\n\r\t/x\0\xff";
+    let lines = |f: &[u8]| -> Vec<Vec<u8>> { f.split_inclusive(|&b| b == b'\n').map(<[u8]>::to_vec).collect() };
+    let at = dice.below(file.len() + 1);
+    match dice.below(9) {
+        0 if at < file.len() => file[at] = *dice.pick(BYTES),
+        1 if at < file.len() => drop(file.remove(at)),
+        2 => file.insert(at, *dice.pick(BYTES)),
+        3 => drop(file.pop()),
+        4 => file.truncate(at),
+        5 | 6 | 7 => {
+            let mut all = lines(file);
+            if all.is_empty() {
+                return;
+            }
+            let (i, j) = (dice.below(all.len()), dice.below(all.len()));
+            match dice.below(3) {
+                0 => all.swap(i, j),
+                1 => all.insert(i, all[j].clone()),
+                _ => drop(all.remove(i)),
+            }
+            *file = all.concat();
+        }
+        _ => {
+            let number = *dice.pick(&["9223372036854775808", "-9223372036854775809", "-0", "007", "99999999999999999999999999", ""]);
+            let mut all = lines(file);
+            if all.is_empty() {
+                return;
+            }
+            let i = dice.below(all.len());
+            let mut words: Vec<String> = String::from_utf8_lossy(&all[i]).trim_end_matches('\n').split(' ').map(str::to_string).collect();
+            let k = dice.below(words.len());
+            words[k] = number.to_string();
+            all[i] = format!("{}\n", words.join(" ")).into_bytes();
+            *file = all.concat();
+        }
+    }
+}
+
+/// A decimal near a fraction: within the bound, at its edge or just outside.
+fn near(dice: &mut Dice, (a, b): (u64, u64)) -> String {
+    let value = a as f64 / b as f64;
+    let factor = *dice.pick(&[1.0, 1.0, 1.0, 1.000_1, 0.999_9, 1.000_09, 0.999_91, 1.000_11, 0.999_89, 2.0]);
+    let places = dice.below(14) + 1;
+    match dice.below(6) {
+        0 => format!("{:.*}e+00", places, value * factor),
+        1 => format!("{:.*}e-01", places.min(13), value * factor * 10.0),
+        2 if a == 0 => "0.0e-99".to_string(),
+        3 if a == b => "1000000e-06".to_string(),
+        4 if a == 0 => "1e-99".to_string(),
+        _ => format!("{:.*}", places, value * factor),
+    }
+}
+
+/// A kernel with a parameter, mostly one that it takes.
+pub fn kernel(dice: &mut Dice, g: &Graph) -> (u64, i64) {
+    let number = if dice.one_in(25) { *dice.pick(&[0, 5, u64::MAX]) } else { dice.below(4) as u64 + 1 };
+    let parameter = match number {
+        1 if !g.ids.is_empty() && !dice.one_in(12) => *dice.pick(&g.ids),
+        3 if !dice.one_in(12) => dice.below(5) as i64,
+        _ => *dice.pick(&[-1, 0, 7, 1_000, 1_001, i64::MIN, i64::MAX]),
+    };
+    (number, parameter)
+}
+
+/// A claim of the kernel's result: right, renamed, nearly right or wrong.
+pub fn claim(dice: &mut Dice, g: &Graph, number: u64, parameter: i64) -> Vec<u8> {
+    let mut values: Vec<String> = match number {
+        1 => kernels::bfs(g, parameter).unwrap_or_default().iter().map(i64::to_string).collect(),
+        2 => {
+            let (turn, shift) = (dice.one_in(2), dice.below(100) as i64);
+            kernels::wcc(g).iter().map(|&z| if turn { z.wrapping_mul(-1).wrapping_add(shift) } else { z }.to_string()).collect()
+        }
+        3 => kernels::cdlp(g, parameter).unwrap_or_default().iter().map(i64::to_string).collect(),
+        _ => kernels::lcc(g).into_iter().map(|r| near(dice, r)).collect(),
+    };
+    if !values.is_empty() && dice.one_in(3) {
+        let (i, j) = (dice.below(values.len()), dice.below(values.len()));
+        values[i] = if dice.one_in(2) { values[j].clone() } else { dice.below(9).to_string() };
+    }
+    g.ids.iter().zip(values).map(|(id, value)| format!("{} {}\n", id, value)).collect::<String>().into_bytes()
+}
+
+/// A sheet of the two lists and some jobs.
+pub fn sheet(dice: &mut Dice, lists: &Lists) -> Vec<u8> {
+    let count = |f: &[u8]| f.iter().filter(|&&b| b == b'\n').count();
+    let jobs: Vec<String> = (0..dice.below(6))
+        .map(|_| match dice.below(5) {
+            0 => format!("bfs {}", dice.below(40) as i64 - 20),
+            1 => format!("cdlp {}", dice.below(12) as i64 - 1),
+            2 => "lcc".to_string(),
+            3 => "wcc".to_string(),
+            _ => dice.pick(&["cdlp 1001", "bfs 9223372036854775807", "wcc", "lcc"]).to_string(),
+        })
+        .collect();
+    let mut text = format!("{}directed\n{}\n", if lists.mode == 0 { "un" } else { "" }, count(&lists.vertices)).into_bytes();
+    text.extend_from_slice(&lists.vertices);
+    text.extend_from_slice(format!("{}\n", count(&lists.edges)).as_bytes());
+    text.extend_from_slice(&lists.edges);
+    text.extend_from_slice(format!("{}\n", jobs.len()).as_bytes());
+    for job in jobs {
+        text.extend_from_slice(format!("{}\n", job).as_bytes());
+    }
+    text
+}

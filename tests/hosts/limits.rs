@@ -1,0 +1,78 @@
+//! The engine at its limits, through the Rust crate: what the paper says to run, and each limit passed by one.
+
+use trace_engine::{verdict, Book, File, Graph, Kernel, Mode, Reason, Refusal, Verdict};
+
+fn vertices(n: usize) -> Vec<u8> {
+    (0..n).map(|i| format!("{}\n", i)).collect::<String>().into_bytes()
+}
+
+/// So many directed edges over n vertices, rising.
+fn edges(n: usize, count: usize) -> Vec<u8> {
+    let mut text = String::new();
+    let part = count / n + 1;
+    let all = (0..n).flat_map(|u| (1..=part).map(move |k| (u, (u + k) % n)));
+    let mut pairs: Vec<(usize, usize)> = all.take(count).collect();
+    pairs.sort_unstable();
+    for (u, v) in pairs {
+        text.push_str(&format!("{} {}\n", u, v));
+    }
+    text.into_bytes()
+}
+
+fn refused(reason: Reason, file: File, line: u64) -> Refusal {
+    Refusal { reason, file, line }
+}
+
+fn main() {
+    // "empty lists load"
+    for mode in [Mode::Undirected, Mode::Directed] {
+        let empty = Graph::load(mode, b"", b"").unwrap();
+        assert_eq!((empty.identifiers().len(), empty.arcs()), (0, 0));
+        assert_eq!(empty.components(), Ok(vec![]));
+        assert_eq!(empty.depths(0), Err(refused(Reason::NotThere, File::None, 0)));
+    }
+
+    // "65,536 vertices load and 65,537 is 1 at that line"
+    let full = vertices(65_536);
+    assert_eq!(Graph::load(Mode::Directed, &full, b"").unwrap().identifiers().len(), 65_536);
+    assert_eq!(Graph::load(Mode::Directed, &vertices(65_537), b""), Err(refused(Reason::TooMany, File::Vertices, 65_537)));
+    let mut stray = full.clone();
+    stray.push(b'x');
+    assert_eq!(Graph::load(Mode::Directed, &stray, b""), Err(refused(Reason::TooMany, File::Vertices, 65_537)));
+
+    // 1,048,576 edges load, one more is 1 at that line
+    let many = edges(65_536, 1_048_577);
+    let last = many[..many.len() - 1].iter().rposition(|&b| b == b'\n').unwrap() + 1;
+    let graph = Graph::load(Mode::Directed, &full, &many[..last]).unwrap();
+    assert_eq!(graph.arcs(), 1_048_576);
+    assert_eq!(Graph::load(Mode::Directed, &full, &many), Err(refused(Reason::TooMany, File::Edges, 1_048_577)));
+    assert_eq!(graph.components().unwrap(), vec![0; 65_536]);
+    assert_eq!(graph.depths(0).unwrap()[..3], [0, 1, 1]);
+    let pairs = (0..65_535).map(|i| format!("{} {}\n", i, i + 1)).collect::<String>();
+    let path = Graph::load(Mode::Undirected, &full, pairs.as_bytes()).unwrap();
+    assert_eq!(path.depths(0).unwrap()[65_535], 65_535);
+    assert_eq!(path.communities(1_001), Err(refused(Reason::BadRounds, File::None, 0)));
+
+    // the host verdict's limits: 1,024 vertices, 2,048 edges, 1,024 claim lines
+    let desk = vertices(1_024);
+    let claim = |n: usize| (0..n).map(|i| format!("{} {}\n", i, i)).collect::<String>().into_bytes();
+    assert_eq!(verdict(Mode::Directed, &desk, b"", Kernel::Wcc, &claim(1_024)), Ok(Verdict::Match));
+    assert_eq!(verdict(Mode::Directed, &vertices(1_025), b"", Kernel::Wcc, b""), Err(refused(Reason::TooMany, File::Vertices, 1_025)));
+    assert_eq!(verdict(Mode::Directed, &desk, &edges(1_024, 2_049), Kernel::Wcc, b""), Err(refused(Reason::TooMany, File::Edges, 2_049)));
+    assert_eq!(verdict(Mode::Directed, &desk, b"", Kernel::Wcc, &claim(1_025)), Err(refused(Reason::TooMany, File::Claim, 1_025)));
+    assert_eq!(verdict(Mode::Directed, &desk, b"", Kernel::Wcc, &claim(1_023)), Ok(Verdict::Incomplete(1_024)));
+
+    // a book of 65,536 opens and takes every join, one more is 8; "joining a vertex to itself merges nothing"
+    assert_eq!(Book::open(65_537), Err(refused(Reason::NoRoom, File::None, 0)));
+    let mut book = Book::open(65_536).unwrap();
+    assert_eq!(book.join(7, 7), Ok(false));
+    assert_eq!(book.count(), Ok(65_536));
+    for step in (0..16).map(|k| 1 << k) {
+        for v in (0..65_536).step_by(2 * step) {
+            assert_eq!(book.join(v, v + step), Ok(true));
+        }
+    }
+    assert_eq!((book.count(), book.size(0), book.step_limit(0)), (Ok(1), Ok(65_536), Ok(16)));
+    assert_eq!((0..65_536).map(|v| book.head(v).unwrap().1).max(), Some(16));
+    println!("limits: each limit is met, and passed by one it is refused at its line");
+}
