@@ -16,6 +16,7 @@ use base.Logic.{SProp, ent, sep, ex, exE, snd∗}
 use base.Fml.{Lft, Share, Fml, ftrue, flft, fsep}
 use prog.Wp.{Heap}
 use ghost.Atoms.{Atoms, sem}
+use contract.Lifetimes.{Lfts}
 use contract.Monad.{fact}
 use types.Kit.{Given, Item, ‵, _⊛_, given, _$_, _∵_, !, qed, by, move, drop, use1, split, learn, fsplit, fjoin, frame, done}
 use denote.RattleType.{RattleType, owns}
@@ -26,6 +27,8 @@ use denote.Ref.{RefT, NamedLft}
 use denote.Slice.{sliceVal, ShrSlice, shr-slice-lawful, shr-slice-copy}
 use denote.Steps.{owned, nothing}
 use denote.Struct.Laws as LL
+use denote.Triple.Clauses.{Ended, Lasts, lasts}
+use denote.Triple.Entry.{Args}
 use denote.Struct.Rest.{all-own, ownAt, rest, own-open, own-out, own-shut}
 use Rattle.view.specs.declared.held.Neighbours.{Neighbours}
 use Rattle.view.proofs.held.Neighbours as T
@@ -50,8 +53,10 @@ module _ {M : Type 1} (𝓤 : URA M) where
   abbrev pub tokens : Lft → Lft → Share → Share → Item 𝓤
   tokens κ κ′ q q′ = ‵ (flft κ q) ⊛ ‵ (flft κ′ q′) ⊛ ‵ ftrue
 
-  pub told : {X : Type 0} (L : X → SProp 𝓤) (φ : Type 0) → ent 𝓤 (ex 𝓤 (λ (w : X). sep 𝓤 (L w) (fact 𝓤 φ))) (fact 𝓤 φ)
-  told L φ = exE 𝓤 _ (λ w. snd∗ 𝓤 (L w) (fact 𝓤 φ))
+-- of what a callee ensures, the clause alone: it has no `&mut`, so what is said of last values is let go
+pub told : {M : Type 1} (𝓤 : URA M) (H : Heap 𝓤) (A : Atoms 𝓤) (E : Ended) (κs : Lfts (E .signature .lifetimes)) (a : Args (E .signature) κs) (φ : Type 0)
+    → ent 𝓤 (ex 𝓤 (λ (ws : Lasts E κs a). sep 𝓤 (sem 𝓤 H A (lasts E κs a ws)) (fact 𝓤 φ))) (fact 𝓤 φ)
+told 𝓤 H A E κs a φ = exE 𝓤 _ (λ ws. snd∗ 𝓤 (sem 𝓤 H A (lasts E κs a ws)) (fact 𝓤 φ))
 
 module _ {M : Type 1} (𝓤 : URA M) (H : Heap 𝓤) (A : Atoms 𝓤) (W : Given 𝓤 H A) where
   pub area-typed : (i : ℕ) (κ : Lft) (s : RefT (List ℕ)) (u : Val) → Is (Area i κ) s (u ∷ []) → Typed (Area i κ .mir) (u ∷ [])
