@@ -80,7 +80,7 @@ module _ {M : Type 1} (𝓤 : URA M) (H : Heap 𝓤) (A : Atoms 𝓤) (W : Given
 
   -- what is kept over both calls, and what is held beside it over the call of `view_of`
   abbrev Keep : Fml
-  Keep = Two 𝓤 H A W κ′ (Area 0 κ) t (word t) o n v
+  Keep = Two κ′ (Area 0 κ) t (word t) o
 
   abbrev Held : Fml
   Held = fsep (flft κ′ q′) (fsep (Area 1 κ′ .own o (word o ∷ [])) Keep)
@@ -95,7 +95,7 @@ module _ {M : Type 1} (𝓤 : URA M) (H : Heap 𝓤) (A : Atoms 𝓤) (W : Given
   -- what the parameters own gives what `view_of` asks, and the rest is held
   makes : ent 𝓤 (onEntry 𝓤 H A neighbours.signature κs qs (t, (o, (n, (v, tt)))) at) (sep 𝓤 (Made 𝓤 H A mem run .pre to-make) (sem 𝓤 H A Held))
   makes =
-      qed W (tokens 𝓤 κ κ′ q q′ ∷ ‵ (All 𝓤 H A W κ′ (Area 0 κ) t (word t) o n v) ∷ []) ∵
+      qed W (tokens 𝓤 κ κ′ q q′ ∷ ‵ (All κ′ (Area 0 κ) t (word t) o n v) ∷ []) ∵
       move ! (1 ∷ []) $ use1 W (‵ Keep ⊛ ‵ Keep) (parts-twice 𝓤 H A W κ′ (Area 0 κ) t (word t) o n v (area-copy 𝓤 H A W 0 κ)) $ split ! $ fsplit ! $
       -- [what t owns; what o owns; both; the tokens]
       move ! (3 ∷ []) $ split ! $ move ! (1 ∷ []) $ split ! $ move ! (2 ∷ 1 ∷ []) $ join ! $
@@ -105,16 +105,16 @@ module _ {M : Type 1} (𝓤 : URA M) (H : Heap 𝓤) (A : Atoms 𝓤) (W : Given
       frame ! $ move ! (1 ∷ 2 ∷ []) $ fjoin ! $ move ! (1 ∷ 0 ∷ []) $ fjoin ! $ done !
 
   -- what the view and the offsets own gives what `of_vertex` asks
-  answers : n < 2 ^ 64 → v < 2 ^ 64 → (d : Neighbours) (u : Val) → ent 𝓤 (⋆ 𝓤 H A (tokens 𝓤 κ κ′ q q′ ∷ ‵ (Two 𝓤 H A W κ′ (View κ) d u o n v) ∷ [])) (Answered 𝓤 H A mem run .pre (to-answer d u))
+  answers : n < 2 ^ 64 → v < 2 ^ 64 → (d : Neighbours) (u : Val) → ent 𝓤 (⋆ 𝓤 H A (tokens 𝓤 κ κ′ q q′ ∷ ‵ (Two κ′ (View κ) d u o) ∷ [])) (Answered 𝓤 H A mem run .pre (to-answer d u))
   answers gn gv d u =
-      qed W (tokens 𝓤 κ κ′ q q′ ∷ ‵ (Two 𝓤 H A W κ′ (View κ) d u o n v) ∷ []) ∵
-      move ! (1 ∷ []) $ use1 W (‵ (All 𝓤 H A W κ′ (View κ) d u o n v)) (parts-all 𝓤 H A W κ′ (View κ) d u o n v gn gv) $ move ! (1 ∷ 0 ∷ []) $ join ! $ frame ! $ done !
+      qed W (tokens 𝓤 κ κ′ q q′ ∷ ‵ (Two κ′ (View κ) d u o) ∷ []) ∵
+      move ! (1 ∷ []) $ use1 W (‵ (All κ′ (View κ) d u o n v)) (parts-all 𝓤 H A W κ′ (View κ) d u o n v gn gv) $ move ! (1 ∷ 0 ∷ []) $ join ! $ frame ! $ done !
 
   exits : n < 2 ^ 64 → v < 2 ^ 64 → (r : RefT (List ℕ)) (u : Val) → now r ≡ found t → ent 𝓤 (⋆ 𝓤 H A (‵ (Area 0 κ .own r (u ∷ [])) ∷ tokens 𝓤 κ κ′ q q′ ∷ ‵ Keep ∷ [])) (Post u)
   exits gn gv r u e =
       qed W (‵ (Area 0 κ .own r (u ∷ [])) ∷ tokens 𝓤 κ κ′ q q′ ∷ ‵ Keep ∷ []) ∵
       suffices ! _ (ends-at 𝓤 H A neighbours.ended stayed (neighbours.clauses 𝓤 H A mem run) W ((κs, qs, tt, (t, (o, (n, (v, tt)))), at), tt) u r (tt, (tt, (tt, (tt, tt)))) (tt, (tt, (tt, (tt, tt))))) $ says ! e $
-      move ! (1 ∷ []) $ frame ! $ move ! (1 ∷ []) $ use1 W (‵ (All 𝓤 H A W κ′ (Area 0 κ) t (word t) o n v)) (parts-all 𝓤 H A W κ′ (Area 0 κ) t (word t) o n v gn gv) $ frame ! $ done !
+      move ! (1 ∷ []) $ frame ! $ move ! (1 ∷ []) $ use1 W (‵ (All κ′ (Area 0 κ) t (word t) o n v)) (parts-all 𝓤 H A W κ′ (Area 0 κ) t (word t) o n v gn gv) $ frame ! $ done !
 
   module _ (C : Calls 𝓤 H) (Λ : Loops 𝓤 H) (fm : FmC 𝓤 H (W .laws) C) (known-made : Triple 𝓤 (C #view·held·view-of) (Made 𝓤 H A mem run)) (known-answered : Triple 𝓤 (C #view·held·of-vertex) (Answered 𝓤 H A mem run)) where
     walk : Is (Area 0 κ) t (word t ∷ []) → Is (Area 1 κ′) o (word o ∷ []) → n < 2 ^ 64 → v < 2 ^ 64 → ent 𝓤 (onEntry 𝓤 H A neighbours.signature κs qs (t, (o, (n, (v, tt)))) at) (WpFn 𝓤 H C Λ code.function (word t ∷ word o ∷ vint w64 n ∷ vint w64 v ∷ []) Post)

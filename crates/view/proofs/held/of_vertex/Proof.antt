@@ -23,7 +23,7 @@ use denote.Laws.{Is, shows}
 use denote.Plain.{uint-vals, uint-tells}
 use denote.Builtin.{usize}
 use denote.Ref.{RefT, now}
-use denote.Signature.{plain, namedLft}
+use denote.Signature.{plain}
 use denote.Slice.{slice-vals, shr-slice-tells}
 use denote.Steps.{peeks, heard}
 use denote.Struct.Laws as LL
@@ -81,7 +81,7 @@ module _ {M : Type 1} (𝓤 : URA M) (H : Heap 𝓤) (A : Atoms 𝓤) (W : Given
 
   -- what is kept over the call
   abbrev Keep : Fml
-  Keep = Two 𝓤 H A W κ′ (View κ) d md o n v
+  Keep = Two κ′ (View κ) d md o
 
   -- what the callee is passed
   abbrev to : Part 𝓤 H A mem run .Ghost
@@ -90,19 +90,19 @@ module _ {M : Type 1} (𝓤 : URA M) (H : Heap 𝓤) (A : Atoms 𝓤) (W : Given
   -- what the parameters own gives what the callee asks, and is kept
   apart : n < 2 ^ 64 → v < 2 ^ 64 → ent 𝓤 (onEntry 𝓤 H A of-vertex.signature κs qs (d, (o, (n, (v, tt)))) at) (sep 𝓤 (Part 𝓤 H A mem run .pre to) (sem 𝓤 H A Keep))
   apart gn gv =
-      qed W (tokens 𝓤 κ κ′ q q′ ∷ ‵ (All 𝓤 H A W κ′ (View κ) d md o n v) ∷ []) ∵
+      qed W (tokens 𝓤 κ κ′ q q′ ∷ ‵ (All κ′ (View κ) d md o n v) ∷ []) ∵
       move ! (1 ∷ []) $ use1 W (‵ Keep ⊛ ‵ Keep) (parts-twice 𝓤 H A W κ′ (View κ) d md o n v (view-copy 𝓤 H A W κ)) $ split ! $
       -- [what d and o own; the same; the tokens]: of the first, what the targets own is taken out
       fsplit ! $ use1 W (‵ (Area 0 κ .own (d .targets) (mt ∷ []))) (view-opened 𝓤 H A W κ d) $ fjoin ! $
-      use1 W (‵ (All 𝓤 H A W κ′ (Area 0 κ) (d .targets) mt o n v)) (parts-all 𝓤 H A W κ′ (Area 0 κ) (d .targets) mt o n v gn gv) $
+      use1 W (‵ (All κ′ (Area 0 κ) (d .targets) mt o n v)) (parts-all 𝓤 H A W κ′ (Area 0 κ) (d .targets) mt o n v gn gv) $
       -- [what the callee takes; what d and o own; the tokens]
-      move ! (2 ∷ 0 ∷ []) $ use2 W (raw (Part 𝓤 H A mem run .pre to)) (qed W (tokens 𝓤 κ κ′ q q′ ∷ ‵ (All 𝓤 H A W κ′ (Area 0 κ) (d .targets) mt o n v) ∷ []) ∵ join ! $ frame ! $ done !) $ frame ! $ done !
+      move ! (2 ∷ 0 ∷ []) $ use2 W (raw (Part 𝓤 H A mem run .pre to)) (qed W (tokens 𝓤 κ κ′ q q′ ∷ ‵ (All κ′ (Area 0 κ) (d .targets) mt o n v) ∷ []) ∵ join ! $ frame ! $ done !) $ frame ! $ done !
 
   exits : n < 2 ^ 64 → v < 2 ^ 64 → (r : RefT (List ℕ)) (u : Val) → now r ≡ found → ent 𝓤 (⋆ 𝓤 H A (‵ (Area 0 κ .own r (u ∷ [])) ∷ tokens 𝓤 κ κ′ q q′ ∷ ‵ Keep ∷ [])) (Post u)
   exits gn gv r u e =
       qed W (‵ (Area 0 κ .own r (u ∷ [])) ∷ tokens 𝓤 κ κ′ q q′ ∷ ‵ Keep ∷ []) ∵
       suffices ! _ (ends-at 𝓤 H A of-vertex.ended stayed (of-vertex.clauses 𝓤 H A mem run) W ((κs, qs, tt, (d, (o, (n, (v, tt)))), at), tt) u r (tt, (tt, (tt, (tt, tt)))) (tt, (tt, (tt, (tt, tt))))) $ says ! e $
-      move ! (1 ∷ []) $ frame ! $ move ! (1 ∷ []) $ use1 W (‵ (All 𝓤 H A W κ′ (View κ) d md o n v)) (parts-all 𝓤 H A W κ′ (View κ) d md o n v gn gv) $ frame ! $ done !
+      move ! (1 ∷ []) $ frame ! $ move ! (1 ∷ []) $ use1 W (‵ (All κ′ (View κ) d md o n v)) (parts-all 𝓤 H A W κ′ (View κ) d md o n v gn gv) $ frame ! $ done !
 
   module _ (C : Calls 𝓤 H) (Λ : Loops 𝓤 H) (fm : FmC 𝓤 H (W .laws) C) (known : Triple 𝓤 (C #graph·part·part) (Part 𝓤 H A mem run)) where
     walk : Is (View κ) d (md ∷ []) → Is (Area 1 κ′) o (word o ∷ []) → n < 2 ^ 64 → v < 2 ^ 64 → ent 𝓤 (onEntry 𝓤 H A of-vertex.signature κs qs (d, (o, (n, (v, tt)))) at) (WpFn 𝓤 H C Λ code.function (md ∷ word o ∷ vint w64 n ∷ vint w64 v ∷ []) Post)

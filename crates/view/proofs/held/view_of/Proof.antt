@@ -23,7 +23,6 @@ use denote.Builtin.{usize}
 use denote.Ref.{RefT}
 use denote.Signature.{plain}
 use denote.Slice.{slice-vals, shr-slice-tells}
-use denote.Steps.{nothing}
 use denote.Triple.Entry.{onEntry}
 use denote.Triple.Spec.{Meets, tripleOf}
 use denote.Triple.Table.{entered}
