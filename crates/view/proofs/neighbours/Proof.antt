@@ -16,7 +16,7 @@ use contract.Lifetimes.{Lfts, Shares}
 use contract.Monad.{Fun}
 use contract.Running.{givenOf, tables, tablesOf}
 use types.Kit.{Given, ‵, raw, _⊛_, ⋆, _$_, _∵_, !, qed, by, move, use1, use2, split, join, fsplit, fjoin, suffices, frame, done}
-use types.Run.{look, init, stop, from, load, and-then, no-more, land, returns, enter, alloc1, alloc0, params1, pass1, pass0}
+use types.Run.{look, init, stop, from, load, and-then, no-more, land, returns, enter}
 use sound.WpLaws.{FmC, fmOf, WpFn-mono}
 use denote.RattleType.{owns}
 use denote.Laws.{Is}
@@ -36,7 +36,7 @@ use denote.Exit.{yes}
 use Rattle.graph.specs.Part.{partOf}
 use Rattle.view.specs.declared.held.Neighbours.{Neighbours}
 use Rattle.view.proofs.Owned.{Area, View, word, tokens, area-typed, view-typed, area-copy, Two, All, parts-twice, parts-all}
-use Rattle.view.proofs.Rules.{answered, six-freed}
+use Rattle.view.proofs.Rules.{answered, six-made, six-freed, passed}
 use Rattle.view.proofs.held.view_of as view-of
 use Rattle.view.proofs.held.view_of.Symbol as view-of-def
 use Rattle.view.proofs.held.view_of.Symbol.{name as #view·held·view-of}
@@ -120,8 +120,7 @@ module _ {M : Type 1} (𝓤 : URA M) (H : Heap 𝓤) (A : Atoms 𝓤) (W : Given
     walk : Is (Area 0 κ) t (word t ∷ []) → Is (Area 1 κ′) o (word o ∷ []) → n < 2 ^ 64 → v < 2 ^ 64 → ent 𝓤 (onEntry 𝓤 H A neighbours.signature κs qs (t, (o, (n, (v, tt)))) at) (WpFn 𝓤 H C Λ code.function (word t ∷ word o ∷ vint w64 n ∷ vint w64 v ∷ []) Post)
     walk pt po gn gv =
         qed W (raw (onEntry 𝓤 H A neighbours.signature κs qs (t, (o, (n, (v, tt)))) at) ∷ []) ∵ enter ! C Λ code.function (word t ∷ word o ∷ vint w64 n ∷ vint w64 v ∷ []) _ $
-        alloc1 ! (λ l₀. alloc1 ! (λ l₁. alloc1 ! (λ l₂. alloc1 ! (λ l₃. alloc1 ! (λ l₄. alloc1 ! (λ l₅. alloc0 ! $ params1 ! $
-        pass1 ! (init ! 8 refl (area-typed 𝓤 H A W 0 κ t _ pt .0)) $ pass1 ! (init ! 6 refl (area-typed 𝓤 H A W 1 κ′ o _ po .0)) $ pass1 ! (init ! 4 refl (tt, record { fits = gn })) $ pass1 ! (init ! 2 refl (tt, record { fits = gv })) $ pass0 ! $
+        six-made ! (area-typed 𝓤 H A W 0 κ t _ pt .0) (area-typed 𝓤 H A W 1 κ′ o _ po .0) (tt, record { fits = gn }) (tt, record { fits = gv }) (λ l₀ l₁ l₂ l₃ l₄ l₅.
         -- [room for _5; …; _4; …; _3; …; _2; …; _1; …; room for _0; …; what is owned]: the view is made
         move ! (12 ∷ []) $ use1 W (raw (Made 𝓤 H A mem run .pre to-make) ⊛ ‵ Held) makes $ split ! $
         calls-at ! fm (Made 𝓤 H A mem run) known-made to-make (and-then ! (load ! (from ! (stop !)) (look ! 10 refl)) (no-more !)) (λ u.
@@ -132,10 +131,10 @@ module _ {M : Type 1} (𝓤 : URA M) (H : Heap 𝓤) (A : Atoms 𝓤) (W : Given
         -- [the view and o; what is kept; the second token; the first; …]: the tokens are put together again
         move ! (3 ∷ []) $ split ! $ move ! (4 ∷ 1 ∷ []) $ join ! $ move ! (1 ∷ 0 ∷ []) $ join ! $ use2 W (raw (Answered 𝓤 H A mem run .pre (to-answer d u))) (answers gn gv d u) $
         -- [what is asked; what is kept; _5; …; _4; …; _3; …; _2; …; _1; …; room for _0; …]
-        calls-at ! fm (Answered 𝓤 H A mem run) known-answered (to-answer d u) (and-then ! (load ! (from ! (stop !)) (look ! 2 refl)) (and-then ! (load ! (from ! (stop !)) (look ! 8 refl)) (and-then ! (load ! (from ! (stop !)) (look ! 6 refl)) (and-then ! (load ! (from ! (stop !)) (look ! 4 refl)) (no-more !))))) (λ w.
+        calls-at ! fm (Answered 𝓤 H A mem run) known-answered (to-answer d u) (passed !) (λ w.
         answered ! tt of-vertex.ended κs (d, (o, (n, (v, tt)))) (tokens 𝓤 κ κ′ q q′) (Area 0 κ) w (λ r. now r ≡ found (d .targets)) (λ r f is′.
         -- [the result; the tokens; what is kept; _5; …; _4; …; _3; …; _2; …; _1; …; room for _0; …]
-        land ! (from ! (stop !)) (init ! 13 refl (area-typed 𝓤 H A W 0 κ r w is′ .0)) $ returns ! (look ! 13 refl) $ six-freed ! $ by ! (exits gn gv r w (f ∙ ap found e))))))))))))
+        land ! (from ! (stop !)) (init ! 13 refl (area-typed 𝓤 H A W 0 κ r w is′ .0)) $ returns ! (look ! 13 refl) $ six-freed ! $ by ! (exits gn gv r w (f ∙ ap found e)))))))
 
 -- the walk at every choice of what is passed, taken to the contract
 meets : {M : Type 1} (𝓤 : URA M) (H : Heap 𝓤) (A : Atoms 𝓤) (W : Given 𝓤 H A) (mem : Memory → SProp 𝓤) (run : Routine → Fun 𝓤) (𝓣 : Tables 𝓤 H)

@@ -17,7 +17,7 @@ use contract.Monad.{Fun}
 use contract.Running.{givenOf, tables, tablesOf}
 use types.Kit.{Given, ‵, raw, _⊛_, ⋆, _$_, _∵_, !, qed, by, move, use1, use2, split, join, fsplit, fjoin, suffices, frame, done}
 use types.Part.{whole, sub, look-in}
-use types.Run.{look, init, stop, fld, from, load, of-opd, and-then, no-more, assigns, land, returns, enter, alloc1, alloc0, params1, pass1, pass0}
+use types.Run.{look, init, stop, fld, from, load, of-opd, assigns, land, returns, enter}
 use sound.WpLaws.{FmC, fmOf, WpFn-mono}
 use denote.Laws.{Is}
 use denote.Plain.{uint-vals, uint-tells}
@@ -42,7 +42,7 @@ use Rattle.view.specs.declared.held.Neighbours.{Neighbours}
 use Rattle.view.proofs.held.Neighbours as T
 use Rattle.view.proofs.held.Neighbours.Laws as T′
 use Rattle.view.proofs.Owned.{Area, View, word, first, tokens, area-typed, view-typed, view-copy, view-opened, Two, All, parts-twice, parts-all}
-use Rattle.view.proofs.Rules.{answered, six-freed}
+use Rattle.view.proofs.Rules.{answered, six-made, six-freed, passed}
 use Rattle.view.proofs.held.of_vertex.Key.{name as #view·held·of-vertex}
 use Rattle.view.proofs.held.of_vertex as of-vertex
 use Rattle.view.proofs.held.of_vertex.Statement as stated
@@ -107,15 +107,14 @@ module _ {M : Type 1} (𝓤 : URA M) (H : Heap 𝓤) (A : Atoms 𝓤) (W : Given
     walk : Is (View κ) d (md ∷ []) → Is (Area 1 κ′) o (word o ∷ []) → n < 2 ^ 64 → v < 2 ^ 64 → ent 𝓤 (onEntry 𝓤 H A of-vertex.signature κs qs (d, (o, (n, (v, tt)))) at) (WpFn 𝓤 H C Λ code.function (md ∷ word o ∷ vint w64 n ∷ vint w64 v ∷ []) Post)
     walk pd po gn gv =
         qed W (raw (onEntry 𝓤 H A of-vertex.signature κs qs (d, (o, (n, (v, tt)))) at) ∷ []) ∵ enter ! C Λ code.function (md ∷ word o ∷ vint w64 n ∷ vint w64 v ∷ []) _ $
-        alloc1 ! (λ l₀. alloc1 ! (λ l₁. alloc1 ! (λ l₂. alloc1 ! (λ l₃. alloc1 ! (λ l₄. alloc1 ! (λ l₅. alloc0 ! $ params1 ! $
-        pass1 ! (init ! 8 refl (view-typed 𝓤 H A W (first κ) d _ pd .0)) $ pass1 ! (init ! 6 refl (area-typed 𝓤 H A W 1 κ′ o _ po .0)) $ pass1 ! (init ! 4 refl (tt, record { fits = gn })) $ pass1 ! (init ! 2 refl (tt, record { fits = gv })) $ pass0 ! $
+        six-made ! (view-typed 𝓤 H A W (first κ) d _ pd .0) (area-typed 𝓤 H A W 1 κ′ o _ po .0) (tt, record { fits = gn }) (tt, record { fits = gv }) (λ l₀ l₁ l₂ l₃ l₄ l₅.
         -- [room for _5; …; _4; …; _3; …; _2; …; _1; …; room for _0; …; what is owned]: the targets are read, then passed
         assigns ! (of-opd ! (load ! (from ! (fld ! refl (stop !))) (look-in ! 8 (sub ! 0 refl (whole !))))) (from ! (stop !)) (init ! 0 refl (tt, view-typed 𝓤 H A W (first κ) d _ pd .0 .1 .0)) $
         move ! (12 ∷ []) $ use1 W (raw (Part 𝓤 H A mem run .pre to) ⊛ ‵ Keep) (apart gn gv) $ split ! $
-        calls-at ! fm (Part 𝓤 H A mem run) known to (and-then ! (load ! (from ! (stop !)) (look ! 2 refl)) (and-then ! (load ! (from ! (stop !)) (look ! 8 refl)) (and-then ! (load ! (from ! (stop !)) (look ! 6 refl)) (and-then ! (load ! (from ! (stop !)) (look ! 4 refl)) (no-more !))))) (λ u.
+        calls-at ! fm (Part 𝓤 H A mem run) known to (passed !) (λ u.
         answered ! tt part.ended κs (d .targets, (o, (n, (v, tt)))) (tokens 𝓤 κ κ′ q q′) (Area 0 κ) u (λ r. now r ≡ found) (λ r e is.
         -- [the result; the tokens; what is kept; _5; …; _4; …; _3; …; _2; …; _1; …; room for _0; …]
-        land ! (from ! (stop !)) (init ! 13 refl (area-typed 𝓤 H A W 0 κ r u is .0)) $ returns ! (look ! 13 refl) $ six-freed ! $ by ! (exits gn gv r u e)))))))))
+        land ! (from ! (stop !)) (init ! 13 refl (area-typed 𝓤 H A W 0 κ r u is .0)) $ returns ! (look ! 13 refl) $ six-freed ! $ by ! (exits gn gv r u e))))
 
 -- the walk at every choice of what is passed, taken to the contract
 meets : {M : Type 1} (𝓤 : URA M) (H : Heap 𝓤) (A : Atoms 𝓤) (W : Given 𝓤 H A) (mem : Memory → SProp 𝓤) (run : Routine → Fun 𝓤) (𝓣 : Tables 𝓤 H)
