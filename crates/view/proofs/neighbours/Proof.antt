@@ -28,7 +28,7 @@ use denote.Slice.{slice-vals, shr-slice-tells}
 use denote.Steps.{nothing}
 use denote.Triple.Statement.{Contract, Triple}
 use denote.Triple.Call.{calls-at}
-use denote.Triple.Entry.{Vals, onEntry}
+use denote.Triple.Entry.{Args, Vals, onEntry}
 use denote.Triple.Spec.{Meets, tripleOf}
 use denote.Triple.Table.{entered, cited}
 use denote.Triple.Walked.{says, Stays, stay-none, stay-none-slice, walkOf, goes-none, goes-none-slice, ends-at, walked, walk-meets}
@@ -61,22 +61,29 @@ module _ {M : Type 1} (𝓤 : URA M) (H : Heap 𝓤) (A : Atoms 𝓤) (mem : Mem
   abbrev Answered : Contract 𝓤
   Answered = tripleOf 𝓤 H A of-vertex.signature (of-vertex.spec 𝓤 H A mem run)
 
-module _ {M : Type 1} (𝓤 : URA M) (H : Heap 𝓤) (A : Atoms 𝓤) (W : Given 𝓤 H A) (mem : Memory → SProp 𝓤) (run : Routine → Fun 𝓤) (κ κ′ : Lft) (q q′ : Share) (t o : RefT (List ℕ)) (n v : ℕ) where
+module _ {M : Type 1} (𝓤 : URA M) (H : Heap 𝓤) (A : Atoms 𝓤) (W : Given 𝓤 H A) (mem : Memory → SProp 𝓤) (run : Routine → Fun 𝓤) (κ κ′ : Lft) (q q′ : Share) (t o : RefT (List ℕ)) (n v : ℕ) (gn : n < 2 ^ 64) (gv : v < 2 ^ 64) where
   abbrev κs : Lfts 2
   κs = (κ, (κ′, tt))
 
   abbrev qs : Shares 2
   qs = (q, (q′, tt))
 
+  -- the arguments, their machine values, and what is had at entry
+  abbrev args : Args neighbours.signature κs
+  args = (t, (o, (n, (v, tt))))
+
   abbrev at : Vals neighbours.signature κs
   at = (word t ∷ [], (word o ∷ [], (vint w64 n ∷ [], (vint w64 v ∷ [], tt))))
+
+  abbrev Entry : SProp 𝓤
+  Entry = onEntry 𝓤 H A neighbours.signature κs qs args at
 
   -- what of_vertex finds in the targets of a view
   abbrev found : RefT (List ℕ) → List ℕ
   found s = partOf n (now o) (now s) v
 
   abbrev Post : Val → SProp 𝓤
-  Post = walkOf 𝓤 H A neighbours.ended stayed (neighbours.clauses 𝓤 H A mem run) .post ((κs, qs, tt, (t, (o, (n, (v, tt)))), at), tt)
+  Post = walkOf 𝓤 H A neighbours.ended stayed (neighbours.clauses 𝓤 H A mem run) .post ((κs, qs, tt, args, at), tt)
 
   -- what is kept over both calls, and what is held beside it over the call of `view_of`
   abbrev Keep : Fml
@@ -90,10 +97,10 @@ module _ {M : Type 1} (𝓤 : URA M) (H : Heap 𝓤) (A : Atoms 𝓤) (W : Given
   to-make = (((κ, tt), (q, tt), tt, (t, tt), (word t ∷ [], tt)), tt)
 
   abbrev to-answer : Neighbours → Val → Answered 𝓤 H A mem run .Ghost
-  to-answer d u = ((κs, qs, tt, (d, (o, (n, (v, tt)))), (u ∷ [], at .1)), tt)
+  to-answer d u = ((κs, qs, tt, (d, args .1), (u ∷ [], at .1)), tt)
 
   -- what the parameters own gives what `view_of` asks, and the rest is held
-  makes : ent 𝓤 (onEntry 𝓤 H A neighbours.signature κs qs (t, (o, (n, (v, tt)))) at) (sep 𝓤 (Made 𝓤 H A mem run .pre to-make) (sem 𝓤 H A Held))
+  makes : ent 𝓤 Entry (sep 𝓤 (Made 𝓤 H A mem run .pre to-make) (sem 𝓤 H A Held))
   makes =
       qed W (tokens 𝓤 κ κ′ q q′ ∷ ‵ (All κ′ (Area 0 κ) t (word t) o n v) ∷ []) ∵
       move ! (1 ∷ []) $ use1 W (‵ Keep ⊛ ‵ Keep) (parts-twice 𝓤 H A W κ′ (Area 0 κ) t (word t) o n v (area-copy 𝓤 H A W 0 κ)) $ split ! $ fsplit ! $
@@ -105,21 +112,21 @@ module _ {M : Type 1} (𝓤 : URA M) (H : Heap 𝓤) (A : Atoms 𝓤) (W : Given
       frame ! $ move ! (1 ∷ 2 ∷ []) $ fjoin ! $ move ! (1 ∷ 0 ∷ []) $ fjoin ! $ done !
 
   -- what the view and the offsets own gives what `of_vertex` asks
-  answers : n < 2 ^ 64 → v < 2 ^ 64 → (d : Neighbours) (u : Val) → ent 𝓤 (⋆ 𝓤 H A (tokens 𝓤 κ κ′ q q′ ∷ ‵ (Two κ′ (View κ) d u o) ∷ [])) (Answered 𝓤 H A mem run .pre (to-answer d u))
-  answers gn gv d u =
+  answers : (d : Neighbours) (u : Val) → ent 𝓤 (⋆ 𝓤 H A (tokens 𝓤 κ κ′ q q′ ∷ ‵ (Two κ′ (View κ) d u o) ∷ [])) (Answered 𝓤 H A mem run .pre (to-answer d u))
+  answers d u =
       qed W (tokens 𝓤 κ κ′ q q′ ∷ ‵ (Two κ′ (View κ) d u o) ∷ []) ∵
       move ! (1 ∷ []) $ use1 W (‵ (All κ′ (View κ) d u o n v)) (parts-all 𝓤 H A W κ′ (View κ) d u o n v gn gv) $ move ! (1 ∷ 0 ∷ []) $ join ! $ frame ! $ done !
 
-  exits : n < 2 ^ 64 → v < 2 ^ 64 → (r : RefT (List ℕ)) (u : Val) → now r ≡ found t → ent 𝓤 (⋆ 𝓤 H A (‵ (Area 0 κ .own r (u ∷ [])) ∷ tokens 𝓤 κ κ′ q q′ ∷ ‵ Keep ∷ [])) (Post u)
-  exits gn gv r u e =
+  exits : (r : RefT (List ℕ)) (u : Val) → now r ≡ found t → ent 𝓤 (⋆ 𝓤 H A (‵ (Area 0 κ .own r (u ∷ [])) ∷ tokens 𝓤 κ κ′ q q′ ∷ ‵ Keep ∷ [])) (Post u)
+  exits r u e =
       qed W (‵ (Area 0 κ .own r (u ∷ [])) ∷ tokens 𝓤 κ κ′ q q′ ∷ ‵ Keep ∷ []) ∵
-      suffices ! _ (ends-at 𝓤 H A neighbours.ended stayed (neighbours.clauses 𝓤 H A mem run) W ((κs, qs, tt, (t, (o, (n, (v, tt)))), at), tt) u r (tt, (tt, (tt, (tt, tt)))) (tt, (tt, (tt, (tt, tt))))) $ says ! e $
+      suffices ! _ (ends-at 𝓤 H A neighbours.ended stayed (neighbours.clauses 𝓤 H A mem run) W ((κs, qs, tt, args, at), tt) u r (tt, (tt, (tt, (tt, tt)))) (tt, (tt, (tt, (tt, tt))))) $ says ! e $
       move ! (1 ∷ []) $ frame ! $ move ! (1 ∷ []) $ use1 W (‵ (All κ′ (Area 0 κ) t (word t) o n v)) (parts-all 𝓤 H A W κ′ (Area 0 κ) t (word t) o n v gn gv) $ frame ! $ done !
 
   module _ (C : Calls 𝓤 H) (Λ : Loops 𝓤 H) (fm : FmC 𝓤 H (W .laws) C) (known-made : Triple 𝓤 (C #view·held·view-of) (Made 𝓤 H A mem run)) (known-answered : Triple 𝓤 (C #view·held·of-vertex) (Answered 𝓤 H A mem run)) where
-    walk : Is (Area 0 κ) t (word t ∷ []) → Is (Area 1 κ′) o (word o ∷ []) → n < 2 ^ 64 → v < 2 ^ 64 → ent 𝓤 (onEntry 𝓤 H A neighbours.signature κs qs (t, (o, (n, (v, tt)))) at) (WpFn 𝓤 H C Λ code.function (word t ∷ word o ∷ vint w64 n ∷ vint w64 v ∷ []) Post)
-    walk pt po gn gv =
-        qed W (raw (onEntry 𝓤 H A neighbours.signature κs qs (t, (o, (n, (v, tt)))) at) ∷ []) ∵ enter ! C Λ code.function (word t ∷ word o ∷ vint w64 n ∷ vint w64 v ∷ []) _ $
+    walk : Is (Area 0 κ) t (word t ∷ []) → Is (Area 1 κ′) o (word o ∷ []) → ent 𝓤 Entry (WpFn 𝓤 H C Λ code.function (word t ∷ word o ∷ vint w64 n ∷ vint w64 v ∷ []) Post)
+    walk pt po =
+        qed W (raw Entry ∷ []) ∵ enter ! C Λ code.function (word t ∷ word o ∷ vint w64 n ∷ vint w64 v ∷ []) _ $
         six-made ! (area-typed 𝓤 H A W 0 κ t _ pt .0) (area-typed 𝓤 H A W 1 κ′ o _ po .0) (tt, record { fits = gn }) (tt, record { fits = gv }) (λ l₀ l₁ l₂ l₃ l₄ l₅.
         -- [room for _5; …; _4; …; _3; …; _2; …; _1; …; room for _0; …; what is owned]: the view is made
         move ! (12 ∷ []) $ use1 W (raw (Made 𝓤 H A mem run .pre to-make) ⊛ ‵ Held) makes $ split ! $
@@ -129,12 +136,12 @@ module _ {M : Type 1} (𝓤 : URA M) (H : Heap 𝓤) (A : Atoms 𝓤) (W : Given
         land ! (from ! (stop !)) (init ! 3 refl (view-typed 𝓤 H A W (record { mir = erased; lft = κ }) d u is .0)) $
         move ! (2 ∷ []) $ fsplit ! $ move ! (1 ∷ []) $ fsplit ! $ move ! (3 ∷ 0 ∷ []) $ fjoin ! $
         -- [the view and o; what is kept; the second token; the first; …]: the tokens are put together again
-        move ! (3 ∷ []) $ split ! $ move ! (4 ∷ 1 ∷ []) $ join ! $ move ! (1 ∷ 0 ∷ []) $ join ! $ use2 W (raw (Answered 𝓤 H A mem run .pre (to-answer d u))) (answers gn gv d u) $
+        move ! (3 ∷ []) $ split ! $ move ! (4 ∷ 1 ∷ []) $ join ! $ move ! (1 ∷ 0 ∷ []) $ join ! $ use2 W (raw (Answered 𝓤 H A mem run .pre (to-answer d u))) (answers d u) $
         -- [what is asked; what is kept; _5; …; _4; …; _3; …; _2; …; _1; …; room for _0; …]
         calls-at ! fm (Answered 𝓤 H A mem run) known-answered (to-answer d u) (passed !) (λ w.
-        answered ! tt of-vertex.ended κs (d, (o, (n, (v, tt)))) (tokens 𝓤 κ κ′ q q′) (Area 0 κ) w (λ r. now r ≡ found (d .targets)) (λ r f is′.
+        answered ! tt of-vertex.ended κs (d, args .1) (tokens 𝓤 κ κ′ q q′) (Area 0 κ) w (λ r. now r ≡ found (d .targets)) (λ r f is′.
         -- [the result; the tokens; what is kept; _5; …; _4; …; _3; …; _2; …; _1; …; room for _0; …]
-        land ! (from ! (stop !)) (init ! 13 refl (area-typed 𝓤 H A W 0 κ r w is′ .0)) $ returns ! (look ! 13 refl) $ six-freed ! $ by ! (exits gn gv r w (f ∙ ap found e)))))))
+        land ! (from ! (stop !)) (init ! 13 refl (area-typed 𝓤 H A W 0 κ r w is′ .0)) $ returns ! (look ! 13 refl) $ six-freed ! $ by ! (exits r w (f ∙ ap found e)))))))
 
 -- the walk at every choice of what is passed, taken to the contract
 meets : {M : Type 1} (𝓤 : URA M) (H : Heap 𝓤) (A : Atoms 𝓤) (W : Given 𝓤 H A) (mem : Memory → SProp 𝓤) (run : Routine → Fun 𝓤) (𝓣 : Tables 𝓤 H)
@@ -147,7 +154,8 @@ meets 𝓤 H A W mem run 𝓣 known-made known-answered =
     (walked 𝓤 H A neighbours.ended stayed (neighbours.clauses 𝓤 H A mem run) (WpFn 𝓤 H (𝓣 .C) (𝓣 .Λ) code.function)
     (λ κs. (slice-vals, (slice-vals, (uint-vals w64, (uint-vals w64, tt)))))
     (λ κs. (shr-slice-tells (named 0) (κs .0) usize, (shr-slice-tells (named 1) (κs .1 .0) usize, (uint-tells w64, (uint-tells w64, tt)))))
-    (λ κs qs bounds a g are. via 𝓤 _ (fst∗ 𝓤 _ (emp 𝓤)) (walk 𝓤 H A W mem run (κs .0) (κs .1 .0) (qs .0) (qs .1 .0) (a .0) (a .1 .0) (a .1 .1 .0) (a .1 .1 .1 .0) (𝓣 .C) (𝓣 .Λ) (fmOf 𝓤 H (W .laws) 𝓣) known-made known-answered (are .0) (are .1 .0) (are .1 .1 .0 .1) (are .1 .1 .1 .0 .1))))
+    (λ κs qs bounds a g are. via 𝓤 _ (fst∗ 𝓤 _ (emp 𝓤)) (walk 𝓤 H A W mem run (κs .0) (κs .1 .0) (qs .0) (qs .1 .0) (a .0) (a .1 .0) (a .1 .1 .0) (a .1 .1 .1 .0) (are .1 .1 .0 .1) (are .1 .1 .1 .0 .1)
+    (𝓣 .C) (𝓣 .Λ) (fmOf 𝓤 H (W .laws) 𝓣) known-made known-answered (are .0) (are .1 .0))))
 
 pub neighbours-spec : {M : Type 1} → stated.statement M
 unfolding code.routine tablesOf

@@ -28,7 +28,7 @@ use denote.Slice.{slice-vals, shr-slice-tells}
 use denote.Struct.Laws as LL
 use denote.Triple.Statement.{Contract, Triple}
 use denote.Triple.Call.{calls-at}
-use denote.Triple.Entry.{Vals, onEntry}
+use denote.Triple.Entry.{Args, Vals, onEntry}
 use denote.Triple.Spec.{Meets, tripleOf}
 use denote.Triple.Table.{entered, cited}
 use denote.Triple.Walked.{says, Stays, stay-none, stay-none-slice, walkOf, goes-none, goes-none-slice, ends-at, walked, walk-meets}
@@ -55,7 +55,7 @@ stayed = (stay-none (λ κs. View (κs .0)) yes, (stay-none-slice (1 ∷ []) tt 
 abbrev Part : {M : Type 1} (𝓤 : URA M) (H : Heap 𝓤) (A : Atoms 𝓤) (mem : Memory → SProp 𝓤) (run : Routine → Fun 𝓤) → Contract 𝓤
 Part 𝓤 H A mem run = tripleOf 𝓤 H A part.signature (part.spec 𝓤 H A mem run)
 
-module _ {M : Type 1} (𝓤 : URA M) (H : Heap 𝓤) (A : Atoms 𝓤) (W : Given 𝓤 H A) (mem : Memory → SProp 𝓤) (run : Routine → Fun 𝓤) (κ κ′ : Lft) (q q′ : Share) (d : Neighbours) (o : RefT (List ℕ)) (n v : ℕ) where
+module _ {M : Type 1} (𝓤 : URA M) (H : Heap 𝓤) (A : Atoms 𝓤) (W : Given 𝓤 H A) (mem : Memory → SProp 𝓤) (run : Routine → Fun 𝓤) (κ κ′ : Lft) (q q′ : Share) (d : Neighbours) (o : RefT (List ℕ)) (n v : ℕ) (gn : n < 2 ^ 64) (gv : v < 2 ^ 64) where
   abbrev κs : Lfts 2
   κs = (κ, (κ′, tt))
 
@@ -69,14 +69,21 @@ module _ {M : Type 1} (𝓤 : URA M) (H : Heap 𝓤) (A : Atoms 𝓤) (W : Given
   abbrev mt : Val
   mt = word (d .targets)
 
+  -- the arguments, their machine values, and what is had at entry
+  abbrev args : Args of-vertex.signature κs
+  args = (d, (o, (n, (v, tt))))
+
   abbrev at : Vals of-vertex.signature κs
   at = (md ∷ [], (word o ∷ [], (vint w64 n ∷ [], (vint w64 v ∷ [], tt))))
+
+  abbrev Entry : SProp 𝓤
+  Entry = onEntry 𝓤 H A of-vertex.signature κs qs args at
 
   abbrev found : List ℕ
   found = partOf n (now o) (now (d .targets)) v
 
   abbrev Post : Val → SProp 𝓤
-  Post = walkOf 𝓤 H A of-vertex.ended stayed (of-vertex.clauses 𝓤 H A mem run) .post ((κs, qs, tt, (d, (o, (n, (v, tt)))), at), tt)
+  Post = walkOf 𝓤 H A of-vertex.ended stayed (of-vertex.clauses 𝓤 H A mem run) .post ((κs, qs, tt, args, at), tt)
 
   -- what is kept over the call
   abbrev Keep : Fml
@@ -84,11 +91,11 @@ module _ {M : Type 1} (𝓤 : URA M) (H : Heap 𝓤) (A : Atoms 𝓤) (W : Given
 
   -- what the callee is passed
   abbrev to : Part 𝓤 H A mem run .Ghost
-  to = ((κs, qs, tt, (d .targets, (o, (n, (v, tt)))), (mt ∷ [], at .1)), tt)
+  to = ((κs, qs, tt, (d .targets, args .1), (mt ∷ [], at .1)), tt)
 
   -- what the parameters own gives what the callee asks, and is kept
-  apart : n < 2 ^ 64 → v < 2 ^ 64 → ent 𝓤 (onEntry 𝓤 H A of-vertex.signature κs qs (d, (o, (n, (v, tt)))) at) (sep 𝓤 (Part 𝓤 H A mem run .pre to) (sem 𝓤 H A Keep))
-  apart gn gv =
+  apart : ent 𝓤 Entry (sep 𝓤 (Part 𝓤 H A mem run .pre to) (sem 𝓤 H A Keep))
+  apart =
       qed W (tokens 𝓤 κ κ′ q q′ ∷ ‵ (All κ′ (View κ) d md o n v) ∷ []) ∵
       move ! (1 ∷ []) $ use1 W (‵ Keep ⊛ ‵ Keep) (parts-twice 𝓤 H A W κ′ (View κ) d md o n v (view-copy 𝓤 H A W κ)) $ split ! $
       -- [what d and o own; the same; the tokens]: of the first, what the targets own is taken out
@@ -97,24 +104,24 @@ module _ {M : Type 1} (𝓤 : URA M) (H : Heap 𝓤) (A : Atoms 𝓤) (W : Given
       -- [what the callee takes; what d and o own; the tokens]
       move ! (2 ∷ 0 ∷ []) $ use2 W (raw (Part 𝓤 H A mem run .pre to)) (qed W (tokens 𝓤 κ κ′ q q′ ∷ ‵ (All κ′ (Area 0 κ) (d .targets) mt o n v) ∷ []) ∵ join ! $ frame ! $ done !) $ frame ! $ done !
 
-  exits : n < 2 ^ 64 → v < 2 ^ 64 → (r : RefT (List ℕ)) (u : Val) → now r ≡ found → ent 𝓤 (⋆ 𝓤 H A (‵ (Area 0 κ .own r (u ∷ [])) ∷ tokens 𝓤 κ κ′ q q′ ∷ ‵ Keep ∷ [])) (Post u)
-  exits gn gv r u e =
+  exits : (r : RefT (List ℕ)) (u : Val) → now r ≡ found → ent 𝓤 (⋆ 𝓤 H A (‵ (Area 0 κ .own r (u ∷ [])) ∷ tokens 𝓤 κ κ′ q q′ ∷ ‵ Keep ∷ [])) (Post u)
+  exits r u e =
       qed W (‵ (Area 0 κ .own r (u ∷ [])) ∷ tokens 𝓤 κ κ′ q q′ ∷ ‵ Keep ∷ []) ∵
-      suffices ! _ (ends-at 𝓤 H A of-vertex.ended stayed (of-vertex.clauses 𝓤 H A mem run) W ((κs, qs, tt, (d, (o, (n, (v, tt)))), at), tt) u r (tt, (tt, (tt, (tt, tt)))) (tt, (tt, (tt, (tt, tt))))) $ says ! e $
+      suffices ! _ (ends-at 𝓤 H A of-vertex.ended stayed (of-vertex.clauses 𝓤 H A mem run) W ((κs, qs, tt, args, at), tt) u r (tt, (tt, (tt, (tt, tt)))) (tt, (tt, (tt, (tt, tt))))) $ says ! e $
       move ! (1 ∷ []) $ frame ! $ move ! (1 ∷ []) $ use1 W (‵ (All κ′ (View κ) d md o n v)) (parts-all 𝓤 H A W κ′ (View κ) d md o n v gn gv) $ frame ! $ done !
 
   module _ (C : Calls 𝓤 H) (Λ : Loops 𝓤 H) (fm : FmC 𝓤 H (W .laws) C) (known : Triple 𝓤 (C #graph·part·part) (Part 𝓤 H A mem run)) where
-    walk : Is (View κ) d (md ∷ []) → Is (Area 1 κ′) o (word o ∷ []) → n < 2 ^ 64 → v < 2 ^ 64 → ent 𝓤 (onEntry 𝓤 H A of-vertex.signature κs qs (d, (o, (n, (v, tt)))) at) (WpFn 𝓤 H C Λ code.function (md ∷ word o ∷ vint w64 n ∷ vint w64 v ∷ []) Post)
-    walk pd po gn gv =
-        qed W (raw (onEntry 𝓤 H A of-vertex.signature κs qs (d, (o, (n, (v, tt)))) at) ∷ []) ∵ enter ! C Λ code.function (md ∷ word o ∷ vint w64 n ∷ vint w64 v ∷ []) _ $
+    walk : Is (View κ) d (md ∷ []) → Is (Area 1 κ′) o (word o ∷ []) → ent 𝓤 Entry (WpFn 𝓤 H C Λ code.function (md ∷ word o ∷ vint w64 n ∷ vint w64 v ∷ []) Post)
+    walk pd po =
+        qed W (raw Entry ∷ []) ∵ enter ! C Λ code.function (md ∷ word o ∷ vint w64 n ∷ vint w64 v ∷ []) _ $
         six-made ! (view-typed 𝓤 H A W (first κ) d _ pd .0) (area-typed 𝓤 H A W 1 κ′ o _ po .0) (tt, record { fits = gn }) (tt, record { fits = gv }) (λ l₀ l₁ l₂ l₃ l₄ l₅.
         -- [room for _5; …; _4; …; _3; …; _2; …; _1; …; room for _0; …; what is owned]: the targets are read, then passed
         assigns ! (of-opd ! (load ! (from ! (fld ! refl (stop !))) (look-in ! 8 (sub ! 0 refl (whole !))))) (from ! (stop !)) (init ! 0 refl (tt, view-typed 𝓤 H A W (first κ) d _ pd .0 .1 .0)) $
-        move ! (12 ∷ []) $ use1 W (raw (Part 𝓤 H A mem run .pre to) ⊛ ‵ Keep) (apart gn gv) $ split ! $
+        move ! (12 ∷ []) $ use1 W (raw (Part 𝓤 H A mem run .pre to) ⊛ ‵ Keep) apart $ split ! $
         calls-at ! fm (Part 𝓤 H A mem run) known to (passed !) (λ u.
-        answered ! tt part.ended κs (d .targets, (o, (n, (v, tt)))) (tokens 𝓤 κ κ′ q q′) (Area 0 κ) u (λ r. now r ≡ found) (λ r e is.
+        answered ! tt part.ended κs (d .targets, args .1) (tokens 𝓤 κ κ′ q q′) (Area 0 κ) u (λ r. now r ≡ found) (λ r e is.
         -- [the result; the tokens; what is kept; _5; …; _4; …; _3; …; _2; …; _1; …; room for _0; …]
-        land ! (from ! (stop !)) (init ! 13 refl (area-typed 𝓤 H A W 0 κ r u is .0)) $ returns ! (look ! 13 refl) $ six-freed ! $ by ! (exits gn gv r u e))))
+        land ! (from ! (stop !)) (init ! 13 refl (area-typed 𝓤 H A W 0 κ r u is .0)) $ returns ! (look ! 13 refl) $ six-freed ! $ by ! (exits r u e))))
 
 -- the walk at every choice of what is passed, taken to the contract
 meets : {M : Type 1} (𝓤 : URA M) (H : Heap 𝓤) (A : Atoms 𝓤) (W : Given 𝓤 H A) (mem : Memory → SProp 𝓤) (run : Routine → Fun 𝓤) (𝓣 : Tables 𝓤 H)
@@ -127,7 +134,8 @@ meets 𝓤 H A W mem run 𝓣 known =
     (walked 𝓤 H A of-vertex.ended stayed (of-vertex.clauses 𝓤 H A mem run) (WpFn 𝓤 H (𝓣 .C) (𝓣 .Λ) code.function)
     (λ κs. (LL.vals (T.the-type (first (κs .0))) (T′.the-laws (first (κs .0))), (slice-vals, (uint-vals w64, (uint-vals w64, tt)))))
     (λ κs. (LL.tells (T.the-type (first (κs .0))) (T′.the-laws (first (κs .0))), (shr-slice-tells (named 1) (κs .1 .0) usize, (uint-tells w64, (uint-tells w64, tt)))))
-    (λ κs qs bounds a g are. via 𝓤 _ (fst∗ 𝓤 _ (emp 𝓤)) (walk 𝓤 H A W mem run (κs .0) (κs .1 .0) (qs .0) (qs .1 .0) (a .0) (a .1 .0) (a .1 .1 .0) (a .1 .1 .1 .0) (𝓣 .C) (𝓣 .Λ) (fmOf 𝓤 H (W .laws) 𝓣) known (are .0) (are .1 .0) (are .1 .1 .0 .1) (are .1 .1 .1 .0 .1))))
+    (λ κs qs bounds a g are. via 𝓤 _ (fst∗ 𝓤 _ (emp 𝓤)) (walk 𝓤 H A W mem run (κs .0) (κs .1 .0) (qs .0) (qs .1 .0) (a .0) (a .1 .0) (a .1 .1 .0) (a .1 .1 .1 .0) (are .1 .1 .0 .1) (are .1 .1 .1 .0 .1)
+    (𝓣 .C) (𝓣 .Λ) (fmOf 𝓤 H (W .laws) 𝓣) known (are .0) (are .1 .0))))
 
 pub of-vertex-spec : {M : Type 1} → stated.statement M
 unfolding code.routine tablesOf
