@@ -9,10 +9,10 @@ use basis::refusal::UNSOUND;
 use graph::Size;
 use graph::find::Found;
 use graph::find::find;
-use graph::part::part;
 use graph::sound::sound;
 use kernels::Answer;
 use kernels::refused;
+use view::neighbours;
 ghost use mathlib.Core.Path.{_≡_};
 ghost use mathlib.Core.Bool.{true};
 ghost use Prim.Native.Nat.{_<_};
@@ -102,7 +102,7 @@ fn search(offsets: &[usize], targets: &[usize], root: usize, depth: &mut [i64], 
     while head < tail {
         ring = advance(ring, head, tail);
         let level = ring.level;
-        let next = part(targets, offsets, n, queue[head]);
+        let next = neighbours(targets, offsets, n, queue[head]);
         tail = walk(next, depth, queue, tail, level + 1);
         head += 1;
     }

@@ -3,7 +3,7 @@
 use crate::label::settle;
 use basis::area::clear;
 use graph::Size;
-use graph::part::part;
+use view::neighbours;
 ghost use mathlib.Core.Path.{_≡_};
 ghost use lib.ListN.{length};
 ghost use lib.IntN.{pos};
@@ -63,8 +63,8 @@ fn round(
     let mut v = 0;
     while v < labels.len() {
         let own = labels[v];
-        let inward = part(is, io, labels.len(), v);
-        let outward = part(ot, oo, labels.len(), v);
+        let inward = neighbours(is, io, labels.len(), v);
+        let outward = neighbours(ot, oo, labels.len(), v);
         next[v] = settle(inward, outward, labels, counts, own);
         v += 1;
     }

@@ -2,7 +2,7 @@
 use book::Headed;
 use book::joining::join;
 use book::readings::head;
-use graph::part::part;
+use view::neighbours;
 ghost use mathlib.Core.Path.{_≡_};
 ghost use Rattle.graph.specs.Part.{partOf};
 ghost use Rattle.book.specs.Two.{areas};
@@ -41,7 +41,7 @@ pub(crate) fn join_arcs(
 {
     let mut u = 0;
     while u < n {
-        join_part(parents, sizes, u, part(targets, offsets, n, u));
+        join_part(parents, sizes, u, neighbours(targets, offsets, n, u));
         u += 1;
     }
 }

@@ -46,14 +46,14 @@ loop-holds c =
 advance-requires : tie.Need-advance-requires Inv-loop μ-loop
 advance-requires c κs = omega (arith, serving-level _ _ _ (c .before .loop .inv))
 
-mul-part : tie.Need-mul-part Inv-loop μ-loop
-mul-part c = omega (arith, serving-tail _ _ _ (c .before .before .loop .inv))
+mul-neighbours : tie.Need-mul-neighbours Inv-loop μ-loop
+mul-neighbours c = omega (arith, serving-tail _ _ _ (c .before .before .loop .inv))
 
-slice-read-part : tie.Need-slice-read-part Inv-loop μ-loop
-slice-read-part c = let k = c .before .before .before .loop .inv in omega (arith, serving-tail _ _ _ k, serving-room _ _ _ k)
+slice-read-neighbours : tie.Need-slice-read-neighbours Inv-loop μ-loop
+slice-read-neighbours c = let k = c .before .before .before .loop .inv in omega (arith, serving-tail _ _ _ k, serving-room _ _ _ k)
 
-part-requires : tie.Need-part-requires Inv-loop μ-loop
-part-requires c κs = tt
+neighbours-requires : tie.Need-neighbours-requires Inv-loop μ-loop
+neighbours-requires c κs = tt
 
 add-walk : tie.Need-add-walk Inv-loop μ-loop
 add-walk c = omega (arith, deeper (c .before .before .before .before))
@@ -62,7 +62,7 @@ walk-requires : tie.Need-walk-requires Inv-loop μ-loop
 walk-requires c κs =
     let a = c .before .before .before .before in
     let l = a .before .before in
-    (l .loop .inv .ready, (rw (c .before .before .part .ensures) (serving-part _ _ _ (l .loop .inv) (a .before .loop-test .taken) (a .advance .ensures)), deeper a))
+    (l .loop .inv .ready, (rw (c .before .before .neighbours .ensures) (serving-part _ _ _ (l .loop .inv) (a .before .loop-test .taken) (a .advance .ensures)), deeper a))
 
 add-head : tie.Need-add-head Inv-loop μ-loop
 add-head c = omega (arith, serving-tail _ _ _ (c .before .before .before .before .before .before .before .before .before .before .loop .inv))
@@ -74,7 +74,7 @@ loop-again : tie.Need-loop-again Inv-loop μ-loop
 loop-again c =
     let w = c .before .before .before in
     let a = w .before .before .before .before .before in
-    serving-more _ _ _ (a .before .before .loop .inv) (a .before .loop-test .taken) (a .advance .ensures) (w .before .before .before .part .ensures) (w .walk .ensures)
+    serving-more _ _ _ (a .before .before .loop .inv) (a .before .loop-test .taken) (a .advance .ensures) (w .before .before .before .neighbours .ensures) (w .walk .ensures)
 
 same-length : tie.Need-same-length Inv-loop μ-loop
 same-length c = c .before .loop .inv .len
@@ -95,9 +95,9 @@ search-spec =
     relax-requires
     loop-holds
     advance-requires
-    mul-part
-    slice-read-part
-    part-requires
+    mul-neighbours
+    slice-read-neighbours
+    neighbours-requires
     add-walk
     walk-requires
     add-head

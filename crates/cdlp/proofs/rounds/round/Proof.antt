@@ -23,11 +23,11 @@ mul-own c = search needs
 shared-slice-read-own : tie.Need-shared-slice-read-own Inv-loop μ-loop
 shared-slice-read-own c = search needs
 
-part-requires : tie.Need-part-requires Inv-loop μ-loop
-part-requires c κs = search needs
+neighbours-requires : tie.Need-neighbours-requires Inv-loop μ-loop
+neighbours-requires c κs = search needs
 
-part-requires-2 : tie.Need-part-requires-2 Inv-loop μ-loop
-part-requires-2 c κs = search needs
+neighbours-requires-2 : tie.Need-neighbours-requires-2 Inv-loop μ-loop
+neighbours-requires-2 c κs = search needs
 
 settle-requires : tie.Need-settle-requires Inv-loop μ-loop
 settle-requires c κs = search parts-of
@@ -47,7 +47,7 @@ loop-less c = search needs
 loop-again : tie.Need-loop-again Inv-loop μ-loop
 loop-again c =
     let l = c .before .before .before .before .before .before .before .before .loop in
-    (omega arith, length-set (l .next) (l .v) _ ∙ l .inv .1, c .before .before .settle .ensures .1 ∙ l .inv .2, filled-more (c .before .before .before .before .before .before .before .before .before .before .before .before .before .before .before .before .pre) (c .before .before .before .before .before .before .before .loop-test .taken) (l .inv .3) (c .before .before .before .before .before .part .ensures) (c .before .before .before .before .part2 .ensures) (c .before .before .settle .ensures .0))
+    (omega arith, length-set (l .next) (l .v) _ ∙ l .inv .1, c .before .before .settle .ensures .1 ∙ l .inv .2, filled-more (c .before .before .before .before .before .before .before .before .before .before .before .before .before .before .before .before .pre) (c .before .before .before .before .before .before .before .loop-test .taken) (l .inv .3) (c .before .before .before .before .before .neighbours .ensures) (c .before .before .before .before .neighbours2 .ensures) (c .before .before .settle .ensures .0))
 
 same-length : tie.Need-same-length Inv-loop μ-loop
 same-length c = c .before .loop .inv .1
@@ -67,8 +67,8 @@ round-spec =
     loop-holds
     mul-own
     shared-slice-read-own
-    part-requires
-    part-requires-2
+    neighbours-requires
+    neighbours-requires-2
     settle-requires
     mul-next
     slice-write-next

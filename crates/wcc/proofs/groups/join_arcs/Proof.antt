@@ -19,8 +19,8 @@ abbrev μ-loop : tie.MeasureT-loop
 loop-holds : tie.Need-loop-holds Inv-loop μ-loop
 loop-holds c = (omega arith, refl, refl, search arcs-none)
 
-part-requires : tie.Need-part-requires Inv-loop μ-loop
-part-requires c κs = search needs
+neighbours-requires : tie.Need-neighbours-requires Inv-loop μ-loop
+neighbours-requires c κs = search needs
 
 join-part-requires : tie.Need-join-part-requires Inv-loop μ-loop
 join-part-requires c κs = search needs
@@ -50,7 +50,7 @@ join-arcs-spec =
     Inv-loop
     μ-loop
     loop-holds
-    part-requires
+    neighbours-requires
     join-part-requires
     add-u
     loop-less
