@@ -3,6 +3,7 @@ pub mod Bytes
 pub mod Runs
 pub mod Scans
 pub mod Decimals
+pub mod Stops
 pub mod Words
 pub mod Lines
 pub mod Places
