@@ -1,5 +1,4 @@
 use Rattle.text.proofs.Decimals.{sign-plus, sign-other}
-use borrow.Author.Needs.{needs}
 use Rattle.text.proofs.decimal.is_sign.Statement.{statement}
 use Rattle.text.proofs.decimal.is_sign.Tie as tie
 
