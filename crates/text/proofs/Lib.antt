@@ -4,6 +4,7 @@ pub mod Runs
 pub mod Scans
 pub mod Decimals
 pub mod Stops
+pub mod Firsts
 pub mod Words
 pub mod Lines
 pub mod Places
