@@ -2,7 +2,7 @@
 use Prim.Native.Nat.{ℕ, zero, suc, _+_, _-_, _≤_, _<_}
 use mathlib.Core.Path.{_≡_, refl, sym, ap, _∙_}
 use mathlib.Core.List.{List, [], _∷_, _++_}
-use mathlib.Core.Bool.{Bool, true, false, cond}
+use mathlib.Core.Bool.{Bool, true, false}
 use native.Mathlib.Omega.{arith}
 use borrow.Author.Tests.{lt-ltb, le-ltb, ltb-true, ltb-false, eq-eqb, ne-eqb, eqb-true, eqb-false}
 use lib.Dec.{ltb, eqb}
@@ -25,7 +25,7 @@ same-drop : (p k : ℕ) (s r : List ℕ) → Same (p + k) s r → Same k (drop p
 same-drop p k s r e j h = getD-drop p s j 0 ∙ e (p + j) (omega arith) ∙ sym (getD-drop p r j 0)
 
 -- ---- a run of digits by its bytes
-run-before : (l : List ℕ) (j : ℕ) → j < runLen l → isDigit (getD l j 0) ≡ true
+pub run-before : (l : List ℕ) (j : ℕ) → j < runLen l → isDigit (getD l j 0) ≡ true
 run-before [] j h = absurd (omega arith)
 run-before (b ∷ l) j h = by (isDigit b) refl j h (run-before l)
   where
@@ -34,7 +34,7 @@ run-before (b ∷ l) j h = by (isDigit b) refl j h (run-before l)
     by true e (suc j) h f = f j (omega (arith, len-digit b l e))
     by false e j h f = absurd (omega (arith, len-stop b l e))
 
-run-here : (l : List ℕ) → isDigit (getD l (runLen l) 0) ≡ false
+pub run-here : (l : List ℕ) → isDigit (getD l (runLen l) 0) ≡ false
 unfolding within
 run-here [] = refl
 run-here (b ∷ l) = by (isDigit b) refl (run-here l)
@@ -50,12 +50,14 @@ run-more l m n h e =
     (λ t. let k : runLen m < n = ltb-true (runLen m) n t in clash (ap isDigit (sym (e (runLen m) k)) ∙ run-before l (runLen m) (omega arith)) (run-here m))
     (λ t. ltb-false (runLen m) n t)
 
+-- and are all, if no digit follows
+pub run-by : (l m : List ℕ) (n : ℕ) → n ≤ runLen l → ((j : ℕ) → j < n → getD l j 0 ≡ getD m j 0) → isDigit (getD m n 0) ≡ false → runLen m ≡ n
+run-by l m n h e d =
+    let k : n ≤ runLen m = run-more l m n h e in
+    bool-cases (ltb n (runLen m)) (runLen m ≡ n) (λ t. clash (run-before m n (ltb-true n (runLen m) t)) d) (λ t. omega (arith, ltb-false n (runLen m) t))
+
 run-same : (l m : List ℕ) → Same (runLen l) l m → runLen m ≡ runLen l
-run-same l m e =
-    let h : runLen l ≤ runLen m = run-more l m (runLen l) (omega arith) (λ j k. e j (omega arith)) in
-    bool-cases (ltb (runLen l) (runLen m)) (runLen m ≡ runLen l)
-    (λ t. clash (run-before m (runLen l) (ltb-true (runLen l) (runLen m) t)) (ap isDigit (sym (e (runLen l) (omega arith))) ∙ run-here l))
-    (λ t. omega (arith, ltb-false (runLen l) (runLen m) t))
+run-same l m e = run-by l m (runLen l) (omega arith) (λ j k. e j (omega arith)) (ap isDigit (sym (e (runLen l) (omega arith))) ∙ run-here l)
 
 -- ---- the power
 digits-from : (s : List ℕ) (at : ℕ) → at ≤ digitsStop s at
@@ -92,7 +94,7 @@ module _ (s r : List ℕ) where
 -- ---- the digits before the point
 module _ (s : List ℕ) (w : ℕ) where
   -- a leading zero
-  whole-two : (w ≡ 0 → ⊥) → wholeIsGood s w ≡ false → 2 ≤ w
+  pub whole-two : (w ≡ 0 → ⊥) → wholeIsGood s w ≡ false → 2 ≤ w
   whole-two z e =
       bool-cases (ltb 1 w) (2 ≤ w) (λ t. ltb-true 1 w t)
       (λ t. let q : w ≤ 1 = ltb-false 1 w t in bool-cases (eqb w 0) (2 ≤ w) (λ k. absurd (z (eqb-true w 0 k))) (λ k. clash (sym (whole-one s w (one (eqb-false w 0 k) q))) e))
@@ -100,19 +102,19 @@ module _ (s : List ℕ) (w : ℕ) where
       one : (w ≡ 0 → ⊥) → w ≤ 1 → w ≡ 1
       one n h = bool-cases (ltb 0 w) (w ≡ 1) (λ t. omega (arith, ltb-true 0 w t)) (λ t. absurd (n (omega (arith, ltb-false 0 w t))))
 
-  whole-low : 2 ≤ w → wholeIsGood s w ≡ false → getD s 0 0 ≤ 48
+  pub whole-low : 2 ≤ w → wholeIsGood s w ≡ false → getD s 0 0 ≤ 48
   whole-low h e =
       bool-cases (ltb 48 (getD s 0 0)) (getD s 0 0 ≤ 48) (λ t. clash (sym (whole-more s w (λ q. omega arith) h (ltb-true 48 (getD s 0 0) t))) e) (λ t. ltb-false 48 (getD s 0 0) t)
 
-  whole-high : 2 ≤ w → wholeIsGood s w ≡ true → 48 < getD s 0 0
+  pub whole-high : 2 ≤ w → wholeIsGood s w ≡ true → 48 < getD s 0 0
   whole-high h e =
       bool-cases (ltb 48 (getD s 0 0)) (48 < getD s 0 0) (λ t. ltb-true 48 (getD s 0 0) t)
       (λ t. clash e (sym (whole-zero s w (λ q. omega arith) h (ltb-false 48 (getD s 0 0) t))))
 
-  whole-some : wholeIsGood s w ≡ true → eqb w 0 ≡ false
+  pub whole-some : wholeIsGood s w ≡ true → eqb w 0 ≡ false
   whole-some e = ne-eqb w 0 (λ q. clash e (sym (whole-none s w (λ k. omega arith) (omega arith))))
 
-point-most : (s : List ℕ) (w : ℕ) → pastPoint s w ≤ w + 1
+pub point-most : (s : List ℕ) (w : ℕ) → pastPoint s w ≤ w + 1
 unfolding pastPoint
 point-most s w = bool-cases (eqb (getD s w 0) 46) _ (λ e. rw e (omega arith)) (λ e. rw e (omega arith))
 

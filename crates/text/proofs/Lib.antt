@@ -5,6 +5,7 @@ pub mod Scans
 pub mod Decimals
 pub mod Stops
 pub mod Firsts
+pub mod Goings
 pub mod Words
 pub mod Lines
 pub mod Places

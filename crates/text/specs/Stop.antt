@@ -25,8 +25,8 @@ digitsStop s at = cond (isDigit (getD s at 0)) (cond (isDigit (getD s (at + 1) 0
 unfoldable pub powerStop : List ℕ → ℕ → ℕ
 powerStop s at = cond (eqb (getD s at 0) 101) (cond (isSign (getD s (at + 1) 0)) (digitsStop s (at + 2)) (at + 1)) at
 
--- w digits before the point; f after it, from p on. In turn: no digit; a digit after a leading zero; before the point's digits, one digit
--- too many, or a point that only such a digit could follow; a point that no digit follows; after the point, one digit too many; the power
+-- w digits before the point; f after it, from p on. In turn: no digit; a digit after a leading zero; before the point, one digit too many,
+-- or the point where only such a digit could follow it; no digit after the point; after the point, one digit too many; the power
 unfoldable pub partsStop : List ℕ → ℕ → ℕ → ℕ → ℕ
 partsStop s w p f =
     cond (eqb w 0) 0

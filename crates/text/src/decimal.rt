@@ -196,7 +196,7 @@ fn parts(s: &[u8], w: usize, p: usize, f: usize, n: u64) -> DecimalWord
     with_power(n, f as u8, power_at(s, p + f))
 }
 
-// What the bytes of a whole decimal say.
+// What the bytes of a whole decimal say, or where they break off.
 pub fn decimal_of(s: &[u8]) -> DecimalWord
     ensures { λ r. ⌜ r ≡ decimalWord (decimalOf (now (s .entry))) (decimalStop (now (s .entry))) ⌝ }
 {
