@@ -159,7 +159,7 @@ module _ (s r : List ℕ) where
   long-same : digitLimit < p → Same digitLimit s r → digitLimit < pastPoint r (runLen r)
   long-same h e =
       bool-cases (ltb digitLimit w) _
-      (λ t. omega (arith, run-more s r 16 (ltb-true digitLimit w t) (λ j k. e j (omega arith)), point-from r (runLen r)))
+      (λ t. omega (arith, run-more s r (suc digitLimit) (ltb-true digitLimit w t) (λ j k. e j (omega arith)), point-from r (runLen r)))
       (λ t. let k : w ≤ digitLimit = ltb-false digitLimit w t in
       let same : Same w s r = λ j i. e j (omega arith) in
       omega (arith, h, point-same same, ap (pastPoint r) (run-same s r same)))

@@ -1,5 +1,5 @@
 -- The bytes before the place where a decimal breaks off can go on to a good decimal. Assumes nothing.
-use Prim.Native.Nat.{ℕ, suc, _+_, _-_, _*_, _≤_, _<_}
+use Prim.Native.Nat.{ℕ, _+_, _-_, _*_, _≤_, _<_}
 use mathlib.Core.Path.{_≡_, refl, sym, ap, _∙_}
 use mathlib.Core.List.{List, [], _∷_, _++_}
 use mathlib.Core.Bool.{Bool, true, false, cond, _||_}
@@ -141,19 +141,21 @@ module _ (s : List ℕ) where
       on-power = good-power u w p f (digits-on g (omega arith) on-past) (point-on g (omega arith) on-past) on-fraction (good-on g (omega arith) on-past) d l
 
   module _ (g : wholeIsGood s w ≡ true) where
+    -- the digits before the point, as many as may be
     goes-long : digitLimit < p → digitLimit ≤ length s → GoesOn (take digitLimit s)
     unfolding within
     goes-long h i =
         let v : List ℕ = take digitLimit s ++ [] in
-        let m : 15 ≤ w = omega (arith, point-most s w) in
-        let e : getD v 15 0 ≡ 0 = here 15 [] i in
-        let a : runLen v ≡ 15 = run-by s v 15 m (λ j o. front 15 [] i j o) (ap isDigit e) in
-        let b : pastPoint v 15 ≡ 15 = sym (point-no v 15 (λ o. omega arith)) in
-        let c : runLen (drop 15 v) ≡ 0 = run-by [] (drop 15 v) 0 (omega arith) (λ j o. absurd (omega arith)) (ap isDigit (getD-drop 15 v 0 0 ∙ e)) in
-        let n : wholeIsGood v 15 ≡ true = sym (whole-more v 15 (λ o. omega arith) (omega arith) (omega (arith, front 15 [] i 0 (omega arith), whole-high s w (omega arith) g))) in
-        record { rest = []; good = good-plain v 15 15 0 a b c n (omega arith) (omega arith) (long 15 [] i) }
+        let m : digitLimit ≤ w = omega (arith, point-most s w) in
+        let e : getD v digitLimit 0 ≡ 0 = here digitLimit [] i in
+        let a : runLen v ≡ digitLimit = run-by s v digitLimit m (λ j o. front digitLimit [] i j o) (ap isDigit e) in
+        let b : pastPoint v digitLimit ≡ digitLimit = sym (point-no v digitLimit (λ o. omega arith)) in
+        let c : runLen (drop digitLimit v) ≡ 0 = run-by [] (drop digitLimit v) 0 (omega arith) (λ j o. absurd (omega arith)) (ap isDigit (getD-drop digitLimit v 0 0 ∙ e)) in
+        let n : wholeIsGood v digitLimit ≡ true = sym (whole-more v digitLimit (λ o. omega arith) (omega arith) (omega (arith, front digitLimit [] i 0 (omega arith), whole-high s w (omega arith) g))) in
+        record { rest = []; good = good-plain v digitLimit digitLimit 0 a b c n (omega arith) (omega arith) (long digitLimit [] i) }
 
     module _ (c : p ≤ digitLimit) where
+      -- a point goes on with a digit
       goes-point : w + f < p → p ≤ length s → GoesOn (take p s)
       unfolding within
       goes-point h i =
@@ -164,15 +166,20 @@ module _ (s : List ℕ) where
           record { rest = t; good = good-plain v w p 1 (digits-on p t i g (omega arith) z) (point-on p t i g (omega arith) z) n (good-on p t i g (omega arith) z) (point-most s w) (omega arith) (long p t i) }
 
       module _ (d : p ≤ w + f) where
+        -- the digits before and after the point, as many as may be
         goes-limit : digitLimit < w + f → p + (digitLimit - w) ≤ length s → GoesOn (take (p + (digitLimit - w)) s)
         unfolding within
         goes-limit h i =
             let k : ℕ = p + (digitLimit - w) in
             let v : List ℕ = take k s ++ [] in
             let n : runLen (drop p v) ≡ digitLimit - w = fraction-on k [] i g (omega arith) (λ _. refl) (digitLimit - w) (omega arith) (omega arith) (ap isDigit (here k [] i)) in
-            record { rest = []; good = good-plain v w p (digitLimit - w) (digits-on k [] i g (omega arith) (λ _. refl)) (point-on k [] i g (omega arith) (λ _. refl)) n (good-on k [] i g (omega arith) (λ _. refl))
-              (omega (arith, point-from s w)) (omega (arith, point-from s w)) (long k [] i ∙ omega arith) }
+            record {
+              rest = [];
+              good = good-plain v w p (digitLimit - w) (digits-on k [] i g (omega arith) (λ _. refl)) (point-on k [] i g (omega arith) (λ _. refl)) n (good-on k [] i g (omega arith) (λ _. refl))
+                  (omega (arith, point-from s w)) (omega (arith, point-from s w)) (long k [] i ∙ omega arith);
+            }
 
+        -- a power goes on with what is left of `+00`, and no power with nothing
         goes-power : w + f ≤ digitLimit → powerStop s (p + f) ≤ length s → GoesOn (take (powerStop s (p + f)) s)
         unfolding powerStop digitsStop isSign within
         goes-power l =
@@ -185,21 +192,33 @@ module _ (s : List ℕ) where
             (λ m. bool-cases (isDigit (getD s (q + 2 + 1) 0)) _
             (λ o. rw (a, b, m, o)
             (λ i. let k : ℕ = q + 2 + 2 in
-            record { rest = []; good = on-power k [] i g d l (omega arith) (λ _. refl) (long k [] i ∙ omega arith) (sym (front k [] i q (omega arith)) ∙ A)
-              (ap isSign (sym (front k [] i (q + 1) (omega arith))) ∙ b) (ap isDigit (sym (front k [] i (q + 2) (omega arith))) ∙ m)
-              (ap isDigit (sym (front k [] i (q + 3) (omega arith))) ∙ ap (λ (n : ℕ). isDigit (getD s n 0)) (sym two) ∙ o) }))
+            record {
+              rest = [];
+              good = on-power k [] i g d l (omega arith) (λ _. refl) (long k [] i ∙ omega arith) (sym (front k [] i q (omega arith)) ∙ A)
+                  (ap isSign (sym (front k [] i (q + 1) (omega arith))) ∙ b) (ap isDigit (sym (front k [] i (q + 2) (omega arith))) ∙ m)
+                  (ap isDigit (sym (front k [] i (q + 3) (omega arith))) ∙ ap (λ (n : ℕ). isDigit (getD s n 0)) (sym two) ∙ o);
+            }))
             (λ o. rw (a, b, m, o)
             (λ i. let k : ℕ = q + 2 + 1 in let t : List ℕ = 48 ∷ [] in
-            record { rest = t; good = on-power k t i g d l (omega arith) (λ e. absurd (omega arith)) (long k t i ∙ omega arith) (sym (front k t i q (omega arith)) ∙ A)
-              (ap isSign (sym (front k t i (q + 1) (omega arith))) ∙ b) (ap isDigit (sym (front k t i (q + 2) (omega arith))) ∙ m) (ap isDigit (at-back k t i (q + 3) 0 (omega arith))) })))
+            record {
+              rest = t;
+              good = on-power k t i g d l (omega arith) (λ e. absurd (omega arith)) (long k t i ∙ omega arith) (sym (front k t i q (omega arith)) ∙ A)
+                  (ap isSign (sym (front k t i (q + 1) (omega arith))) ∙ b) (ap isDigit (sym (front k t i (q + 2) (omega arith))) ∙ m) (ap isDigit (at-back k t i (q + 3) 0 (omega arith)));
+            })))
             (λ m. rw (a, b, m)
             (λ i. let k : ℕ = q + 2 in let t : List ℕ = 48 ∷ 48 ∷ [] in
-            record { rest = t; good = on-power k t i g d l (omega arith) (λ e. absurd (omega arith)) (long k t i ∙ omega arith) (sym (front k t i q (omega arith)) ∙ A)
-              (ap isSign (sym (front k t i (q + 1) (omega arith))) ∙ b) (ap isDigit (at-back k t i (q + 2) 0 (omega arith))) (ap isDigit (at-back k t i (q + 3) 1 (omega arith))) })))
+            record {
+              rest = t;
+              good = on-power k t i g d l (omega arith) (λ e. absurd (omega arith)) (long k t i ∙ omega arith) (sym (front k t i q (omega arith)) ∙ A)
+                  (ap isSign (sym (front k t i (q + 1) (omega arith))) ∙ b) (ap isDigit (at-back k t i (q + 2) 0 (omega arith))) (ap isDigit (at-back k t i (q + 3) 1 (omega arith)));
+            })))
             (λ b. rw (a, b)
             (λ i. let k : ℕ = q + 1 in let t : List ℕ = 43 ∷ 48 ∷ 48 ∷ [] in
-            record { rest = t; good = on-power k t i g d l (omega arith) (λ e. absurd (omega arith)) (long k t i ∙ omega arith) (sym (front k t i q (omega arith)) ∙ A)
-              (ap isSign (at-back k t i (q + 1) 0 (omega arith))) (ap isDigit (at-back k t i (q + 2) 1 (omega arith))) (ap isDigit (at-back k t i (q + 3) 2 (omega arith))) })))
+            record {
+              rest = t;
+              good = on-power k t i g d l (omega arith) (λ e. absurd (omega arith)) (long k t i ∙ omega arith) (sym (front k t i q (omega arith)) ∙ A)
+                  (ap isSign (at-back k t i (q + 1) 0 (omega arith))) (ap isDigit (at-back k t i (q + 2) 1 (omega arith))) (ap isDigit (at-back k t i (q + 3) 2 (omega arith)));
+            })))
             (λ a. rw a (λ i. record { rest = []; good = on-plain q [] i g d l (omega arith) (λ _. refl) (long q [] i ∙ omega arith) }))
 
   -- ---- by the parts of the word
