@@ -18,16 +18,16 @@ use Rattle.text.proofs.Runs.{len-le}
 use Rattle.text.proofs.Decimals.{no-sign, whole-none, point-from, point-within}
 
 -- ---- a place at which a byte stands
-pub byte-in : (s : List ℕ) (at : ℕ) → 0 < getD s at 0 → at < length s
+byte-in : (s : List ℕ) (at : ℕ) → 0 < getD s at 0 → at < length s
 byte-in s at h = bool-cases (ltb at (length s)) (at < length s) (λ e. ltb-true at (length s) e) (λ e. absurd (omega (arith, nothing-past s at (ltb-false at (length s) e))))
 
-pub letter-in : (s : List ℕ) (at : ℕ) → eqb (getD s at 0) 101 ≡ true → at < length s
+letter-in : (s : List ℕ) (at : ℕ) → eqb (getD s at 0) 101 ≡ true → at < length s
 letter-in s at e = byte-in s at (omega (arith, eqb-true (getD s at 0) 101 e))
 
-pub digit-in : (s : List ℕ) (at : ℕ) → isDigit (getD s at 0) ≡ true → at < length s
+digit-in : (s : List ℕ) (at : ℕ) → isDigit (getD s at 0) ≡ true → at < length s
 digit-in s at e = let h = within-is 48 57 (getD s at 0) e in byte-in s at (omega arith)
 
-pub sign-in : (s : List ℕ) (at : ℕ) → isSign (getD s at 0) ≡ true → at < length s
+sign-in : (s : List ℕ) (at : ℕ) → isSign (getD s at 0) ≡ true → at < length s
 unfolding isSign
 sign-in s at e = bool-cases (ltb at (length s)) (at < length s) (λ h. ltb-true at (length s) h) (λ h. clash e (ap isSign (nothing-past s at (ltb-false at (length s) h))))
 
