@@ -64,6 +64,9 @@ has-no s p c h = and-off (ltb p (length s)) (eqb (getD s p 0) c) (ne-eqb (getD s
 pub nothing-past : (s : List ℕ) (at : ℕ) → length s ≤ at → getD s at 0 ≡ 0
 nothing-past s at h = List·getD-eq-default s 0 h
 
+pub byte-past : (s : List ℕ) (at : ℕ) → length s ≤ at → 0 ≡ getD s at 0
+byte-past s at h = sym (nothing-past s at h)
+
 -- ---- the first c of a list
 pub eqb-swap : (a b : ℕ) → eqb a b ≡ eqb b a
 eqb-swap a b =
@@ -126,6 +129,14 @@ upTo-take c (b ∷ l) = by (eqb c b) refl (upTo-take c l)
     by : (t : Bool) → eqb c b ≡ t → take (length (upTo c l)) l ≡ upTo c l → take (length (upTo c (b ∷ l))) (b ∷ l) ≡ upTo c (b ∷ l)
     by true e f = rw (upTo-stop c b l e)
     by false e f = rw (upTo-more c b l e) (ap (λ (t : List ℕ). b ∷ t) f)
+
+pub upTo-le : (c : ℕ) (l : List ℕ) → length (upTo c l) ≤ length l
+upTo-le c [] = omega arith
+upTo-le c (b ∷ l) = by (eqb c b) refl (upTo-le c l)
+  where
+    by : (t : Bool) → eqb c b ≡ t → length (upTo c l) ≤ length l → length (upTo c (b ∷ l)) ≤ length (b ∷ l)
+    by true e f = rw (upTo-stop c b l e) (omega arith)
+    by false e f = rw (upTo-more c b l e) (omega arith)
 
 -- a byte in neither part, and in one part
 pub mem-join : (c : ℕ) (a b : List ℕ) → mem c a ≡ false → mem c b ≡ false → mem c (a ++ b) ≡ false

@@ -1,21 +1,23 @@
 -- Laws of the decimal of a coefficient claim: one for each way the code leaves, and that its number is never cut down. Assumes nothing.
 use Prim.Native.Nat.{ℕ, suc, _+_, _-_, _*_, _^_, _≤_, _<_}
-use mathlib.Core.Path.{_≡_, refl, sym, ap, ap₂, _∙_}
+use mathlib.Core.Path.{_≡_, refl, sym, ap, _∙_}
 use mathlib.Core.List.{List, [], _∷_}
-use mathlib.Core.Bool.{Bool, true, false, cond, not, _&&_}
+use mathlib.Core.Bool.{Bool, true, false, cond, not, _&&_, _||_}
 use mathlib.Core.Logic.{⊎-elim}
 use native.Mathlib.Omega.{arith}
 use native.Mathlib.Nat.{zero-add, one-mul, le-trans, mul-le-mul-right, mul-assoc, pow-succ', pow-le-pow-right, eq-or-lt-of-le}
-use borrow.Author.Tests.{le-leb, lt-leb, leb-true, lt-ltb, le-ltb, eq-eqb, ne-eqb, eqb-true, not-true, not-false}
+use borrow.Author.Tests.{le-leb, lt-leb, leb-true, lt-ltb, le-ltb, eq-eqb, ne-eqb, eqb-true}
 use lib.Dec.{leb, ltb, eqb}
 use lib.ListN.{length, getD, drop, length-drop, List·getD-eq-default}
 use lib.Pow.{pow-add}
-use Rattle.basis.proofs.Tests.{bool-cases, and-off}
-use Rattle.text.specs.Word.{malformed, value, isDigit, stepped, runLen, runVal}
-use Rattle.text.specs.Decimal.{digitLimit, decimal, digitOf, up, down, wrong, pastPoint, wholeIsGood, signedPower, powerAt, scaled, partsOf, fractionOf, decimalOf, powerSays, decimalSays}
+use Rattle.basis.proofs.Tests.{clash, false-of, bool-cases, and-first, and-second, and-off, failed, held}
+use Rattle.text.specs.Word.{isDigit, stepped, runLen, runVal}
+use Rattle.text.specs.Decimal.{Exponent, digitLimit, decimal, digitOf, up, down, wrong, pastPoint, wholeIsGood, signedPower, powerAt, scaled, partsOf, fractionOf, decimalOf}
+use Rattle.text.specs.Stop.{isSign, digitsStop, digitsPower, powerStop, partsStop, fractionStop, decimalStop, powerWord, decimalWord, scaledWord}
 use Rattle.text.specs.Scan.{capped, runAt}
 use Rattle.text.specs.declared.count.Run.{Run}
 use Rattle.text.specs.declared.decimal.DecimalWord.{DecimalWord}
+use Rattle.text.specs.declared.decimal.DecimalWord.the-variants as DW
 use Rattle.text.specs.declared.decimal.Power.{Power}
 use Rattle.text.specs.declared.decimal.Power.the-variants as P
 use Rattle.text.proofs.Bytes.{within-yes, within-low, within-high, within-is}
@@ -81,78 +83,140 @@ module _ (s : List ℕ) (w : ℕ) (n : w ≡ 1 → ⊥) where
   unfolding wholeIsGood
   whole-more h k = rw (ne-eqb w 1 n, lt-ltb 1 w h, lt-ltb 48 (getD s 0 0) k)
 
-module _ (g k : ℕ) where
-  pub sign-plus : g ≡ 43 → up k ≡ signedPower g k
-  unfolding signedPower
-  sign-plus e = rw (eq-eqb g 43 e)
+pub sign-plus : (b : ℕ) → b ≡ 43 → true ≡ isSign b
+unfolding isSign
+sign-plus b e = rw (eq-eqb b 43 e)
 
-  pub sign-minus : (g ≡ 43 → ⊥) → g ≡ 45 → down k ≡ signedPower g k
-  unfolding signedPower
-  sign-minus n e = rw (ne-eqb g 43 n, eq-eqb g 45 e)
+pub sign-other : (b : ℕ) → (b ≡ 43 → ⊥) → eqb b 45 ≡ isSign b
+unfolding isSign
+sign-other b n = rw (ne-eqb b 43 n)
 
-  pub sign-wrong : (g ≡ 43 → ⊥) → (g ≡ 45 → ⊥) → wrong ≡ signedPower g k
-  unfolding signedPower
-  sign-wrong n e = rw (ne-eqb g 43 n, ne-eqb g 45 e)
+sign-minus : (b : ℕ) → isSign b ≡ true → (b ≡ 43 → ⊥) → b ≡ 45
+sign-minus b e n = eqb-true b 45 (sign-other b n ∙ e)
 
-module _ (s : List ℕ) (at : ℕ) (l : at ≤ length s) where
-  pub power-none : length s - at ≡ 0 → up 0 ≡ powerAt s at
+pub no-sign : (g k : ℕ) → isSign g ≡ false → signedPower g k ≡ wrong
+unfolding signedPower isSign
+no-sign g k e = by (eqb g 43) (eqb g 45) e
+  where
+    by : (t u : Bool) → (t || u) ≡ false → cond t (up k) (cond u (down k) wrong) ≡ wrong
+    by true u h = clash refl h
+    by false true h = clash refl h
+    by false false h = refl
+
+-- ---- two digits x and y after the sign g
+module _ (s : List ℕ) (at g x : ℕ) (X : x ≡ getD s at 0) (t : Bool) (T : t ≡ isDigit x) where
+  pub digits-first : not t ≡ true → P.Wrong at ≡ powerWord (digitsPower s at g) (digitsStop s at)
+  unfolding digitsPower digitsStop
+  digits-first q = rw (← X, failed t (isDigit x) T q, and-off (eqb (length s) (at + 2)) false refl)
+
+  module _ (q : not t ≡ false) (y : ℕ) (Y : y ≡ getD s (at + 1) 0) (u : Bool) (U : u ≡ isDigit y) where
+    pub digits-second : not u ≡ true → P.Wrong (at + 1) ≡ powerWord (digitsPower s at g) (digitsStop s at)
+    unfolding digitsPower digitsStop
+    digits-second p = rw (← X, held t (isDigit x) T q, ← Y, failed u (isDigit y) U p, and-off (eqb (length s) (at + 2)) false refl)
+
+    module _ (p : not u ≡ false) where
+      pub digits-long : (length s ≡ at + 2 → ⊥) → P.Wrong (at + 2) ≡ powerWord (digitsPower s at g) (digitsStop s at)
+      unfolding digitsPower digitsStop
+      digits-long n = rw (← X, held t (isDigit x) T q, ← Y, held u (isDigit y) U p, ne-eqb (length s) (at + 2) n)
+
+      digits-good : length s ≡ at + 2 → powerWord (signedPower g (digitOf x * 10 + digitOf y)) (at + 2) ≡ powerWord (digitsPower s at g) (digitsStop s at)
+      unfolding digitsPower digitsStop
+      digits-good l = rw (← X, held t (isDigit x) T q, ← Y, held u (isDigit y) U p, eq-eqb (length s) (at + 2) l)
+
+      module _ (l : length s ≡ at + 2) (k : ℕ) (e : k ≡ digitOf x * 10 + digitOf y) where
+        pub digits-up : g ≡ 43 → P.Up k ≡ powerWord (digitsPower s at g) (digitsStop s at)
+        unfolding signedPower
+        digits-up h = (rw (e, eq-eqb g 43 h)) ∙ digits-good l
+
+        pub digits-down : isSign g ≡ true → (g ≡ 43 → ⊥) → P.Down k ≡ powerWord (digitsPower s at g) (digitsStop s at)
+        unfolding signedPower
+        digits-down i h = (rw (e, ne-eqb g 43 h, eq-eqb g 45 (sign-minus g i h))) ∙ digits-good l
+
+-- ---- the power: the letter b, the sign g and two digits, or nothing
+either-way : {A : Type 0} (t : Bool) (a : A) → cond t a a ≡ a
+either-way true a = refl
+either-way false a = refl
+
+module _ (s : List ℕ) (at : ℕ) where
+  pub power-none : length s ≡ at → P.Up 0 ≡ powerWord (powerAt s at) (powerStop s at)
   unfolding powerAt
-  power-none e = rw (eq-eqb (length s) at (omega arith))
+  power-none e = rw (eq-eqb (length s) at e)
 
-  module _ (n : length s - at ≡ 0 → ⊥) where
-    pub power-length : (length s - at ≡ 4 → ⊥) → wrong ≡ powerAt s at
-    unfolding powerAt
-    power-length e = rw (ne-eqb (length s) at (λ q. n (omega arith)), ne-eqb (length s) (at + 4) (λ q. e (omega arith)))
+  module _ (n : length s ≡ at → ⊥) (b : ℕ) (B : b ≡ getD s at 0) where
+    pub power-letter : (b ≡ 101 → ⊥) → P.Wrong at ≡ powerWord (powerAt s at) (powerStop s at)
+    unfolding powerAt powerStop
+    power-letter k = rw (ne-eqb (length s) at n, ← B, ne-eqb b 101 k, and-off (eqb (length s) (at + 4)) false refl)
 
-    module _ (e : length s - at ≡ 4) where
-      power-four : powerAt s at ≡ cond (eqb (getD s at 0) 101 && (isDigit (getD s (at + 2) 0) && isDigit (getD s (at + 3) 0)))
-          (signedPower (getD s (at + 1) 0) (digitOf (getD s (at + 2) 0) * 10 + digitOf (getD s (at + 3) 0))) wrong
-      unfolding powerAt
-      power-four = rw (ne-eqb (length s) at (λ q. n (omega arith)), eq-eqb (length s) (at + 4) (omega arith))
+    module _ (k : b ≡ 101) (g : ℕ) (G : g ≡ getD s (at + 1) 0) (t : Bool) (T : t ≡ isSign g) where
+      pub power-sign : not t ≡ true → P.Wrong (at + 1) ≡ powerWord (powerAt s at) (powerStop s at)
+      unfolding powerAt powerStop
+      power-sign q =
+          let w = failed t (isSign g) T q in
+          rw (ne-eqb (length s) at n, ← B, eq-eqb b 101 k, ← G, no-sign g (digitOf (getD s (at + 2) 0) * 10 + digitOf (getD s (at + 3) 0)) w, w, either-way)
 
-      pub power-letter : (getD s at 0 ≡ 101 → ⊥) → wrong ≡ powerAt s at
-      power-letter k = rw (power-four, ne-eqb (getD s at 0) 101 k)
-
-      module _ (k : getD s at 0 ≡ 101) (t : Bool) (h : t ≡ isDigit (getD s (at + 2) 0)) where
-        pub power-first : not t ≡ true → wrong ≡ powerAt s at
-        power-first q = rw (power-four, eq-eqb (getD s at 0) 101 k, ← h, not-true t q)
-
-        module _ (q : not t ≡ false) (u : Bool) (g : u ≡ isDigit (getD s (at + 3) 0)) where
-          pub power-second : not u ≡ true → wrong ≡ powerAt s at
-          power-second p = rw (power-four, eq-eqb (getD s at 0) 101 k, ← h, not-false t q, ← g, not-true u p)
-
-          pub power-signed : not u ≡ false → (m : ℕ) → m ≡ digitOf (getD s (at + 2) 0) * 10 + digitOf (getD s (at + 3) 0)
-              → (r : Power) → powerSays r ≡ signedPower (getD s (at + 1) 0) m → powerSays r ≡ powerAt s at
-          power-signed p m f r v =
-              rw (power-four, eq-eqb (getD s at 0) 101 k, ← h, not-false t q, ← g, not-false u p) (v ∙ ap (signedPower (getD s (at + 1) 0)) f)
+      pub power-signed : not t ≡ false → (r : Power) → r ≡ powerWord (digitsPower s (at + 2) g) (digitsStop s (at + 2)) → r ≡ powerWord (powerAt s at) (powerStop s at)
+      unfolding powerAt powerStop digitsPower
+      power-signed q r h =
+          let three : at + 2 + 1 ≡ at + 3 = omega arith in
+          let four : at + 2 + 2 ≡ at + 4 = omega arith in
+          rw (ne-eqb (length s) at n, ← B, eq-eqb b 101 k, ← G, held t (isSign g) T q, ← three, ← four) h
 
 -- ---- a number with its power
 module _ (n f k : ℕ) (p : Power) where
-  pub scaled-up : p ≡ P.Up k → value (decimal n k f) ≡ scaled n f (powerSays p)
+  pub scaled-up : p ≡ P.Up k → DW.Value (decimal n k f) ≡ scaledWord n f p
   scaled-up e = rw e
 
-  pub scaled-down : p ≡ P.Down k → value (decimal n 0 (f + k)) ≡ scaled n f (powerSays p)
+  pub scaled-down : p ≡ P.Down k → DW.Value (decimal n 0 (f + k)) ≡ scaledWord n f p
   scaled-down e = rw e
 
+  pub scaled-wrong : p ≡ P.Wrong k → DW.Bad k ≡ scaledWord n f p
+  scaled-wrong e = rw e
+
+scaled-word : (n f stop : ℕ) (e : Exponent) → scaledWord n f (powerWord e stop) ≡ decimalWord (scaled n f e) stop
+scaled-word n f stop (up k) = refl
+scaled-word n f stop (down k) = refl
+scaled-word n f stop wrong = refl
+
 -- ---- the parts of a decimal
-module _ (s : List ℕ) (w p f n : ℕ) (t : Bool) (h : t ≡ wholeIsGood s w) where
-  pub parts-whole : not t ≡ true → malformed ≡ partsOf s w p f n
-  unfolding partsOf
-  parts-whole e = rw (← h, not-true t e)
+module _ (s : List ℕ) (w p f n : ℕ) where
+  pub parts-none : w ≡ 0 → DW.Bad 0 ≡ decimalWord (partsOf s w p f n) (partsStop s w p f)
+  unfolding partsOf partsStop
+  parts-none e = rw (eq-eqb w 0 e, ← whole-none s w (λ q. omega arith) (omega arith))
 
-  pub parts-point : not t ≡ false → w + f < p → malformed ≡ partsOf s w p f n
-  unfolding partsOf
-  parts-point e k = rw (← h, not-false t e, lt-leb p (w + f) k)
+  module _ (z : w ≡ 0 → ⊥) (t : Bool) (h : t ≡ wholeIsGood s w) where
+    pub parts-whole : not t ≡ true → DW.Bad 1 ≡ decimalWord (partsOf s w p f n) (partsStop s w p f)
+    unfolding partsOf partsStop
+    parts-whole e = rw (ne-eqb w 0 z, failed t (wholeIsGood s w) h e)
 
-  pub parts-limit : not t ≡ false → p ≤ w + f → digitLimit < w + f → malformed ≡ partsOf s w p f n
-  unfolding partsOf
-  parts-limit e k l = rw (← h, not-false t e, le-leb p (w + f) k, lt-leb (w + f) digitLimit l)
+    module _ (e : not t ≡ false) where
+      pub parts-long : digitLimit < p → DW.Bad digitLimit ≡ decimalWord (partsOf s w p f n) (partsStop s w p f)
+      unfolding partsOf partsStop
+      parts-long l = rw (ne-eqb w 0 z, held t (wholeIsGood s w) h e, lt-ltb digitLimit p l, too-long)
+        where
+          too-long : (leb p (w + f) && leb (w + f) digitLimit) ≡ false
+          too-long =
+              false-of (leb p (w + f) && leb (w + f) digitLimit)
+              (λ q. let a : p ≤ w + f = leb-true p (w + f) (and-first (leb p (w + f)) (leb (w + f) digitLimit) q) in
+              let b : w + f ≤ digitLimit = leb-true (w + f) digitLimit (and-second (leb p (w + f)) (leb (w + f) digitLimit) q) in
+              omega arith)
 
-  pub parts-good : not t ≡ false → p ≤ w + f → w + f ≤ digitLimit
-      → (y : Power) → powerSays y ≡ powerAt s (p + f) → (r : DecimalWord) → decimalSays r ≡ scaled n f (powerSays y) → decimalSays r ≡ partsOf s w p f n
-  unfolding partsOf
-  parts-good e k l y j r g =
-      rw (← h, not-false t e, le-leb p (w + f) k, le-leb (w + f) digitLimit l) (g ∙ ap (scaled n f) j)
+      module _ (l : p ≤ digitLimit) where
+        pub parts-point : w + f < p → DW.Bad p ≡ decimalWord (partsOf s w p f n) (partsStop s w p f)
+        unfolding partsOf partsStop
+        parts-point k = rw (ne-eqb w 0 z, held t (wholeIsGood s w) h e, le-ltb digitLimit p l, lt-ltb (w + f) p k, lt-leb p (w + f) k)
+
+        module _ (k : p ≤ w + f) where
+          pub parts-limit : digitLimit < w + f → DW.Bad (p + (digitLimit - w)) ≡ decimalWord (partsOf s w p f n) (partsStop s w p f)
+          unfolding partsOf partsStop
+          parts-limit m =
+              rw (ne-eqb w 0 z, held t (wholeIsGood s w) h e, le-ltb digitLimit p l, le-ltb (w + f) p k, lt-ltb digitLimit (w + f) m, le-leb p (w + f) k, lt-leb (w + f) digitLimit m)
+
+          pub parts-good : w + f ≤ digitLimit → (y : Power) → y ≡ powerWord (powerAt s (p + f)) (powerStop s (p + f)) → (r : DecimalWord) → r ≡ scaledWord n f y
+              → r ≡ decimalWord (partsOf s w p f n) (partsStop s w p f)
+          unfolding partsOf partsStop
+          parts-good m y j r g =
+              rw (ne-eqb w 0 z, held t (wholeIsGood s w) h e, le-ltb digitLimit p l, le-ltb (w + f) p k, le-ltb digitLimit (w + f) m, le-leb p (w + f) k, le-leb (w + f) digitLimit m)
+              (g ∙ ap (scaledWord n f) j ∙ scaled-word n f (powerStop s (p + f)) (powerAt s (p + f)))
 
 -- ---- digits so few are never cut down
 pub run-small : (a : ℕ) (l : List ℕ) → suc (runVal a l) ≤ suc a * 10 ^ runLen l
@@ -184,7 +248,7 @@ parts-cut s p =
     (λ e. rw (e, and-off (leb p (runLen s + runLen (drop p s))) false refl, and-off (wholeIsGood s (runLen s)) false refl))
 
 -- ---- a whole decimal
-point-from : (s : List ℕ) (w : ℕ) → w ≤ pastPoint s w
+pub point-from : (s : List ℕ) (w : ℕ) → w ≤ pastPoint s w
 unfolding pastPoint
 point-from s w = by (eqb (getD s w 0) 46)
   where
@@ -192,7 +256,7 @@ point-from s w = by (eqb (getD s w 0) 46)
     by true = omega arith
     by false = omega arith
 
-point-within : (s : List ℕ) (w : ℕ) → w ≤ length s → pastPoint s w ≤ length s
+pub point-within : (s : List ℕ) (w : ℕ) → w ≤ length s → pastPoint s w ≤ length s
 unfolding pastPoint
 point-within s w h = by (eqb (getD s w 0) 46) refl
   where
@@ -229,12 +293,11 @@ module _ (s : List ℕ) (whole : Run) (p : ℕ) (all : Run) (a : whole ≡ runAt
       let h : p ≤ length s = omega (arith, b, point-within s (whole .next) (omega (arith, whole-next, len-le s))) in
       omega (arith, all-next, len-le (drop p s), length-drop p s)
 
-  pub decimal-is : (r : DecimalWord) → decimalSays r ≡ partsOf s (whole .next) p (all .next - p) (all .n) → decimalSays r ≡ decimalOf s
-  unfolding decimalOf
+  pub decimal-is : (r : DecimalWord) → r ≡ decimalWord (partsOf s (whole .next) p (all .next - p) (all .n)) (partsStop s (whole .next) p (all .next - p)) → r ≡ decimalWord (decimalOf s) (decimalStop s)
+  unfolding decimalOf decimalStop fractionStop
   decimal-is r h =
       let f : all .next - p ≡ runLen (drop p s) = omega (arith, all-next) in
+      let q : p ≡ pastPoint s (runLen s) = b ∙ ap (pastPoint s) whole-next in
       h
-      ∙ ap₂ (λ (x y : ℕ). partsOf s x p (all .next - p) y) whole-next all-number
-      ∙ ap (λ (k : ℕ). partsOf s (runLen s) p k (capped (runVal (runVal 0 s) (drop p s)))) f
-      ∙ parts-cut s p
-      ∙ ap (fractionOf s (runLen s)) (b ∙ ap (pastPoint s) whole-next)
+      ∙ (rw (whole-next, all-number, f, parts-cut s p))
+      ∙ ap (λ (k : ℕ). decimalWord (fractionOf s (runLen s) k) (partsStop s (runLen s) k (runLen (drop k s)))) q

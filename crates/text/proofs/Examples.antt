@@ -4,9 +4,11 @@ use mathlib.Core.Path.{_≡_, refl}
 use mathlib.Core.List.{List, [], _∷_}
 use lib.IntN.{pos, negsuc}
 use Rattle.basis.specs.Scan.{each, mem}
-use Rattle.text.specs.Word.{within}
+use Rattle.text.specs.Word.{malformed, value, within}
 use Rattle.text.specs.Decimal.{decimal, digitOf, pastPoint, wholeIsGood, signedPower, powerAt, partsOf, fractionOf, decimalOf}
 use Rattle.text.specs.Line.{line, none, fault, lineBy, twoOf, vertexLine, edgeLine, claimLine, coefficientLine}
+use Rattle.text.specs.Stop.{isSign, digitsStop, powerStop, partsStop, fractionStop, decimalStop}
+use Rattle.text.specs.Scan.{scanned, hasAt, decimalAt, restAt}
 
 -- '-9223372036854775808\n' (P1)
 pub p1 : vertexLine (45 ∷ 57 ∷ 50 ∷ 50 ∷ 51 ∷ 51 ∷ 55 ∷ 50 ∷ 48 ∷ 51 ∷ 54 ∷ 56 ∷ 53 ∷ 52 ∷ 55 ∷ 55 ∷ 53 ∷ 56 ∷ 48 ∷ 56 ∷ 10 ∷ []) 0 ≡ line (negsuc 9223372036854775807) 21
@@ -202,6 +204,137 @@ range-of-first = refl
 pub form-of-second : coefficientLine (57 ∷ 50 ∷ 50 ∷ 51 ∷ 51 ∷ 55 ∷ 50 ∷ 48 ∷ 51 ∷ 54 ∷ 56 ∷ 53 ∷ 52 ∷ 55 ∷ 55 ∷ 53 ∷ 56 ∷ 48 ∷ 56 ∷ 32 ∷ 120 ∷ 10 ∷ []) 0 ≡ fault 2 0
 unfolding each mem within lineBy twoOf digitOf pastPoint wholeIsGood signedPower powerAt partsOf fractionOf decimalOf
 form-of-second = refl
+
+-- where a decimal breaks off
+-- ''
+pub stop-empty : decimalStop ([]) ≡ 0
+unfolding within pastPoint wholeIsGood isSign digitsStop powerStop partsStop fractionStop decimalStop
+stop-empty = refl
+
+-- 'x'
+pub stop-none : decimalStop (120 ∷ []) ≡ 0
+unfolding within pastPoint wholeIsGood isSign digitsStop powerStop partsStop fractionStop decimalStop
+stop-none = refl
+
+-- '.5'
+pub stop-point-first : decimalStop (46 ∷ 53 ∷ []) ≡ 0
+unfolding within pastPoint wholeIsGood isSign digitsStop powerStop partsStop fractionStop decimalStop
+stop-point-first = refl
+
+-- '00'
+pub stop-zeros : decimalStop (48 ∷ 48 ∷ []) ≡ 1
+unfolding within pastPoint wholeIsGood isSign digitsStop powerStop partsStop fractionStop decimalStop
+stop-zeros = refl
+
+-- '07'
+pub stop-zero-seven : decimalStop (48 ∷ 55 ∷ []) ≡ 1
+unfolding within pastPoint wholeIsGood isSign digitsStop powerStop partsStop fractionStop decimalStop
+stop-zero-seven = refl
+
+-- '1x'
+pub stop-stray : decimalStop (49 ∷ 120 ∷ []) ≡ 1
+unfolding within pastPoint wholeIsGood isSign digitsStop powerStop partsStop fractionStop decimalStop
+stop-stray = refl
+
+-- '1234567890123456'
+pub stop-sixteenth : decimalStop (49 ∷ 50 ∷ 51 ∷ 52 ∷ 53 ∷ 54 ∷ 55 ∷ 56 ∷ 57 ∷ 48 ∷ 49 ∷ 50 ∷ 51 ∷ 52 ∷ 53 ∷ 54 ∷ []) ≡ 15
+unfolding within pastPoint wholeIsGood isSign digitsStop powerStop partsStop fractionStop decimalStop
+stop-sixteenth = refl
+
+-- '123456789012345.'
+pub stop-point-after-fifteen : decimalStop (49 ∷ 50 ∷ 51 ∷ 52 ∷ 53 ∷ 54 ∷ 55 ∷ 56 ∷ 57 ∷ 48 ∷ 49 ∷ 50 ∷ 51 ∷ 52 ∷ 53 ∷ 46 ∷ []) ≡ 15
+unfolding within pastPoint wholeIsGood isSign digitsStop powerStop partsStop fractionStop decimalStop
+stop-point-after-fifteen = refl
+
+-- '0.123456789012345'
+pub stop-sixteenth-after-point : decimalStop (48 ∷ 46 ∷ 49 ∷ 50 ∷ 51 ∷ 52 ∷ 53 ∷ 54 ∷ 55 ∷ 56 ∷ 57 ∷ 48 ∷ 49 ∷ 50 ∷ 51 ∷ 52 ∷ 53 ∷ []) ≡ 16
+unfolding within pastPoint wholeIsGood isSign digitsStop powerStop partsStop fractionStop decimalStop
+stop-sixteenth-after-point = refl
+
+-- '1.'
+pub stop-point-last : decimalStop (49 ∷ 46 ∷ []) ≡ 2
+unfolding within pastPoint wholeIsGood isSign digitsStop powerStop partsStop fractionStop decimalStop
+stop-point-last = refl
+
+-- '1.x'
+pub stop-after-point : decimalStop (49 ∷ 46 ∷ 120 ∷ []) ≡ 2
+unfolding within pastPoint wholeIsGood isSign digitsStop powerStop partsStop fractionStop decimalStop
+stop-after-point = refl
+
+-- '1.5.'
+pub stop-second-point : decimalStop (49 ∷ 46 ∷ 53 ∷ 46 ∷ []) ≡ 3
+unfolding within pastPoint wholeIsGood isSign digitsStop powerStop partsStop fractionStop decimalStop
+stop-second-point = refl
+
+-- '1.5 '
+pub stop-space : decimalStop (49 ∷ 46 ∷ 53 ∷ 32 ∷ []) ≡ 3
+unfolding within pastPoint wholeIsGood isSign digitsStop powerStop partsStop fractionStop decimalStop
+stop-space = refl
+
+-- '1e5'
+pub stop-no-sign : decimalStop (49 ∷ 101 ∷ 53 ∷ []) ≡ 2
+unfolding within pastPoint wholeIsGood isSign digitsStop powerStop partsStop fractionStop decimalStop
+stop-no-sign = refl
+
+-- '1e+x'
+pub stop-no-digit : decimalStop (49 ∷ 101 ∷ 43 ∷ 120 ∷ []) ≡ 3
+unfolding within pastPoint wholeIsGood isSign digitsStop powerStop partsStop fractionStop decimalStop
+stop-no-digit = refl
+
+-- '1e+1'
+pub stop-one-digit : decimalStop (49 ∷ 101 ∷ 43 ∷ 49 ∷ []) ≡ 4
+unfolding within pastPoint wholeIsGood isSign digitsStop powerStop partsStop fractionStop decimalStop
+stop-one-digit = refl
+
+-- '1e+123'
+pub stop-third-digit : decimalStop (49 ∷ 101 ∷ 43 ∷ 49 ∷ 50 ∷ 51 ∷ []) ≡ 5
+unfolding within pastPoint wholeIsGood isSign digitsStop powerStop partsStop fractionStop decimalStop
+stop-third-digit = refl
+
+-- '123456789012345e'
+pub stop-power-after-fifteen : decimalStop (49 ∷ 50 ∷ 51 ∷ 52 ∷ 53 ∷ 54 ∷ 55 ∷ 56 ∷ 57 ∷ 48 ∷ 49 ∷ 50 ∷ 51 ∷ 52 ∷ 53 ∷ 101 ∷ []) ≡ 16
+unfolding within pastPoint wholeIsGood isSign digitsStop powerStop partsStop fractionStop decimalStop
+stop-power-after-fifteen = refl
+
+-- '3.25e-01'
+pub stop-good : decimalStop (51 ∷ 46 ∷ 50 ∷ 53 ∷ 101 ∷ 45 ∷ 48 ∷ 49 ∷ []) ≡ 8
+unfolding within pastPoint wholeIsGood isSign digitsStop powerStop partsStop fractionStop decimalStop
+stop-good = refl
+
+-- '7 1.\n', from place 2
+pub rest-point-last : restAt (55 ∷ 32 ∷ 49 ∷ 46 ∷ 10 ∷ []) 2 ≡ scanned malformed 4
+unfolding within digitOf pastPoint wholeIsGood signedPower powerAt partsOf fractionOf decimalOf isSign digitsStop powerStop partsStop fractionStop decimalStop hasAt decimalAt restAt
+rest-point-last = refl
+
+-- '7 1e+1\n', from place 2
+pub rest-one-digit : restAt (55 ∷ 32 ∷ 49 ∷ 101 ∷ 43 ∷ 49 ∷ 10 ∷ []) 2 ≡ scanned malformed 6
+unfolding within digitOf pastPoint wholeIsGood signedPower powerAt partsOf fractionOf decimalOf isSign digitsStop powerStop partsStop fractionStop decimalStop hasAt decimalAt restAt
+rest-one-digit = refl
+
+-- '7 1.5 \n', from place 2
+pub rest-space : restAt (55 ∷ 32 ∷ 49 ∷ 46 ∷ 53 ∷ 32 ∷ 10 ∷ []) 2 ≡ scanned malformed 5
+unfolding within digitOf pastPoint wholeIsGood signedPower powerAt partsOf fractionOf decimalOf isSign digitsStop powerStop partsStop fractionStop decimalStop hasAt decimalAt restAt
+rest-space = refl
+
+-- '7 1.5', from place 2
+pub rest-file-ends : restAt (55 ∷ 32 ∷ 49 ∷ 46 ∷ 53 ∷ []) 2 ≡ scanned malformed 5
+unfolding within digitOf pastPoint wholeIsGood signedPower powerAt partsOf fractionOf decimalOf isSign digitsStop powerStop partsStop fractionStop decimalStop hasAt decimalAt restAt
+rest-file-ends = refl
+
+-- '7 1e', from place 2
+pub rest-file-breaks-off : restAt (55 ∷ 32 ∷ 49 ∷ 101 ∷ []) 2 ≡ scanned malformed 4
+unfolding within digitOf pastPoint wholeIsGood signedPower powerAt partsOf fractionOf decimalOf isSign digitsStop powerStop partsStop fractionStop decimalStop hasAt decimalAt restAt
+rest-file-breaks-off = refl
+
+-- '7 1x', from place 2
+pub rest-stray : restAt (55 ∷ 32 ∷ 49 ∷ 120 ∷ []) 2 ≡ scanned malformed 3
+unfolding within digitOf pastPoint wholeIsGood signedPower powerAt partsOf fractionOf decimalOf isSign digitsStop powerStop partsStop fractionStop decimalStop hasAt decimalAt restAt
+rest-stray = refl
+
+-- '7 1.5\n', from place 2
+pub rest-good : restAt (55 ∷ 32 ∷ 49 ∷ 46 ∷ 53 ∷ 10 ∷ []) 2 ≡ scanned (value (decimal 15 0 1)) 6
+unfolding within digitOf pastPoint wholeIsGood signedPower powerAt partsOf fractionOf decimalOf isSign digitsStop powerStop partsStop fractionStop decimalStop hasAt decimalAt restAt
+rest-good = refl
 
 -- a vertex line of n nines
 abbrev pub nines : ℕ → List ℕ

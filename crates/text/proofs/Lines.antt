@@ -2,20 +2,21 @@
 use Prim.Native.Nat.{ℕ, _+_, _-_, _≤_, _<_}
 use mathlib.Core.Path.{_≡_, refl, sym, ap, _∙_}
 use mathlib.Core.List.{List, [], _∷_, _++_, append-assoc}
-use mathlib.Core.Bool.{Bool, true, false, not}
+use mathlib.Core.Bool.{Bool, true, false}
 use native.Mathlib.Omega.{arith}
-use borrow.Author.Tests.{le-leb, lt-leb, not-true, not-false}
+use borrow.Author.Tests.{le-leb, lt-leb}
 use lib.Dec.{eqb}
 use lib.IntN.{ℤ}
-use lib.ListN.{length, take, drop, length-append}
+use lib.ListN.{length, take, drop, length-append, length-drop}
 use lib.Seq.{getD-append-seam}
 use Rattle.basis.specs.Refusal.{badForm, outOfRange}
 use Rattle.basis.specs.Scan.{mem}
 use Rattle.basis.proofs.Tests.{clash, bool-cases}
 use Rattle.text.specs.Word.{Word, malformed, outside, value, within, identOf}
-use Rattle.text.specs.Decimal.{decimalOf, decimalSays}
+use Rattle.text.specs.Decimal.{decimalOf}
+use Rattle.text.specs.Stop.{decimalStop, decimalWord}
 use Rattle.text.specs.Line.{LineSaid, line, none, fault, lf, space, upTo, past, lineSays, lineBy, both, twoOf, vertexLine, edgeLine, coefficientLine, edgeSays, coefficientSays}
-use Rattle.text.specs.Scan.{Scanned, scanned, wellFormed, hasAt, fieldAt, scanSays, endAt, restWord, restAt, restSays, beside, faultBeside, lineOf}
+use Rattle.text.specs.Scan.{Scanned, scanned, wellFormed, hasAt, closed, fieldAt, scanSays, lineFrom, decimalAt, restAt, restSays, beside, faultBeside, lineOf}
 use Rattle.text.specs.declared.decimal.Decimal.{Decimal}
 use Rattle.text.specs.declared.decimal.DecimalWord.{DecimalWord}
 use Rattle.text.specs.declared.decimal.DecimalWord.the-variants as DW
@@ -25,8 +26,9 @@ use Rattle.text.specs.declared.line.EdgeLine.{EdgeLine}
 use Rattle.text.specs.declared.line.CoefficientLine.{CoefficientLine}
 use Rattle.text.specs.declared.line.Rest.{Rest}
 use Rattle.text.specs.declared.line.Rest.the-variants as R
-use Rattle.text.proofs.Bytes.{mem-cut, mem-join, mem-right, upTo-cut, upTo-none, upTo-take, cut-at, drop-past}
-use Rattle.text.proofs.Words.{Ends, Reads, word-has, no-end, field-reads, ident-stray}
+use Rattle.text.proofs.Bytes.{mem-cut, mem-join, mem-right, upTo-cut, upTo-none, upTo-take, upTo-le, cut-at, drop-past}
+use Rattle.text.proofs.Words.{Ends, Reads, closed-yes, closed-no, bad-ends, word-has, no-end, field-reads, ident-stray}
+use Rattle.text.proofs.Stops.{Inside, stop-le, stop-good, decimal-inside}
 
 -- ---- a line by what is scanned of it
 same-line : {A : Type 0} (at q : ℕ) (w : Word A) (x : Scanned A) → Ends q w x → lineOf at x ≡ lineSays at q w
@@ -128,40 +130,67 @@ module _ {A : Type 0} (word : List ℕ → Word A) (s : List ℕ) (at : ℕ) (x 
 
 -- ---- a decimal up to the end of its line
 pub rest-reads : (s : List ℕ) (at : ℕ) → Reads lf decimalOf s at (restAt s at)
-unfolding restAt
+unfolding restAt decimalAt
 rest-reads s at = record { ended = ended; unended = unended }
   where
     ended : (bs r : List ℕ) → drop at s ≡ bs ++ lf ∷ r → mem lf bs ≡ false → Ends (at + length bs + 1) (decimalOf bs) (restAt s at)
     ended bs r e n =
-        let u : upTo lf (drop at s) ≡ bs = ap (upTo lf) e ∙ upTo-cut lf bs r n in
+        let u : lineFrom s at ≡ bs = ap (upTo lf) e ∙ upTo-cut lf bs r n in
         let h : hasAt s (at + length bs) lf ≡ true = word-has s bs r at lf e (length bs) lf (omega arith) ∙ ap (λ (k : ℕ). eqb k lf) (getD-append-seam bs lf r 0) in
-        rw (u, h) (record { said = refl; next = λ k. rw k })
+        rw u
+        (bool-cases (wellFormed (decimalOf bs)) _
+        (λ k. rw (stop-good bs k) (closed-yes s lf (at + length bs) (decimalOf bs) h))
+        (λ k. rw (not-well (decimalOf bs) k) (bad-ends (at + length bs + 1) (at + decimalStop bs))))
 
-    unended : mem lf (drop at s) ≡ false → restWord s at ≡ malformed
-    unended n = rw (no-end s at lf (endAt s at) (omega arith) n)
+    unended : mem lf (drop at s) ≡ false → restAt s at .said ≡ malformed
+    unended n =
+        let q : ℕ = at + decimalStop (lineFrom s at) in
+        closed-no s lf q 0 (decimalOf (lineFrom s at)) (no-end s at lf q (omega arith) n) .said
 
--- the code's ways out: no LF, no decimal, a decimal
-module _ (s : List ℕ) (at end : ℕ) (e : end ≡ at + length (upTo lf (drop at s))) (t : Bool) (h : t ≡ hasAt s end lf) where
-  rest-has : t ≡ hasAt s (endAt s at) lf
-  rest-has = h ∙ ap (λ (k : ℕ). hasAt s k lf) e
+-- the code's ways out: no decimal, a decimal that LF ends, one that the file ends
+word-bad : (w : Word Decimal) (stop p : ℕ) → Inside w → DW.Bad p ≡ decimalWord w stop → scanned w stop ≡ scanned malformed p
+word-bad malformed stop p i e = let q : stop ≡ p = cc in ap (scanned malformed) q
+word-bad outside stop p i e = absurd i
+word-bad (value d) stop p i e = absurd (let z : _≡_ {A = ℕ} 0 1 = cc in omega arith)
 
-  pub rest-open : not t ≡ true → scanned malformed at ≡ restAt s at
-  unfolding restAt
-  rest-open k = rw (← rest-has, not-true t k)
+word-value : (w : Word Decimal) (stop : ℕ) (d : Decimal) → DW.Value d ≡ decimalWord w stop → w ≡ value d
+word-value malformed stop d e = absurd (let z : _≡_ {A = ℕ} 0 1 = cc in omega arith)
+word-value outside stop d e = absurd (let z : _≡_ {A = ℕ} 0 1 = cc in omega arith)
+word-value (value x) stop d e = let q : x ≡ d = cc in ap value q
 
-  module _ (k : not t ≡ false) (x : DecimalWord) (f : decimalSays x ≡ decimalOf (take (end - at) (drop at s))) where
-    rest-word : restWord s at ≡ decimalSays x
-    rest-word =
-        let q : end - at ≡ length (upTo lf (drop at s)) = omega arith in
-        rw (← rest-has, not-false t k) (sym (f ∙ ap decimalOf (ap (λ (n : ℕ). take n (drop at s)) q ∙ upTo-take lf (drop at s))))
+pub rest-end : (s : List ℕ) (at end : ℕ) → end ≡ at + length (upTo lf (drop at s)) → at ≤ length s → end ≤ length s
+rest-end s at end e h = omega (arith, upTo-le lf (drop at s), length-drop at s)
 
-    pub rest-bad : x ≡ DW.Bad → scanned malformed at ≡ restAt s at
-    unfolding restAt
-    rest-bad q = rw (rest-word, q)
+module _ (s : List ℕ) (at end : ℕ) (e : end ≡ at + length (upTo lf (drop at s)))
+    (x : DecimalWord) (f : x ≡ decimalWord (decimalOf (take (end - at) (drop at s))) (decimalStop (take (end - at) (drop at s)))) where
+  rest-word : x ≡ decimalWord (decimalOf (lineFrom s at)) (decimalStop (lineFrom s at))
+  rest-word =
+      let q : end - at ≡ length (upTo lf (drop at s)) = omega arith in
+      f ∙ ap (λ (l : List ℕ). decimalWord (decimalOf l) (decimalStop l)) (ap (λ (n : ℕ). take n (drop at s)) q ∙ upTo-take lf (drop at s))
 
-    pub rest-value : (d : Decimal) → x ≡ DW.Value d → scanned (value d) (end + 1) ≡ restAt s at
-    unfolding restAt
-    rest-value d q = rw (rest-word, q, e)
+  rest-stop : (p : ℕ) → x ≡ DW.Bad p → scanned (decimalOf (lineFrom s at)) (decimalStop (lineFrom s at)) ≡ scanned malformed p
+  rest-stop p q = word-bad (decimalOf (lineFrom s at)) (decimalStop (lineFrom s at)) p (decimal-inside (lineFrom s at)) (sym q ∙ rest-word)
+
+  pub rest-inside : at ≤ length s → (p : ℕ) → x ≡ DW.Bad p → at + p ≤ length s
+  rest-inside h p q = omega (arith, ap (λ (y : Scanned Decimal). y .next) (rest-stop p q), stop-le (lineFrom s at), rest-end s at end e h)
+
+  pub rest-bad : (p : ℕ) → x ≡ DW.Bad p → scanned malformed (at + p) ≡ restAt s at
+  unfolding restAt decimalAt
+  rest-bad p q = ap (λ (y : Scanned Decimal). closed s lf (scanned (y .said) (at + y .next))) (sym (rest-stop p q))
+
+  module _ (d : Decimal) (q : x ≡ DW.Value d) (t : Bool) (h : t ≡ hasAt s end lf) where
+    rest-is : closed s lf (scanned (value d) end) ≡ restAt s at
+    unfolding restAt decimalAt
+    rest-is =
+        let w : decimalOf (lineFrom s at) ≡ value d = word-value (decimalOf (lineFrom s at)) (decimalStop (lineFrom s at)) d (sym q ∙ rest-word) in
+        let n : end ≡ at + decimalStop (lineFrom s at) = omega (arith, stop-good (lineFrom s at) (ap wellFormed w)) in
+        rw (w, n)
+
+    pub rest-value : t ≡ true → scanned (value d) (end + 1) ≡ restAt s at
+    rest-value k = rw (← h, k) at rest-is
+
+    pub rest-open : t ≡ false → scanned malformed end ≡ restAt s at
+    rest-open k = rw (← h, k) at rest-is
 
 -- ---- a vertex line
 module _ (s : List ℕ) (at : ℕ) (l : at < length s) (x : Scan) (e : scanSays x ≡ fieldAt s at lf) where

@@ -1,7 +1,7 @@
 -- What callers' loops stand on: a line that is read moves the place forward and within the file, a fault or the end does not move it, and
 -- the numbers that are read are inside the range of i64. Assumes nothing.
 use Prim.Native.Nat.{ℕ, suc, _+_, _-_, _^_, _≤_, _<_}
-use mathlib.Core.Path.{_≡_, refl, ap, _∙_}
+use mathlib.Core.Path.{_≡_, refl, sym, ap, _∙_}
 use mathlib.Core.List.{List, [], _∷_}
 use mathlib.Core.Bool.{Bool, true, false, cond}
 use native.Mathlib.Omega.{arith}
@@ -17,8 +17,10 @@ use Rattle.basis.proofs.Tests.{clash, bool-cases}
 use Rattle.text.specs.Word.{Word, malformed, outside, value, within, runLen, rangedOf, countOf, signedOf, afterMinus, identOf}
 use Rattle.text.specs.Decimal.{decimalOf}
 use Rattle.text.specs.Line.{LineSaid, line, none, fault, lf, space, upTo, past, lineSays, lineBy, both, twoOf, vertexLine, edgeLine, coefficientLine}
-use Rattle.text.specs.Scan.{Scanned, wellFormed, hasAt, countAt, identAt, closed, fieldAt}
+use Rattle.text.specs.Scan.{Scanned, wellFormed, hasAt, countAt, identAt, closed, fieldAt, scanSays}
 use Rattle.text.specs.declared.decimal.Decimal.{Decimal}
+use Rattle.text.specs.declared.ident.Scan.{Scan}
+use Rattle.text.specs.declared.ident.Scan.the-variants as S
 use Rattle.text.proofs.Bytes.{cut-at, has-below, nothing-past, within-is, first-digit}
 use Rattle.text.proofs.Runs.{len-digit, len-le}
 use Rattle.text.proofs.Scans.{mag-minus}
@@ -78,6 +80,21 @@ module _ (s : List ℕ) (at c : ℕ) where
           (λ g. rw (w, g) (record { forward = omega arith; inside = omega (arith, has-below s (x .next) c g) }))
           (λ g. clash (rw (w, g) at h) refl))
           (λ w. clash (rw w at h) w)
+
+  -- the place at which the second word of a line begins
+  module _ (x : Scan) (e : scanSays x ≡ fieldAt s at c) (p : ℕ) where
+    field-inside : (y : Scan) → x ≡ y → wellFormed (scanSays y .said) ≡ true → scanSays y .next ≤ length s
+    field-inside y q h =
+        let f : scanSays y ≡ fieldAt s at c = ap scanSays (sym q) ∙ e in
+        let k : wellFormed (fieldAt s at c .said) ≡ true = ap (λ (v : Scanned ℤ). wellFormed (v .said)) (sym f) ∙ h in
+        let m : fieldAt s at c .next ≤ length s = field-moves k .inside in
+        omega (arith, m, ap (λ (v : Scanned ℤ). v .next) f)
+
+    pub outside-inside : x ≡ S.Outside p → p ≤ length s
+    outside-inside q = field-inside (S.Outside p) q refl
+
+    pub value-inside : (z : ℤ) → x ≡ S.Value z p → p ≤ length s
+    value-inside z q = field-inside (S.Value z p) q refl
 
 pub count-moves : (s : List ℕ) (at : ℕ) → wellFormed (countAt s at .said) ≡ true → Moved s at (countAt s at .next)
 unfolding countAt

@@ -3,7 +3,6 @@ use Prim.Native.Nat.{ℕ}
 use mathlib.Core.Path.{_≡_, refl, sym, ap, _∙_}
 use lib.IntN.{ℤ}
 use Rattle.text.specs.Word.{Word, malformed, outside, value}
-use Rattle.text.specs.Decimal.{decimalSays}
 use Rattle.text.specs.Line.{LineSaid, line, none, fault, vertexSays, edgeSays, coefficientSays}
 use Rattle.text.specs.Scan.{countSays, scanSays}
 use Rattle.text.specs.declared.count.Counted.{Counted}
@@ -12,8 +11,6 @@ use Rattle.text.specs.declared.ident.Scan.{Scan}
 use Rattle.text.specs.declared.ident.Scan.the-variants as S
 use Rattle.text.specs.declared.decimal.Decimal.{Decimal}
 use Rattle.text.specs.declared.line.Cursor.{Cursor}
-use Rattle.text.specs.declared.decimal.DecimalWord.{DecimalWord}
-use Rattle.text.specs.declared.decimal.DecimalWord.the-variants as D
 use Rattle.text.specs.declared.line.VertexLine.{VertexLine}
 use Rattle.text.specs.declared.line.VertexLine.the-variants as VL
 use Rattle.text.specs.declared.line.EdgeLine.{EdgeLine}
@@ -53,18 +50,6 @@ scan-back (S.Value z p) = refl
 
 pub scan-one : (x y : Scan) → scanSays x ≡ scanSays y → x ≡ y
 scan-one = one-of scanSays (λ w. scan (w .said) (w .next)) scan-back
-
-abbrev decimalWord : Word Decimal → DecimalWord
-decimalWord malformed = D.Bad
-decimalWord outside = D.Bad
-decimalWord (value d) = D.Value d
-
-decimal-back : (x : DecimalWord) → decimalWord (decimalSays x) ≡ x
-decimal-back D.Bad = refl
-decimal-back (D.Value d) = refl
-
-pub decimal-one : (x y : DecimalWord) → decimalSays x ≡ decimalSays y → x ≡ y
-decimal-one = one-of decimalSays decimalWord decimal-back
 
 -- ---- lines
 abbrev vertexRead : LineSaid ℤ → VertexLine

@@ -63,17 +63,17 @@ breaks c (b ∷ bs) r h n = by (isDigit b) refl h (λ g. breaks c bs r g (mem-ta
         record { before = omega (arith, q); other = rw q (mem-head c b bs n) }
 
 -- ---- what was scanned, once it is known whether c follows
-closed-yes : {A : Type 0} (s : List ℕ) (c q : ℕ) (w : Word A) → hasAt s q c ≡ true → Ends (q + 1) w (closed s c (scanned w q))
+pub closed-yes : {A : Type 0} (s : List ℕ) (c q : ℕ) (w : Word A) → hasAt s q c ≡ true → Ends (q + 1) w (closed s c (scanned w q))
 closed-yes s c q malformed e = record { said = refl; next = λ h. clash h refl }
 closed-yes s c q outside e = record { said = rw e; next = λ _. rw e }
 closed-yes s c q (value v) e = record { said = rw e; next = λ _. rw e }
 
-closed-no : {A : Type 0} (s : List ℕ) (c q k : ℕ) (w : Word A) → hasAt s q c ≡ false → Ends k malformed (closed s c (scanned w q))
+pub closed-no : {A : Type 0} (s : List ℕ) (c q k : ℕ) (w : Word A) → hasAt s q c ≡ false → Ends k malformed (closed s c (scanned w q))
 closed-no s c q k malformed e = record { said = refl; next = λ h. clash h refl }
 closed-no s c q k outside e = record { said = rw e; next = λ h. clash h refl }
 closed-no s c q k (value v) e = record { said = rw e; next = λ h. clash h refl }
 
-bad-ends : {A : Type 0} (k p : ℕ) → Ends {A = A} k malformed (scanned malformed p)
+pub bad-ends : {A : Type 0} (k p : ℕ) → Ends {A = A} k malformed (scanned malformed p)
 bad-ends k p = record { said = refl; next = λ h. clash h refl }
 
 -- ---- the bytes of the word, in the file

@@ -7,10 +7,6 @@ use lib.ListN.{length, getD, drop}
 use lib.Dec.{ltb, leb, eqb}
 use Rattle.text.specs.Word.{Word, malformed, value, isDigit, runLen, runVal}
 use Rattle.text.specs.declared.decimal.Decimal.{Decimal}
-use Rattle.text.specs.declared.decimal.DecimalWord.{DecimalWord}
-use Rattle.text.specs.declared.decimal.DecimalWord.the-variants as DW
-use Rattle.text.specs.declared.decimal.Power.{Power}
-use Rattle.text.specs.declared.decimal.Power.the-variants as P
 
 -- "at most 15 digits before any `e`"
 abbrev pub digitLimit : ℕ
@@ -65,13 +61,3 @@ fractionOf s w p = partsOf s w p (runLen (drop p s)) (runVal (runVal 0 s) (drop 
 
 unfoldable pub decimalOf : List ℕ → Word Decimal
 decimalOf s = fractionOf s (runLen s) (pastPoint s (runLen s))
-
--- what the code's answers say
-abbrev pub powerSays : Power → Exponent
-powerSays (P.Up k) = up k
-powerSays (P.Down k) = down k
-powerSays P.Wrong = wrong
-
-abbrev pub decimalSays : DecimalWord → Word Decimal
-decimalSays DW.Bad = malformed
-decimalSays (DW.Value d) = value d

@@ -2,4 +2,5 @@
 pub mod Word
 pub mod Decimal
 pub mod Line
+pub mod Stop
 pub mod Scan

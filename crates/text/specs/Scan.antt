@@ -8,6 +8,7 @@ use lib.IntN.{ℤ}
 use Rattle.basis.specs.Refusal.{badForm, outOfRange}
 use Rattle.text.specs.Word.{Word, malformed, outside, value, within, runLen, runVal, rangedOf, signedOf}
 use Rattle.text.specs.Decimal.{decimalOf}
+use Rattle.text.specs.Stop.{decimalStop}
 use Rattle.text.specs.Line.{LineSaid, lf, upTo, lineSays, both}
 use Rattle.text.specs.declared.count.Run.{Run}
 use Rattle.text.specs.declared.count.Counted.{Counted}
@@ -88,15 +89,15 @@ scanSays (S.Bad p) = scanned malformed p
 scanSays (S.Outside p) = scanned outside p
 scanSays (S.Value z p) = scanned (value z) p
 
--- the decimal from a place to the end of its line; where it is malformed, the place where it starts
-abbrev pub endAt : List ℕ → ℕ → ℕ
-endAt s at = at + length (upTo lf (drop at s))
+-- the decimal from a place to the end of its line, and that it is ended by LF
+abbrev pub lineFrom : List ℕ → ℕ → List ℕ
+lineFrom s at = upTo lf (drop at s)
 
-abbrev pub restWord : List ℕ → ℕ → Word Decimal
-restWord s at = cond (hasAt s (endAt s at) lf) (decimalOf (upTo lf (drop at s))) malformed
+unfoldable pub decimalAt : List ℕ → ℕ → Scanned Decimal
+decimalAt s at = scanned (decimalOf (lineFrom s at)) (at + decimalStop (lineFrom s at))
 
 unfoldable pub restAt : List ℕ → ℕ → Scanned Decimal
-restAt s at = scanned (restWord s at) (cond (wellFormed (restWord s at)) (endAt s at + 1) at)
+restAt s at = closed s lf (decimalAt s at)
 
 abbrev pub restSays : Rest → Scanned Decimal
 restSays (R.Bad p) = scanned malformed p

@@ -1,10 +1,12 @@
 // The decimal of a coefficient claim.
 use crate::count::digits;
 ghost use mathlib.Core.Path.{_≡_};
+ghost use mathlib.Core.Bool.{true};
 ghost use Prim.Native.Nat.{_+_, _*_, _≤_};
-ghost use lib.ListN.{length};
+ghost use lib.ListN.{length, getD};
 ghost use Rattle.text.specs.Word.{isDigit};
-ghost use Rattle.text.specs.Decimal.{digitOf, pastPoint, wholeIsGood, signedPower, powerAt, powerSays, scaled, decimalSays, partsOf, decimalOf};
+ghost use Rattle.text.specs.Decimal.{digitOf, pastPoint, wholeIsGood, powerAt, partsOf, decimalOf};
+ghost use Rattle.text.specs.Stop.{isSign, digitsStop, digitsPower, powerStop, partsStop, decimalStop, powerWord, decimalWord, scaledWord};
 
 // How many digits may stand before the `e`.
 pub const DIGITS: usize = 15;
@@ -16,16 +18,24 @@ pub struct Decimal {
     pub down: u16,
 }
 
+// A decimal, or the place of the first byte at which no decimal could go on.
 pub enum DecimalWord {
-    Bad,
+    Bad(usize),
     Value(Decimal),
 }
 
-// The exponent that stands after the digits.
+// The exponent that stands after the digits, or the place at which it breaks off.
 enum Power {
     Up(u8),
     Down(u8),
-    Wrong,
+    Wrong(usize),
+}
+
+// The byte at a place, 0 past the end.
+fn byte_at(s: &[u8], at: usize) -> u8
+    ensures { λ r. ⌜ r ≡ getD (now (s .entry)) at 0 ⌝ }
+{
+    if at < s.len() { s[at] } else { 0 }
 }
 
 fn is_digit(b: u8) -> bool
@@ -38,6 +48,15 @@ fn is_digit(b: u8) -> bool
         return false;
     }
     true
+}
+
+fn is_sign(b: u8) -> bool
+    ensures { λ r. ⌜ r ≡ isSign b ⌝ }
+{
+    if b == 43 {
+        return true;
+    }
+    b == 45
 }
 
 // What a digit is worth; 0 of any other byte.
@@ -91,48 +110,50 @@ fn two_digits(x: u8, y: u8) -> u8
     a * 10 + b
 }
 
-// The power that the sign and the two digits give.
-fn signed_power(g: u8, k: u8) -> Power
-    ensures { λ r. ⌜ powerSays r ≡ signedPower g k ⌝ }
+// Two digits up to the end, after the sign g.
+fn signed_power(s: &[u8], at: usize, g: u8) -> Power
+    requires { ⌜ (at ≤ length (now s)) × (isSign g ≡ true) ⌝ }
+    ensures { λ r. ⌜ r ≡ powerWord (digitsPower (now (s .entry)) at g) (digitsStop (now (s .entry)) at) ⌝ }
 {
+    let x = byte_at(s, at);
+    if !is_digit(x) {
+        return Power::Wrong(at);
+    }
+    let y = byte_at(s, at + 1);
+    if !is_digit(y) {
+        return Power::Wrong(at + 1);
+    }
+    if s.len() != at + 2 {
+        return Power::Wrong(at + 2);
+    }
+    let k = two_digits(x, y);
     if g == 43 {
         return Power::Up(k);
     }
-    if g == 45 {
-        return Power::Down(k);
-    }
-    Power::Wrong
+    Power::Down(k)
 }
 
 // What stands after the digits, up to the end: nothing, or `e`, a sign and two digits.
 fn power_at(s: &[u8], at: usize) -> Power
     requires { ⌜ at ≤ length (now s) ⌝ }
-    ensures { λ r. ⌜ powerSays r ≡ powerAt (now (s .entry)) at ⌝ }
+    ensures { λ r. ⌜ r ≡ powerWord (powerAt (now (s .entry)) at) (powerStop (now (s .entry)) at) ⌝ }
 {
-    let left = s.len() - at;
-    if left == 0 {
+    if s.len() == at {
         return Power::Up(0);
     }
-    if left != 4 {
-        return Power::Wrong;
+    if byte_at(s, at) != 101 {
+        return Power::Wrong(at);
     }
-    if s[at] != 101 {
-        return Power::Wrong;
+    let g = byte_at(s, at + 1);
+    if !is_sign(g) {
+        return Power::Wrong(at + 1);
     }
-    let x = s[at + 2];
-    if !is_digit(x) {
-        return Power::Wrong;
-    }
-    let y = s[at + 3];
-    if !is_digit(y) {
-        return Power::Wrong;
-    }
-    signed_power(s[at + 1], two_digits(x, y))
+    signed_power(s, at + 2, g)
 }
 
 // A number with f digits after the point, and its power.
 fn with_power(n: u64, f: u8, p: Power) -> DecimalWord
-    ensures { λ r. ⌜ decimalSays r ≡ scaled n f (powerSays p) ⌝ }
+    ensures { λ r. ⌜ r ≡ scaledWord n f p ⌝ }
 {
     match p {
         Power::Up(k) => DecimalWord::Value(Decimal {
@@ -145,31 +166,39 @@ fn with_power(n: u64, f: u8, p: Power) -> DecimalWord
             up: 0,
             down: f as u16 + k as u16,
         }),
-        Power::Wrong => DecimalWord::Bad,
+        Power::Wrong(stop) => DecimalWord::Bad(stop),
     }
 }
 
 // w digits before the point and f after it, from p on, that make the number n.
 fn parts(s: &[u8], w: usize, p: usize, f: usize, n: u64) -> DecimalWord
     requires { ⌜ (w ≤ p) × (p + f ≤ length (now s)) ⌝ }
-    ensures { λ r. ⌜ decimalSays r ≡ partsOf (now (s .entry)) w p f n ⌝ }
+    ensures { λ r. ⌜ r ≡ decimalWord (partsOf (now (s .entry)) w p f n) (partsStop (now (s .entry)) w p f) ⌝ }
 {
+    if w == 0 {
+        return DecimalWord::Bad(0);
+    }
+    // a digit after a leading zero
     if !whole_is_good(s, w) {
-        return DecimalWord::Bad;
+        return DecimalWord::Bad(1);
+    }
+    // one digit too many, or a point that only such a digit could follow
+    if DIGITS < p {
+        return DecimalWord::Bad(DIGITS);
     }
     // a point with no digit after it
     if w + f < p {
-        return DecimalWord::Bad;
+        return DecimalWord::Bad(p);
     }
     if DIGITS < w + f {
-        return DecimalWord::Bad;
+        return DecimalWord::Bad(p + (DIGITS - w));
     }
     with_power(n, f as u8, power_at(s, p + f))
 }
 
-// What the bytes of a whole decimal say.
+// What the bytes of a whole decimal say, or where they break off.
 pub fn decimal_of(s: &[u8]) -> DecimalWord
-    ensures { λ r. ⌜ decimalSays r ≡ decimalOf (now (s .entry)) ⌝ }
+    ensures { λ r. ⌜ r ≡ decimalWord (decimalOf (now (s .entry))) (decimalStop (now (s .entry))) ⌝ }
 {
     let whole = digits(s, 0, 0);
     let p = past_point(s, whole.next);

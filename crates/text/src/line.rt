@@ -11,6 +11,8 @@ use crate::ident::field;
 use basis::refusal::BAD_FORM;
 use basis::refusal::OUT_OF_RANGE;
 ghost use mathlib.Core.Path.{_≡_};
+ghost use Prim.Native.Nat.{_≤_};
+ghost use lib.ListN.{length};
 ghost use Rattle.text.specs.Word.{value};
 ghost use Rattle.text.specs.Line.{vertexLine, edgeLine, claimLine, coefficientLine, vertexSays, edgeSays, coefficientSays};
 ghost use Rattle.text.specs.Scan.{scanSays, restAt, restSays, beside, faultBeside, lineOf};
@@ -40,23 +42,26 @@ pub enum CoefficientLine {
     Line(i64, Decimal, Cursor),
 }
 
-// The decimal that ends its line, and the place past that line; or the place where one should have begun.
+// The decimal that ends its line, and the place past that line; or the place of the byte at which it breaks off.
 enum Rest {
     Bad(usize),
     Value(Decimal, usize),
 }
 
 fn decimal_rest(s: &[u8], at: usize) -> Rest
+    requires { ⌜ at ≤ length (now s) ⌝ }
     ensures { λ r. ⌜ restSays r ≡ restAt (now (s .entry)) at ⌝ }
 {
     let end = line_end(s, at);
-    if !has(s, end, LF) {
-        return Rest::Bad(at);
-    }
     let x = decimal_of(&s[at..end]);
     match x {
-        DecimalWord::Bad => Rest::Bad(at),
-        DecimalWord::Value(d) => Rest::Value(d, end + 1),
+        DecimalWord::Bad(p) => Rest::Bad(at + p),
+        DecimalWord::Value(d) => {
+            if has(s, end, LF) {
+                return Rest::Value(d, end + 1);
+            }
+            Rest::Bad(end)
+        }
     }
 }
 

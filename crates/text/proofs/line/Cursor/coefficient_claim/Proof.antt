@@ -1,3 +1,4 @@
+use Rattle.text.proofs.Places.{outside-inside, value-inside}
 use Rattle.text.proofs.Lines.{line-end, coefficient-bad, coefficient-outside, coefficient-value}
 use borrow.Author.Needs.{needs}
 use Rattle.text.proofs.line.Cursor.coefficient_claim.Statement.{statement}
@@ -16,7 +17,7 @@ enum-known-x : tie.Need-enum-known-x
 enum-known-x c = search needs
 
 decimal-rest-requires : tie.Need-decimal-rest-requires
-decimal-rest-requires c κs = search needs
+decimal-rest-requires c κs = search outside-inside
 
 fault-beside-rest-requires : tie.Need-fault-beside-rest-requires
 fault-beside-rest-requires c κs = search needs
@@ -25,7 +26,7 @@ enum-known-x-2 : tie.Need-enum-known-x-2
 enum-known-x-2 c = search needs
 
 decimal-rest-requires-2 : tie.Need-decimal-rest-requires-2
-decimal-rest-requires-2 c κs = search needs
+decimal-rest-requires-2 c κs = search (value-inside, needs)
 
 coefficient-of-requires : tie.Need-coefficient-of-requires
 coefficient-of-requires c κs = search needs
