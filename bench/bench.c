@@ -1,0 +1,258 @@
+/* bench [quick]: the proved engine, through its host calls, beside the plain engine, on the same inputs in one run. For each stage the best time of several
+   repetitions of both, and their ratio; the results of both are compared. A kernel's core is its call less the soundness check, which is measured as a call that is
+   refused right behind it. */
+#define _POSIX_C_SOURCE 200809L
+#include "../hosts/c/trace.h"
+#include "plain.h"
+
+#include <inttypes.h>
+#include <stdio.h>
+#include <stdlib.h>
+#include <string.h>
+#include <time.h>
+
+static double now(void) {
+    struct timespec t;
+    clock_gettime(CLOCK_MONOTONIC, &t);
+    return (double)t.tv_sec + (double)t.tv_nsec * 1e-9;
+}
+
+static uint64_t seed;
+
+static uint64_t dice(void) {
+    seed ^= seed << 13;
+    seed ^= seed >> 7;
+    seed ^= seed << 17;
+    return seed;
+}
+
+static void *room(size_t count, size_t size) {
+    void *p = calloc(count ? count : 1, size);
+    if (!p) exit(3);
+    return p;
+}
+
+/* ---- inputs: text of two lists, from a seed */
+struct text {
+    uint8_t *bytes;
+    size_t length;
+};
+
+struct lists {
+    const char *name;
+    int directed;
+    size_t vertices, edges;
+    struct text vertex_file, edge_file;
+};
+
+static int by_value(const void *a, const void *b) {
+    uint64_t x = *(const uint64_t *)a, y = *(const uint64_t *)b;
+    return (x > y) - (x < y);
+}
+
+/* Identifiers are 1,000,003 times the vertex number, less 10^9: some below zero. Hubs: one end is drawn towards low numbers. */
+static struct lists make(const char *name, int directed, int hubs, size_t n, size_t m) {
+    seed = 0x9e3779b97f4a7c15u ^ (n * 31 + m);
+    struct lists l = {name, directed, n, 0, {room(n, 24), 0}, {room(m, 48), 0}};
+    uint64_t *pairs = room(m, sizeof *pairs);
+    for (size_t i = 0; i < m; i++) {
+        uint64_t u = dice() % n, v = dice() % n;
+        if (hubs) u = u * (dice() % n) / n * (dice() % n) / n;
+        if (u == v) v = (v + 1) % n;
+        if (!directed && u > v) {
+            uint64_t t = u;
+            u = v;
+            v = t;
+        }
+        pairs[i] = u << 32 | v;
+    }
+    qsort(pairs, m, sizeof *pairs, by_value);
+    for (size_t v = 0; v < n; v++)
+        l.vertex_file.length += (size_t)sprintf((char *)l.vertex_file.bytes + l.vertex_file.length, "%" PRId64 "\n", (int64_t)v * 1000003 - 1000000000);
+    for (size_t i = 0; i < m; i++) {
+        if (i > 0 && pairs[i] == pairs[i - 1]) continue;
+        l.edge_file.length += (size_t)sprintf((char *)l.edge_file.bytes + l.edge_file.length, "%" PRId64 " %" PRId64 "\n",
+                                              (int64_t)(pairs[i] >> 32) * 1000003 - 1000000000, (int64_t)(pairs[i] & 0xffffffff) * 1000003 - 1000000000);
+        l.edges++;
+    }
+    free(pairs);
+    return l;
+}
+
+static struct graph areas(size_t n, size_t arcs) {
+    struct graph g = {0, 0, room(n, 8), room(n + 1, 8), room(arcs, 8), room(n + 1, 8), room(arcs, 8)};
+    return g;
+}
+
+/* ---- measuring */
+static int repeat = 7;
+
+#define BEST(best, ...)                       \
+    do {                                      \
+        best = 1e9;                           \
+        for (int r_ = 0; r_ < repeat; r_++) { \
+            double t_ = now();                \
+            __VA_ARGS__;                      \
+            t_ = now() - t_;                  \
+            if (t_ < best) best = t_;         \
+        }                                     \
+    } while (0)
+
+static void row(const char *input, const char *stage, double engine, double plain) {
+    printf("| %-28s | %-22s | %10.3f | %10.3f | %6.2f |\n", input, stage, engine * 1e3, plain * 1e3, engine / plain);
+}
+
+static void same(const void *a, const void *b, size_t bytes, const char *what) {
+    if (memcmp(a, b, bytes) != 0) {
+        printf("the engines differ: %s\n", what);
+        exit(1);
+    }
+}
+
+#define GRAPH(g, n, m) (g).vertices, (g).arcs, (g).ids, n, (g).out_offsets, (n) + 1, (g).out_targets, m, (g).in_offsets, (n) + 1, (g).in_sources, m
+
+static struct text claim_of(const struct graph *g, const int64_t *result) {
+    struct text t = {room(g->vertices, 48), 0};
+    for (size_t v = 0; v < g->vertices; v++) t.length += (size_t)sprintf((char *)t.bytes + t.length, "%" PRId64 " %" PRId64 "\n", g->ids[v], result[v]);
+    return t;
+}
+
+static void measure(struct lists l, int with_lcc, int with_groups, int times) {
+    size_t n = l.vertices, m = l.directed ? l.edges : 2 * l.edges;
+    struct graph g = areas(n, m), p = areas(n, m);
+    int64_t *result = room(n, 8), *right = room(n, 8), *claimed = room(n, 8);
+    size_t *a = room(n, 8), *b = room(n, 8), *c = room(n, 8), *x = room(n, 8), *y = room(n, 8), *z = room(n, 8);
+    double engine, plain, sound, bfs;
+    uint64_t said = 0;
+
+#define TIMES(...) for (int k_ = 0; k_ < times; k_++) __VA_ARGS__
+    BEST(engine, TIMES(said = trace_load((uint64_t)l.directed, l.vertex_file.bytes, l.vertex_file.length, l.edge_file.bytes, l.edge_file.length, g.ids, n, g.out_offsets,
+                                         n + 1, g.out_targets, m, g.in_offsets, n + 1, g.in_sources, m)));
+    BEST(plain, TIMES(plain_load(l.directed, l.vertex_file.bytes, l.vertex_file.length, l.edge_file.bytes, l.edge_file.length, &p)));
+    g.vertices = (size_t)(said / 10000000);
+    g.arcs = (size_t)(said % 10000000);
+    if (g.vertices != n || g.arcs != p.arcs) exit(1);
+    same(g.ids, p.ids, n * 8, "identifiers");
+    same(g.out_targets, p.out_targets, m * 8, "outward targets");
+    same(g.in_sources, p.in_sources, m * 8, "inward sources");
+    same(g.in_offsets, p.in_offsets, (n + 1) * 8, "inward offsets");
+    row(l.name, "load", engine, plain);
+
+    /* a root that is not there is refused right behind the soundness check */
+    BEST(bfs, TIMES(plain_bfs(&p, n / 2, right, x)));
+    BEST(sound, TIMES(trace_bfs(GRAPH(g, n, m), 1, result, n, a, n)));
+    row(l.name, "soundness : plain bfs", sound, bfs);
+    BEST(engine, TIMES(trace_bfs(GRAPH(g, n, m), g.ids[n / 2], result, n, a, n)));
+    same(result, right, n * 8, "depths");
+    row(l.name, "bfs core", engine - sound, bfs);
+    struct text depths = claim_of(&p, right);
+
+    BEST(plain, TIMES(plain_wcc(&p, right, x, y)));
+    BEST(engine, TIMES(trace_wcc(GRAPH(g, n, m), result, n, a, n, b, n)));
+    same(result, right, n * 8, "components");
+    row(l.name, "wcc core", engine - sound, plain);
+    struct text groups = claim_of(&p, right);
+
+    BEST(plain, TIMES(plain_cdlp(&p, 10, right, x, y, z)));
+    BEST(engine, TIMES(trace_cdlp(GRAPH(g, n, m), 10, result, n, a, n, b, n, c, n)));
+    same(result, right, n * 8, "labels");
+    row(l.name, "cdlp 10 core", engine - sound, plain);
+    struct text labels = claim_of(&p, right);
+
+#define JUDGE(kernel, parameter, claim) trace_judge(GRAPH(g, n, m), kernel, parameter, (claim).bytes, (claim).length, result, n, claimed, n, a, n, b, n, c, n)
+    uint64_t verdict = 0;
+    BEST(engine, TIMES(verdict |= JUDGE(1, g.ids[n / 2], depths)));
+    BEST(plain, TIMES({
+             plain_bfs(&p, n / 2, right, x);
+             verdict |= plain_judge(&p, right, depths.bytes, depths.length);
+         }));
+    row(l.name, "verdict bfs, no check", engine - sound, plain);
+    BEST(engine, TIMES(verdict |= JUDGE(3, 10, labels)));
+    BEST(plain, TIMES({
+             plain_cdlp(&p, 10, right, x, y, z);
+             verdict |= plain_judge(&p, right, labels.bytes, labels.length);
+         }));
+    row(l.name, "verdict cdlp, no check", engine - sound, plain);
+    if (with_groups) {
+        BEST(engine, TIMES(verdict |= JUDGE(2, 0, groups)));
+        BEST(plain, TIMES({
+                 plain_wcc(&p, right, x, y);
+                 verdict |= plain_judge_groups(&p, right, groups.bytes, groups.length, claimed);
+             }));
+        row(l.name, "verdict wcc, no check", engine - sound, plain);
+    }
+    if (with_lcc) {
+        BEST(plain, TIMES(plain_lcc(&p, x, y, z)));
+        BEST(engine, TIMES(trace_lcc(GRAPH(g, n, m), a, n, b, n, c, n)));
+        same(a, x, n * 8, "numerators");
+        same(b, y, n * 8, "denominators");
+        row(l.name, "lcc core", engine - sound, plain);
+        struct text fractions = {room(n, 48), 0};
+        for (size_t v = 0; v < n; v++)
+            fractions.length += (size_t)sprintf((char *)fractions.bytes + fractions.length, "%" PRId64 " %.12f\n", p.ids[v], (double)x[v] / (double)y[v]);
+        BEST(engine, TIMES(verdict |= JUDGE(4, 0, fractions)));
+        BEST(plain, TIMES({
+                 plain_lcc(&p, x, y, z);
+                 verdict |= plain_judge_coefficients(&p, x, y, fractions.bytes, fractions.length);
+             }));
+        row(l.name, "verdict lcc, no check", engine - sound, plain);
+        free(fractions.bytes);
+    }
+    /* a match is number 0, file 3, line 0 */
+    if (verdict != UINT64_C(300000000000000)) {
+        printf("a verdict is not a match: %" PRIu64 "\n", verdict);
+        exit(1);
+    }
+    void *all[] = {l.vertex_file.bytes, l.edge_file.bytes, g.ids, g.out_offsets, g.out_targets, g.in_offsets, g.in_sources, p.ids, p.out_offsets, p.out_targets, p.in_offsets,
+                   p.in_sources, result, right, claimed, a, b, c, x, y, z, depths.bytes, groups.bytes, labels.bytes};
+    for (size_t i = 0; i < sizeof all / sizeof *all; i++) free(all[i]);
+}
+
+static void measure_book(size_t n, size_t calls) {
+    size_t *parents = room(n, 8), *sizes = room(n, 8), *p = room(n, 8), *s = room(n, 8);
+    uint32_t *u = room(calls, 4), *v = room(calls, 4);
+    seed = 7;
+    for (size_t i = 0; i < calls; i++) {
+        u[i] = (uint32_t)(dice() % n);
+        v[i] = (uint32_t)(dice() % n);
+    }
+    double engine, plain;
+    uint64_t heads = 0, right = 0;
+    BEST(engine, {
+        trace_book_open(parents, n, sizes, n);
+        for (size_t i = 0; i < calls; i++) trace_book_join(parents, n, sizes, n, u[i], v[i]);
+    });
+    BEST(plain, {
+        plain_open(n, p, s);
+        for (size_t i = 0; i < calls; i++) plain_join(p, s, u[i], v[i]);
+    });
+    same(parents, p, n * 8, "parents");
+    same(sizes, s, n * 8, "sizes");
+    row("(e) book of 65,536", "1,000,000 joins", engine, plain);
+    BEST(engine, for (size_t i = 0; i < calls; i++) heads += trace_book_head(parents, n, sizes, n, u[i]) / 100);
+    BEST(plain, for (size_t i = 0; i < calls; i++) right += plain_head(p, u[i]));
+    if (heads != right) exit(1);
+    row("(e) book of 65,536", "1,000,000 heads", engine, plain);
+}
+
+int main(int argc, char **argv) {
+    int quick = argc > 1 && strcmp(argv[1], "quick") == 0;
+    if (quick) repeat = 3;
+    printf("| %-28s | %-22s | %10s | %10s | %6s |\n", "input", "stage", "engine ms", "plain ms", "ratio");
+    printf("|------------------------------|------------------------|-----------:|-----------:|-------:|\n");
+    for (size_t part = 1; part <= (quick ? 1u : 4u); part *= 2) {
+        char name[3][64];
+        const char *suffix = part == 1 ? "" : part == 2 ? ", halved" : ", quartered";
+        snprintf(name[0], 64, "(a) uniform%s", suffix);
+        snprintf(name[1], 64, "(b) hubs%s", suffix);
+        snprintf(name[2], 64, "(c) undirected%s", suffix);
+        measure(make(name[0], 1, 0, 65536 / part, 1000000 / part), 0, 0, 1);
+        measure(make(name[1], 1, 1, 65536 / part, 300000 / part), 0, 0, 1);
+        measure(make(name[2], 0, 0, 65536 / part, 500000 / part), 0, 0, 1);
+    }
+    measure(make("(d) desk size, 1,000 times", 1, 0, 1024, 2048), 1, 0, quick ? 100 : 1000);
+    measure(make("4,096 vertices, 16,384 edges", 1, 0, 4096, 16384), 1, 0, 10);
+    measure(make("16,384 vertices, undirected", 0, 0, 16384, 20000), 0, 1, 1);
+    measure_book(65536, 1000000);
+    return 0;
+}

@@ -1,0 +1,25 @@
+/* A plain engine of the same job, written for speed and without any check that the job does not ask for: what the proved engine is measured against. */
+#include <stddef.h>
+#include <stdint.h>
+
+struct graph {
+    size_t vertices, arcs;
+    int64_t *ids;
+    size_t *out_offsets, *out_targets, *in_offsets, *in_sources;
+};
+
+/* Reads two lists that are well formed and rise, into areas that are long enough; 0 where a line is not as it should be. */
+int plain_load(int directed, const uint8_t *vertices, size_t vertices_len, const uint8_t *edges, size_t edges_len, struct graph *g);
+void plain_bfs(const struct graph *g, size_t root, int64_t *depth, size_t *queue);
+void plain_wcc(const struct graph *g, int64_t *result, size_t *parents, size_t *sizes);
+void plain_cdlp(const struct graph *g, int rounds, int64_t *result, size_t *labels, size_t *next, size_t *counts);
+/* The same algorithm as the engine's: each member of one list is looked for in the other, one by one. */
+void plain_lcc(const struct graph *g, size_t *numerators, size_t *denominators, size_t *work);
+/* The first line of a claim that is not as the result says, 0 where there is none. */
+size_t plain_judge(const struct graph *g, const int64_t *result, const uint8_t *claim, size_t claim_len);
+size_t plain_judge_groups(const struct graph *g, const int64_t *result, const uint8_t *claim, size_t claim_len, int64_t *claimed);
+size_t plain_judge_coefficients(const struct graph *g, const size_t *numerators, const size_t *denominators, const uint8_t *claim, size_t claim_len);
+/* Union by size, without paths made shorter, as the book keeps it. */
+void plain_open(size_t n, size_t *parents, size_t *sizes);
+int plain_join(size_t *parents, size_t *sizes, size_t u, size_t v);
+size_t plain_head(const size_t *parents, size_t v);
