@@ -5,6 +5,7 @@ use mathlib.Core.Bool.{Bool, true, false, cond, _&&_}
 use lib.ListN.{length, getD, drop}
 use lib.Dec.{ltb, leb, eqb}
 use lib.IntN.{ℤ}
+use Rattle.basis.specs.Refusal.{badForm, outOfRange}
 use Rattle.text.specs.Word.{Word, malformed, outside, value, within, runLen, runVal, rangedOf, signedOf}
 use Rattle.text.specs.Decimal.{decimalOf}
 use Rattle.text.specs.Line.{LineSaid, lf, upTo, lineSays, both}
@@ -104,6 +105,12 @@ restSays at (R.Value d p) = scanned (value d) p
 -- a word and what was scanned after it
 abbrev pub beside : {A B : Type 0} → Word A → Scanned B → Scanned (A × B)
 beside x y = scanned (both x (y .said)) (y .next)
+
+-- the fault of a line whose first word is out of range, by its second word
+abbrev pub faultBeside : {A : Type 0} → Word A → ℕ
+faultBeside malformed = badForm
+faultBeside outside = outOfRange
+faultBeside (value v) = outOfRange
 
 -- the line that began at `at`, by what was scanned
 abbrev pub lineOf : {A : Type 0} → ℕ → Scanned A → LineSaid A
