@@ -133,9 +133,10 @@ module _ (s : List ℕ) (jobs : Bool) (at : ℕ) where
     past-line g =
         ap nextOf
         (line-said anyOf s at (scanned (value tt) (end + 1))
-        (record
-          { ended = λ bs r d k. record { said = refl; next = λ _. omega (arith, e, ap length (ap (upTo lf) d ∙ upTo-cut lf bs r k)) }
-          ; unended = λ k. clash (sym f ∙ g) (no-end s at lf end (omega (arith, e)) k) }))
+        (record {
+          ended = λ bs r d k. record { said = refl; next = λ _. omega (arith, e, ap length (ap (upTo lf) d ∙ upTo-cut lf bs r k)) };
+          unended = λ k. clash (sym f ∙ g) (no-end s at lf end (omega (arith, e)) k);
+        }))
         ∙ rw h
 
     pub past-open : t ≡ false → (r : Refusal) → r ≡ sheetFault s at badForm → refuses r ≡ linePast jobs s at
@@ -143,12 +144,13 @@ module _ (s : List ℕ) (jobs : Bool) (at : ℕ) where
         ap refuses k
         ∙ ap nextOf
         (line-said anyOf s at (scanned malformed at)
-        (record
-          { ended = λ bs r d k.
+        (record {
+          ended = λ bs r d k.
               let q : end ≡ at + length bs = e ∙ ap (λ l. at + length l) (ap (upTo lf) d ∙ upTo-cut lf bs r k) in
               let i : hasAt s (at + length bs) lf ≡ true = word-has s bs r at lf d (length bs) lf (omega arith) ∙ ap (λ (k : ℕ). eqb k lf) (getD-append-seam bs lf r 0) in
-              clash (ap (λ k. hasAt s k lf) q ∙ i) (sym f ∙ g)
-          ; unended = λ k. refl }))
+              clash (ap (λ k. hasAt s k lf) q ∙ i) (sym f ∙ g);
+          unended = λ k. refl;
+        }))
         ∙ rw h
 
 -- ---- past so many lines

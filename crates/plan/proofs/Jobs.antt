@@ -69,11 +69,12 @@ module _ (s : List ℕ) (at : ℕ) where
   unfolding within
   number-reads bfs w m h f =
       let reads : Reads lf identOf s (at + length w) (fieldAt s (at + length w) lf) = field-reads s (at + length w) lf refl refl in
-      record
-        { ended = λ bs r e k. ended bs r e k reads
-        ; unended = λ k.
+      record {
+        ended = λ bs r e k. ended bs r e k reads;
+        unended = λ k.
             ap (made (jobBy bfs))
-            (reads .unended (mem-right lf w (drop (at + length w) s) (rw (← drop-drop, ← begins-split w (drop at s) h) k))) }
+            (reads .unended (mem-right lf w (drop (at + length w) s) (rw (← drop-drop, ← begins-split w (drop at s) h) k)));
+      }
     where
       ended : (bs r : List ℕ) (e : drop at s ≡ bs ++ lf ∷ r) (k : mem lf bs ≡ false) → Reads lf identOf s (at + length w) (fieldAt s (at + length w) lf)
           → Ends (at + length bs + 1) (jobOf bs) (withNumber bfs (fieldAt s (at + length w) lf))
@@ -83,9 +84,10 @@ module _ (s : List ℕ) (at : ℕ) where
           let d : drop (at + length w) s ≡ drop (length w) bs ++ lf ∷ r = sym (drop-drop (length w) at s) ∙ ap (drop (length w)) e ∙ drop-append-le (length w) bs (lf ∷ r) l in
           let n : mem lf (drop (length w) bs) ≡ false = mem-right lf w (drop (length w) bs) (rw (← begins-split w bs b) k) in
           let y : Ends (at + length w + length (drop (length w) bs) + 1) (identOf (drop (length w) bs)) (fieldAt s (at + length w) lf) = reads .ended (drop (length w) bs) r d n in
-          record
-            { said = ap (made (jobBy bfs)) (y .said) ∙ sym (f bs r (e, k))
-            ; next = λ g. omega (arith, length-drop (length w) bs, y .next (sym (made-well (jobBy bfs) (identOf (drop (length w) bs))) ∙ sym (ap wellFormed (f bs r (e, k))) ∙ g)) }
+          record {
+            said = ap (made (jobBy bfs)) (y .said) ∙ sym (f bs r (e, k));
+            next = λ g. omega (arith, length-drop (length w) bs, y .next (sym (made-well (jobBy bfs) (identOf (drop (length w) bs))) ∙ sym (ap wellFormed (f bs r (e, k))) ∙ g));
+          }
 
   module _ (p : Bool) (a : p ≡ begins bfsWord (drop at s)) where
     pub job-bfs : p ≡ true → (x : JobLine) → jobSays x ≡ numberedAt s at (at + 4) true → jobSays x ≡ jobLine s at

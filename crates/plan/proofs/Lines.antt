@@ -63,15 +63,17 @@ module _ {A : Type 0} (word : List ℕ → Word A) (s : List ℕ) (at : ℕ) whe
   pub word-reads : (w : List ℕ) (v : A) (next : ℕ) → mem lf w ≡ false → begins (w ++ (lf ∷ [])) (drop at s) ≡ true → next ≡ at + length w + 1
       → ((bs r : List ℕ) → Line s at bs r → word bs ≡ value v) → Reads lf word s at (scanned (value v) next)
   word-reads w v next m h n f =
-      record
-        { ended = λ bs r e k.
+      record {
+        ended = λ bs r e k.
             let q : bs ≡ w = is-word w bs (sym (begins-word lf w bs r m k) ∙ rw e at h) in
-            record { said = sym (f bs r (e, k)); next = λ _. omega (arith, n, ap length q) }
-        ; unended = λ k. clash (begins-ended lf w (drop at s) h) k }
+            record { said = sym (f bs r (e, k)); next = λ _. omega (arith, n, ap length q) };
+        unended = λ k. clash (begins-ended lf w (drop at s) h) k;
+      }
 
   -- a line that is malformed
   pub none-reads : (next : ℕ) → ((bs r : List ℕ) → Line s at bs r → word bs ≡ malformed) → Reads lf word s at (scanned malformed next)
   none-reads next f =
-      record
-        { ended = λ bs r e k. record { said = sym (f bs r (e, k)); next = λ g. clash (rw (f bs r (e, k)) at g) refl }
-        ; unended = λ k. refl }
+      record {
+        ended = λ bs r e k. record { said = sym (f bs r (e, k)); next = λ g. clash (rw (f bs r (e, k)) at g) refl };
+        unended = λ k. refl;
+      }

@@ -68,6 +68,7 @@ lines-in jobs (suc k) s place h = by (λ next g. lines-in jobs k s next g) (line
     after : (next : ℕ) → Moved s place next → (x : Said ℕ) → Gives (Within s next) x → Gives (Within s place) x
     after next m (gives to) w = record { rise = omega (arith, m .forward, w .rise); inside = w .inside }
     after next m (refuses r) w = tt
+
     by : ((next : ℕ) → next ≤ length s → Gives (Within s next) (linesPast jobs k s next)) → (x : Said ℕ) → linePast jobs s place ≡ x → Gives (Moved s place) x → Gives (Within s place) (linesPast jobs (suc k) s place)
     by ih (gives next) e m = rw (linesPast, e) (after next m (linesPast jobs k s next) (ih next (m .inside)))
     by ih (refuses r) e m = rw (linesPast, e) tt
