@@ -1,0 +1,96 @@
+use Rattle.sheet.proofs.jobs.run_jobs.Statement.{statement}
+use Rattle.sheet.proofs.jobs.run_jobs.Tie as tie
+use Rattle.sheet.proofs.jobs.run_jobs.Reads as reads
+use Rattle.sheet.proofs.jobs.run_jobs.Lts as lts
+use Rattle.plan.proofs.job.read_job.Reads as read-job-reads
+use Rattle.sheet.proofs.jobs.run_job.Reads as run-job-reads
+
+abbrev Inv-loop : tie.InvT-loop
+Inv-loop size ids out-offsets out-targets in-offsets in-sources s count from out₀ at next₀ place₀ left₀ out next place left =
+    ?
+
+abbrev μ-loop : tie.MeasureT-loop
+μ-loop size ids out-offsets out-targets in-offsets in-sources s count from out₀ at next₀ place₀ left₀ out next place left =
+    ?
+
+-- src/jobs.rt:282:5
+loop-holds : tie.Need-loop-holds Inv-loop μ-loop
+loop-holds c = ?
+
+-- src/jobs.rt:283:13
+read-job-requires : tie.Need-read-job-requires Inv-loop μ-loop
+read-job-requires c κs = ?
+
+-- src/jobs.rt:286:17
+enum-told : tie.Need-enum-told Inv-loop μ-loop
+enum-told c = ?
+
+-- src/jobs.rt:286:17
+same-length : tie.Need-same-length Inv-loop μ-loop
+same-length c = ?
+
+-- src/jobs.rt:286:17
+returns : tie.Need-returns Inv-loop μ-loop
+returns c = ?
+
+-- src/jobs.rt:288:27
+enum-known-x : tie.Need-enum-known-x Inv-loop μ-loop
+enum-known-x c = ?
+
+-- src/jobs.rt:297:21
+sub-run-job : tie.Need-sub-run-job Inv-loop μ-loop
+sub-run-job c = ?
+
+-- src/jobs.rt:297:21
+part-run-job-start : tie.Need-part-run-job-start Inv-loop μ-loop
+part-run-job-start c = ?
+
+-- src/jobs.rt:297:21
+part-run-job-end : tie.Need-part-run-job-end Inv-loop μ-loop
+part-run-job-end c = ?
+
+-- src/jobs.rt:289:17
+run-job-requires : tie.Need-run-job-requires Inv-loop μ-loop
+run-job-requires c κs = ?
+
+-- src/jobs.rt:302:17
+sub-left : tie.Need-sub-left Inv-loop μ-loop
+sub-left c = ?
+
+-- src/jobs.rt:282:5
+loop-less : tie.Need-loop-less Inv-loop μ-loop
+loop-less c = ?
+
+-- src/jobs.rt:282:5
+loop-again : tie.Need-loop-again Inv-loop μ-loop
+loop-again c = ?
+
+-- src/jobs.rt:264:1
+same-length-2 : tie.Need-same-length-2 Inv-loop μ-loop
+same-length-2 c = ?
+
+-- src/jobs.rt:264:1
+returns-2 : tie.Need-returns-2 Inv-loop μ-loop
+returns-2 c = ?
+
+pub run-jobs-spec : {M : Type 1} → statement M
+run-jobs-spec =
+    tie.close
+    (tie.spec
+    Inv-loop
+    μ-loop
+    loop-holds
+    read-job-requires
+    enum-told
+    same-length
+    returns
+    enum-known-x
+    sub-run-job
+    part-run-job-start
+    part-run-job-end
+    run-job-requires
+    sub-left
+    loop-less
+    loop-again
+    same-length-2
+    returns-2)

@@ -1,0 +1,2 @@
+-- What the desk program prints, in reading order.
+pub mod Jobs
