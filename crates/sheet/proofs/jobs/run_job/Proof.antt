@@ -1,3 +1,4 @@
+use Rattle.sheet.proofs.Ran.{job-bfs, job-wcc, job-cdlp, job-lcc}
 use borrow.Author.Needs.{needs}
 use Rattle.sheet.proofs.jobs.run_job.Statement.{statement}
 use Rattle.sheet.proofs.jobs.run_job.Tie as tie
@@ -46,7 +47,7 @@ same-length c = search needs
 
 -- src/jobs.rt:199:1
 returns : tie.Need-returns
-returns c = ?
+returns c = search (job-bfs, needs)
 
 -- src/jobs.rt:199:1
 same-length-2 : tie.Need-same-length-2
@@ -54,7 +55,7 @@ same-length-2 c = search needs
 
 -- src/jobs.rt:199:1
 returns-2 : tie.Need-returns-2
-returns-2 c = ?
+returns-2 c = search job-wcc
 
 -- src/jobs.rt:199:1
 same-length-3 : tie.Need-same-length-3
@@ -62,7 +63,7 @@ same-length-3 c = search needs
 
 -- src/jobs.rt:199:1
 returns-3 : tie.Need-returns-3
-returns-3 c = ?
+returns-3 c = search (job-cdlp, needs)
 
 -- src/jobs.rt:199:1
 same-length-4 : tie.Need-same-length-4
@@ -70,7 +71,7 @@ same-length-4 c = search needs
 
 -- src/jobs.rt:199:1
 returns-4 : tie.Need-returns-4
-returns-4 c = ?
+returns-4 c = search job-lcc
 
 pub run-job-spec : {M : Type 1} → statement M
 run-job-spec =
