@@ -1,0 +1,1 @@
+-- What the contracts of a load cite, in reading order.

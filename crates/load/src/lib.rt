@@ -1,0 +1,2 @@
+// A graph from the bytes of its vertex file and its edge file.
+mod spread;

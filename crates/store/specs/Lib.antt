@@ -1,0 +1,3 @@
+-- What the contracts of a load's storing half cite.
+pub mod Held
+pub mod Steps
