@@ -2,3 +2,5 @@
 pub mod Columns
 pub mod Arcs
 pub mod Passes
+pub mod Edges
+pub mod Sums
