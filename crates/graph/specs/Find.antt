@@ -1,8 +1,11 @@
 -- Where an identifier stands in a list.
-use Prim.Native.Nat.{ℕ, _+_}
+use Prim.Native.Nat.{ℕ, zero, suc, _+_, _-_, _/_}
 use mathlib.Core.Bool.{Bool, true, false}
 use mathlib.Core.List.{List, [], _∷_}
-use lib.IntN.{ℤ}
+use lib.IntN.{ℤ, pos}
+use lib.ListN.{length, getD}
+use lib.Dec.{ltb}
+use lib.Signed.{ltZ}
 use Rattle.basis.specs.Order.{sameZ}
 use Rattle.graph.specs.declared.find.Found.{Found}
 use Rattle.graph.specs.declared.find.Found.the-variants.{At, Missing}
@@ -15,3 +18,26 @@ placeFrom i (x ∷ l) id = elim (sameZ x id) [ true ↦ At i | false ↦ placeFr
 -- "Vertices are numbered 0 to n-1 in file order": the vertex number of an identifier
 abbrev pub placeIn : List ℤ → ℤ → Found
 placeIn l id = placeFrom 0 l id
+
+-- a bisection for x of the places from low up to high, of at most so many turns: the middle, or the half that is left of it
+module _ {A : Type 0} (less : A → A → Bool) (z : A) (l : List A) (x : A) where
+  unfoldable pub bisect : ℕ → ℕ → ℕ → Found
+  bisect zero low high = Missing
+  bisect (suc turns) low high =
+      let middle = low + (high - low) / 2 in
+      elim (ltb low high) [
+        | true ↦
+            elim (less (getD l middle z) x) [
+              | true ↦ bisect turns (middle + 1) high
+              | false ↦ elim (less x (getD l middle z)) [ true ↦ bisect turns low middle | false ↦ At middle ]
+            ]
+        | false ↦ Missing
+      ]
+
+  -- the bisection of the whole list; in a list that rises it finds x where it stands (`find-rising`)
+  abbrev pub bisectBy : Found
+  bisectBy = bisect (length l) 0 (length l)
+
+-- the place of an identifier by bisection, whatever the list: in one that rises it is `placeIn` (`find-rising`)
+abbrev pub bisected : List ℤ → ℤ → Found
+bisected l id = bisectBy ltZ (pos 0) l id

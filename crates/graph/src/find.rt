@@ -1,7 +1,31 @@
 // Where an identifier stands.
+ghost use mathlib.Core.Path.{_≡_};
+ghost use Rattle.graph.specs.Find.{bisected};
 
 // The place of an identifier in a list, or that it isn't there.
 pub enum Found {
     At(usize),
     Missing,
+}
+
+// The place of an identifier in a list that rises; in any other list, where a bisection ends.
+pub fn find(ids: &[i64], id: i64) -> Found
+    ensures { λ r. ⌜ r ≡ bisected (now (ids .entry)) id ⌝ }
+{
+    let mut low = 0;
+    let mut high = ids.len();
+    while low < high {
+        let middle = low + (high - low) / 2;
+        let there = ids[middle];
+        if there < id {
+            low = middle + 1;
+        } else {
+            if id < there {
+                high = middle;
+            } else {
+                return Found::At(middle);
+            }
+        }
+    }
+    Found::Missing
 }
