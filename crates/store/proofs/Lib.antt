@@ -4,3 +4,6 @@ pub mod Arcs
 pub mod Passes
 pub mod Edges
 pub mod Sums
+pub mod Order
+pub mod Built
+pub mod Meaning
