@@ -1,2 +1,10 @@
 // A graph from the bytes of its vertex file and its edge file.
 mod spread;
+use basis::Refusal;
+use graph::Size;
+
+// A load answers how large the graph is that stands in the areas, or why it was refused.
+pub enum Loaded {
+    Graph(Size),
+    Refused(Refusal),
+}
