@@ -1,0 +1,7 @@
+-- Laws of the text layer.
+pub mod Bytes
+pub mod Runs
+pub mod Scans
+pub mod Decimals
+pub mod Words
+pub mod Lines

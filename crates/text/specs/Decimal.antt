@@ -1,0 +1,78 @@
+-- 01 "Claims and verdicts": "a plain or scientific decimal: `0` or digits without a leading zero, optionally `.` and at least one digit,
+-- optionally `e`, a sign and two digits. It has no minus before it". 46 is `.`, 101 `e`, 43 `+`, 45 `-`.
+use Prim.Native.Nat.{ℕ, suc, _+_, _-_, _*_}
+use mathlib.Core.List.{List, [], _∷_}
+use mathlib.Core.Bool.{Bool, true, false, cond, _&&_, _||_}
+use lib.ListN.{length, getD, drop}
+use lib.Dec.{ltb, leb, eqb}
+use Rattle.text.specs.Word.{Word, malformed, outside, value, isDigit, runLen, runVal}
+use Rattle.text.specs.declared.decimal.Decimal.{Decimal}
+use Rattle.text.specs.declared.decimal.DecimalWord.{DecimalWord}
+use Rattle.text.specs.declared.decimal.DecimalWord.the-variants as DW
+use Rattle.text.specs.declared.decimal.Power.{Power}
+use Rattle.text.specs.declared.decimal.Power.the-variants as P
+
+-- "at most 15 digits before any `e`"
+abbrev pub digitLimit : ℕ
+digitLimit = 15
+
+-- a decimal is digits * 10^up / 10^down
+abbrev pub decimal : ℕ → ℕ → ℕ → Decimal
+decimal digits up down = record { digits = digits; up = up; down = down }
+
+-- what a digit is worth; 0 of any other byte
+unfoldable pub digitOf : ℕ → ℕ
+digitOf b = cond (isDigit b) (b - 48) 0
+
+-- the power of ten that is written after the digits
+pub data Exponent : Type 0 where
+  up down : ℕ → Exponent
+  wrong : Exponent
+
+-- where the digits after the point start; the place itself where there is no point
+unfoldable pub pastPoint : List ℕ → ℕ → ℕ
+pastPoint s at = cond (eqb (getD s at 0) 46) (at + 1) at
+
+-- "`0` or digits without a leading zero": of the w digits before the point, which are one at least
+unfoldable pub wholeIsGood : List ℕ → ℕ → Bool
+wholeIsGood s w = eqb w 1 || (ltb 1 w && ltb 48 (getD s 0 0))
+
+-- a power by its sign
+unfoldable pub signedPower : ℕ → ℕ → Exponent
+signedPower g k = cond (eqb g 43) (up k) (cond (eqb g 45) (down k) wrong)
+
+-- "optionally `e`, a sign and two digits": nothing or just that, up to the end
+unfoldable pub powerAt : List ℕ → ℕ → Exponent
+powerAt s at =
+    cond (eqb (length s) at) (up 0)
+    (cond (eqb (length s) (at + 4) && (eqb (getD s at 0) 101 && (isDigit (getD s (at + 2) 0) && isDigit (getD s (at + 3) 0))))
+    (signedPower (getD s (at + 1) 0) (digitOf (getD s (at + 2) 0) * 10 + digitOf (getD s (at + 3) 0)))
+    wrong)
+
+-- a number with f digits after the point, and its power
+abbrev pub scaled : ℕ → ℕ → Exponent → Word Decimal
+scaled n f (up k) = value (decimal n k f)
+scaled n f (down k) = value (decimal n 0 (f + k))
+scaled n f wrong = malformed
+
+-- w digits before the point; from p to q the digits after it, one at least if there is a point; all of them make the number n
+unfoldable pub partsOf : List ℕ → ℕ → ℕ → ℕ → ℕ → Word Decimal
+partsOf s w p n q =
+    cond (wholeIsGood s w && (leb p (w + (q - p)) && leb (w + (q - p)) digitLimit)) (scaled n (q - p) (powerAt s q)) malformed
+
+-- the decimal of a whole word: the digits at its front, a point or none, the digits at the front of what follows
+unfoldable pub fractionOf : List ℕ → ℕ → ℕ → Word Decimal
+fractionOf s w p = partsOf s w p (runVal (runVal 0 s) (drop p s)) (p + runLen (drop p s))
+
+unfoldable pub decimalOf : List ℕ → Word Decimal
+decimalOf s = fractionOf s (runLen s) (pastPoint s (runLen s))
+
+-- what the code's answers say
+abbrev pub powerSays : Power → Exponent
+powerSays (P.Up k) = up k
+powerSays (P.Down k) = down k
+powerSays P.Wrong = wrong
+
+abbrev pub decimalSays : DecimalWord → Word Decimal
+decimalSays DW.Bad = malformed
+decimalSays (DW.Value d) = value d

@@ -1,0 +1,97 @@
+-- 01 "Lists", "Claims and verdicts": the lines of a file, on the bytes from a place on.
+use Prim.Native.Nat.{ℕ, _+_}
+use mathlib.Core.List.{List, [], _∷_}
+use mathlib.Core.Bool.{Bool, true, false, cond}
+use lib.ListN.{length, drop}
+use lib.Dec.{leb, eqb}
+use lib.IntN.{ℤ}
+use Rattle.basis.specs.Refusal.{badForm, outOfRange}
+use Rattle.basis.specs.Scan.{mem}
+use Rattle.text.specs.Word.{Word, malformed, outside, value, identOf}
+use Rattle.text.specs.Decimal.{decimalOf}
+use Rattle.text.specs.declared.decimal.Decimal.{Decimal}
+use Rattle.text.specs.declared.line.VertexLine.{VertexLine}
+use Rattle.text.specs.declared.line.VertexLine.the-variants as VL
+use Rattle.text.specs.declared.line.EdgeLine.{EdgeLine}
+use Rattle.text.specs.declared.line.EdgeLine.the-variants as EL
+use Rattle.text.specs.declared.line.CoefficientLine.{CoefficientLine}
+use Rattle.text.specs.declared.line.CoefficientLine.the-variants as CL
+
+-- what a reader says: a line's values and the place past it; "no line is left"; a refusal's number. "then, and with a fault, the place comes back as it went in"
+pub data LineSaid (A : Type 0) : Type 0 where
+  line : A → ℕ → LineSaid A
+  none : ℕ → LineSaid A
+  fault : ℕ → ℕ → LineSaid A
+
+abbrev pub lf : ℕ
+lf = 10
+
+abbrev pub space : ℕ
+space = 32
+
+-- the bytes before the first c, and those after it
+abbrev pub upTo : ℕ → List ℕ → List ℕ
+upTo c [] = []
+upTo c (b ∷ l) = elim (eqb c b) [ true ↦ [] | false ↦ b ∷ upTo c l ]
+
+abbrev pub past : ℕ → List ℕ → List ℕ
+past c [] = []
+past c (b ∷ l) = elim (eqb c b) [ true ↦ l | false ↦ past c l ]
+
+-- a line that began at `at` and ends before `next`, by what its bytes say
+abbrev pub lineSays : {A : Type 0} → ℕ → ℕ → Word A → LineSaid A
+lineSays at next malformed = fault badForm at
+lineSays at next outside = fault outOfRange at
+lineSays at next (value v) = line v next
+
+-- "A line is ended by one LF; a last line without LF is refused 2": what the bytes of the line at a place say as a word
+unfoldable pub lineBy : {A : Type 0} → (List ℕ → Word A) → List ℕ → ℕ → LineSaid A
+lineBy word s at =
+    cond (leb (length s) at) (none at)
+    (cond (mem lf (drop at s)) (lineSays at (at + length (upTo lf (drop at s)) + 1) (word (upTo lf (drop at s)))) (fault badForm at))
+
+-- "A fault of form anywhere in a line comes before a fault of range."
+abbrev pub both : {A B : Type 0} → Word A → Word B → Word (A × B)
+both malformed y = malformed
+both outside malformed = malformed
+both outside outside = outside
+both outside (value b) = outside
+both (value a) malformed = malformed
+both (value a) outside = outside
+both (value a) (value b) = value (a, b)
+
+-- two words with one space between
+unfoldable pub twoOf : {A B : Type 0} → (List ℕ → Word A) → (List ℕ → Word B) → List ℕ → Word (A × B)
+twoOf first second bs = cond (mem space bs) (both (first (upTo space bs)) (second (past space bs))) malformed
+
+-- "A vertex line is one identifier."
+abbrev pub vertexLine : List ℕ → ℕ → LineSaid ℤ
+vertexLine s at = lineBy identOf s at
+
+-- "An edge line is two with one space between."
+abbrev pub edgeLine : List ℕ → ℕ → LineSaid (ℤ × ℤ)
+edgeLine s at = lineBy (twoOf identOf identOf) s at
+
+-- "identifier, one space, value. For BFS, WCC and CDLP the value is in identifier form."
+abbrev pub claimLine : List ℕ → ℕ → LineSaid (ℤ × ℤ)
+claimLine s at = edgeLine s at
+
+-- "For LCC it is a plain or scientific decimal"
+abbrev pub coefficientLine : List ℕ → ℕ → LineSaid (ℤ × Decimal)
+coefficientLine s at = lineBy (twoOf identOf decimalOf) s at
+
+-- "a definition that gives this paper's number and values for each of its cases"
+abbrev pub vertexSays : VertexLine → LineSaid ℤ
+vertexSays (VL.End k) = none (k .at)
+vertexSays (VL.Fault n k) = fault n (k .at)
+vertexSays (VL.Line z k) = line z (k .at)
+
+abbrev pub edgeSays : EdgeLine → LineSaid (ℤ × ℤ)
+edgeSays (EL.End k) = none (k .at)
+edgeSays (EL.Fault n k) = fault n (k .at)
+edgeSays (EL.Line u v k) = line (u, v) (k .at)
+
+abbrev pub coefficientSays : CoefficientLine → LineSaid (ℤ × Decimal)
+coefficientSays (CL.End k) = none (k .at)
+coefficientSays (CL.Fault n k) = fault n (k .at)
+coefficientSays (CL.Line u d k) = line (u, d) (k .at)

@@ -1,0 +1,110 @@
+-- What the code scans from a place on, without knowing where the word ends. Past the end of a file `getD s at 0` is 0, which begins and continues nothing.
+use Prim.Native.Nat.{ℕ, _+_, _-_, _^_, min}
+use mathlib.Core.List.{List, [], _∷_}
+use mathlib.Core.Bool.{Bool, true, false, cond, _&&_}
+use lib.ListN.{length, getD, drop}
+use lib.Dec.{ltb, leb, eqb}
+use lib.IntN.{ℤ}
+use Rattle.text.specs.Word.{Word, malformed, outside, value, within, runLen, runVal, rangedOf, signedOf}
+use Rattle.text.specs.Decimal.{decimalOf}
+use Rattle.text.specs.Line.{LineSaid, lf, upTo, lineSays, both}
+use Rattle.text.specs.declared.count.Run.{Run}
+use Rattle.text.specs.declared.count.Counted.{Counted}
+use Rattle.text.specs.declared.count.Counted.the-variants as C
+use Rattle.text.specs.declared.ident.Scan.{Scan}
+use Rattle.text.specs.declared.ident.Scan.the-variants as S
+use Rattle.text.specs.declared.decimal.Decimal.{Decimal}
+use Rattle.text.specs.declared.line.Rest.{Rest}
+use Rattle.text.specs.declared.line.Rest.the-variants as R
+
+-- what was scanned: where it is well formed, with the place of the first byte after it; else with that of the first byte at which it can't go on
+pub record Scanned (A : Type 0) : Type 0 where
+  pub said : Word A
+  pub next : ℕ
+
+abbrev pub scanned : {A : Type 0} → Word A → ℕ → Scanned A
+scanned said next = record { said = said; next = next }
+
+abbrev pub wellFormed : {A : Type 0} → Word A → Bool
+wellFormed malformed = false
+wellFormed outside = true
+wellFormed (value v) = true
+
+-- the byte c stands at p
+unfoldable pub hasAt : List ℕ → ℕ → ℕ → Bool
+hasAt s p c = ltb p (length s) && eqb (getD s p 0) c
+
+-- what the code carries of a number: itself, or 2^63 + 1 where it is larger
+abbrev pub capped : ℕ → ℕ
+capped n = min n 9223372036854775809
+
+-- the digits at a place, written after those of n
+unfoldable pub runAt : List ℕ → ℕ → ℕ → Run
+runAt s at n = record { n = capped (runVal n (drop at s)); next = at + runLen (drop at s) }
+
+-- a count
+unfoldable pub countAt : List ℕ → ℕ → Scanned ℕ
+countAt s at =
+    cond (hasAt s at 48) (scanned (value 0) (at + 1))
+    (cond (within 49 57 (getD s at 0)) (scanned (value (runVal 0 (drop at s))) (at + runLen (drop at s))) (scanned malformed at))
+
+-- a count, cut down
+abbrev pub cutWord : Word ℕ → Word ℕ
+cutWord malformed = malformed
+cutWord outside = outside
+cutWord (value n) = value (capped n)
+
+abbrev pub saturated : Scanned ℕ → Scanned ℕ
+saturated x = scanned (cutWord (x .said)) (x .next)
+
+abbrev pub countSays : Counted → Scanned ℕ
+countSays (C.Bad p) = scanned malformed p
+countSays (C.Value n p) = scanned (value n) p
+
+-- an identifier
+abbrev pub rangedAt : Bool → ℕ → ℕ → Scanned ℤ
+rangedAt negative n next = scanned (rangedOf negative n) next
+
+abbrev pub signedAt : Bool → Scanned ℕ → Scanned ℤ
+signedAt negative x = scanned (signedOf negative (x .said)) (x .next)
+
+unfoldable pub identAt : List ℕ → ℕ → Scanned ℤ
+identAt s at =
+    cond (hasAt s at 45)
+    (cond (hasAt s (at + 1) 48) (scanned malformed (at + 1)) (signedAt true (countAt s (at + 1))))
+    (signedAt false (countAt s at))
+
+-- what was scanned, if the byte c follows it: then the place is moved past c
+abbrev pub closed : {A : Type 0} → List ℕ → ℕ → Scanned A → Scanned A
+closed s c x =
+    cond (wellFormed (x .said)) (cond (hasAt s (x .next) c) (scanned (x .said) (x .next + 1)) (scanned malformed (x .next))) x
+
+unfoldable pub fieldAt : List ℕ → ℕ → ℕ → Scanned ℤ
+fieldAt s at c = closed s c (identAt s at)
+
+abbrev pub scanSays : Scan → Scanned ℤ
+scanSays (S.Bad p) = scanned malformed p
+scanSays (S.Outside p) = scanned outside p
+scanSays (S.Value z p) = scanned (value z) p
+
+-- the decimal from a place to the end of its line; where it is malformed, the place where it starts
+abbrev pub endAt : List ℕ → ℕ → ℕ
+endAt s at = at + length (upTo lf (drop at s))
+
+abbrev pub restWord : List ℕ → ℕ → Word Decimal
+restWord s at = cond (hasAt s (endAt s at) lf) (decimalOf (upTo lf (drop at s))) malformed
+
+unfoldable pub restAt : List ℕ → ℕ → Scanned Decimal
+restAt s at = scanned (restWord s at) (cond (wellFormed (restWord s at)) (endAt s at + 1) at)
+
+abbrev pub restSays : ℕ → Rest → Scanned Decimal
+restSays at R.Bad = scanned malformed at
+restSays at (R.Value d p) = scanned (value d) p
+
+-- a word and what was scanned after it
+abbrev pub beside : {A B : Type 0} → Word A → Scanned B → Scanned (A × B)
+beside x y = scanned (both x (y .said)) (y .next)
+
+-- the line that began at `at`, by what was scanned
+abbrev pub lineOf : {A : Type 0} → ℕ → Scanned A → LineSaid A
+lineOf at x = lineSays at (x .next) (x .said)

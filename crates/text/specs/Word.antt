@@ -1,0 +1,65 @@
+-- 01 "Lists": what a word, the bytes of a whole field, says. Bytes are numbers: 48 to 57 are the digits, 45 is `-`.
+use Prim.Native.Nat.{ℕ, zero, suc, _+_, _-_, _*_, _^_}
+use mathlib.Core.List.{List, [], _∷_}
+use mathlib.Core.Bool.{Bool, true, false, cond, _&&_}
+use lib.Dec.{leb, eqb}
+use lib.IntN.{ℤ, pos, negℤ}
+use Rattle.basis.specs.Scan.{each}
+
+-- a word has the wrong form (2), is a well-formed number that is out of range (3), or has a value
+pub data Word (A : Type 0) : Type 0 where
+  malformed outside : Word A
+  value : A → Word A
+
+-- b is lo to hi
+unfoldable pub within : ℕ → ℕ → ℕ → Bool
+within lo hi b = leb lo b && leb b hi
+
+abbrev pub isDigit : ℕ → Bool
+isDigit b = within 48 57 b
+
+-- a number with one digit more
+abbrev pub stepped : ℕ → ℕ → ℕ
+stepped n b = n * 10 + (b - 48)
+
+-- how many digits stand at the front
+abbrev pub runLen : List ℕ → ℕ
+runLen [] = 0
+runLen (b ∷ bs) = elim (isDigit b) [ true ↦ 1 + runLen bs | false ↦ 0 ]
+
+-- the number that the digits at the front make, written after those of n
+abbrev pub runVal : ℕ → List ℕ → ℕ
+runVal n [] = n
+runVal n (b ∷ bs) = elim (isDigit b) [ true ↦ runVal (stepped n b) bs | false ↦ n ]
+
+-- "A count is `0`, or a digit 1 to 9 and more digits."
+abbrev pub zeroOf : List ℕ → Word ℕ
+zeroOf [] = value 0
+zeroOf (b ∷ bs) = malformed
+
+abbrev pub countOf : List ℕ → Word ℕ
+countOf [] = malformed
+countOf (b ∷ bs) = cond (eqb b 48) (zeroOf bs) (cond (within 49 57 b && each isDigit bs) (value (runVal 0 (b ∷ bs))) malformed)
+
+abbrev pub minusOf : ℕ → ℤ
+minusOf n = negℤ (pos n)
+
+-- "a well-formed number is outside -2^63 to 2^63-1": the number n, or -n
+abbrev pub rangedOf : Bool → ℕ → Word ℤ
+rangedOf true n = cond (leb n (2 ^ 63)) (value (minusOf n)) outside
+rangedOf false n = cond (leb n (2 ^ 63 - 1)) (value (pos n)) outside
+
+abbrev pub signedOf : Bool → Word ℕ → Word ℤ
+signedOf negative malformed = malformed
+signedOf negative outside = outside
+signedOf negative (value n) = rangedOf negative n
+
+-- after a `-`: "a digit 1 to 9 and more digits"; "`-0` [is] malformed"
+abbrev pub afterMinus : List ℕ → Word ℤ
+afterMinus [] = malformed
+afterMinus (b ∷ bs) = cond (eqb b 48) malformed (signedOf true (countOf (b ∷ bs)))
+
+-- "An identifier is `0`, or an optional `-`, a digit 1 to 9 and more digits."
+abbrev pub identOf : List ℕ → Word ℤ
+identOf [] = malformed
+identOf (b ∷ bs) = cond (eqb b 45) (afterMinus bs) (signedOf false (countOf (b ∷ bs)))

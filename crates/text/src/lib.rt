@@ -1,0 +1,7 @@
+// The reading half of the text layer: counts, identifiers, decimals, and the lines that are made of them.
+pub mod count;
+pub mod decimal;
+pub mod ident;
+pub mod line;
+
+pub use line::Cursor;

@@ -1,0 +1,158 @@
+// The lines of vertex, edge and claim files, read over a cursor.
+use crate::count::LF;
+use crate::count::SPACE;
+use crate::count::has;
+use crate::count::line_end;
+use crate::decimal::Decimal;
+use crate::decimal::DecimalWord;
+use crate::decimal::decimal_of;
+use crate::ident::Scan;
+use crate::ident::field;
+use basis::refusal::BAD_FORM;
+use basis::refusal::OUT_OF_RANGE;
+ghost use mathlib.Core.Path.{_≡_};
+ghost use Rattle.text.specs.Word.{outside, value};
+ghost use Rattle.text.specs.Line.{vertexLine, edgeLine, claimLine, coefficientLine, vertexSays, edgeSays, coefficientSays};
+ghost use Rattle.text.specs.Scan.{scanSays, restAt, restSays, beside, lineOf};
+
+// A reader's place in a file.
+pub struct Cursor {
+    pub at: usize,
+}
+
+// A line with the cursor past it; no line left, or a fault, with the cursor as it went in.
+pub enum VertexLine {
+    End(Cursor),
+    Fault(usize, Cursor),
+    Line(i64, Cursor),
+}
+
+// The line of an edge, and of a claim whose value is in identifier form.
+pub enum EdgeLine {
+    End(Cursor),
+    Fault(usize, Cursor),
+    Line(i64, i64, Cursor),
+}
+
+pub enum CoefficientLine {
+    End(Cursor),
+    Fault(usize, Cursor),
+    Line(i64, Decimal, Cursor),
+}
+
+// The decimal from a place to the end of its line, and the place past that line; or that there is none.
+enum Rest {
+    Bad,
+    Value(Decimal, usize),
+}
+
+fn decimal_rest(s: &[u8], at: usize) -> Rest
+    ensures { λ r. ⌜ restSays at r ≡ restAt (now (s .entry)) at ⌝ }
+{
+    let end = line_end(s, at);
+    if !has(s, end, LF) {
+        return Rest::Bad;
+    }
+    let x = decimal_of(&s[at..end]);
+    match x {
+        DecimalWord::Bad => Rest::Bad,
+        DecimalWord::Value(d) => Rest::Value(d, end + 1),
+    }
+}
+
+// An edge line that began at the cursor, of its first number and its second field.
+fn edge_of(c: Cursor, u: i64, second: Scan) -> EdgeLine
+    ensures { λ r. ⌜ edgeSays r ≡ lineOf (c .at) (beside (value u) (scanSays second)) ⌝ }
+{
+    match second {
+        Scan::Bad(_) => EdgeLine::Fault(BAD_FORM, c),
+        Scan::Outside(_) => EdgeLine::Fault(OUT_OF_RANGE, c),
+        Scan::Value(v, next) => EdgeLine::Line(u, v, Cursor { at: next }),
+    }
+}
+
+// The same where the first number is out of range: a fault of form still comes before it.
+fn edge_outside(c: Cursor, second: Scan) -> EdgeLine
+    ensures { λ r. ⌜ edgeSays r ≡ lineOf (c .at) (beside outside (scanSays second)) ⌝ }
+{
+    match second {
+        Scan::Bad(_) => EdgeLine::Fault(BAD_FORM, c),
+        Scan::Outside(_) => EdgeLine::Fault(OUT_OF_RANGE, c),
+        Scan::Value(_, _) => EdgeLine::Fault(OUT_OF_RANGE, c),
+    }
+}
+
+fn coefficient_of(c: Cursor, u: i64, from: usize, second: Rest) -> CoefficientLine
+    ensures { λ r. ⌜ coefficientSays r ≡ lineOf (c .at) (beside (value u) (restSays from second)) ⌝ }
+{
+    match second {
+        Rest::Bad => CoefficientLine::Fault(BAD_FORM, c),
+        Rest::Value(d, next) => CoefficientLine::Line(u, d, Cursor { at: next }),
+    }
+}
+
+fn coefficient_outside(c: Cursor, from: usize, second: Rest) -> CoefficientLine
+    ensures { λ r. ⌜ coefficientSays r ≡ lineOf (c .at) (beside outside (restSays from second)) ⌝ }
+{
+    match second {
+        Rest::Bad => CoefficientLine::Fault(BAD_FORM, c),
+        Rest::Value(_, _) => CoefficientLine::Fault(OUT_OF_RANGE, c),
+    }
+}
+
+impl Cursor {
+    // The vertex line at this place.
+    pub fn vertex(self, s: &[u8]) -> VertexLine
+        ensures { λ r. ⌜ vertexSays r ≡ vertexLine (now (s .entry)) (self .at) ⌝ }
+    {
+        let at = self.at;
+        if s.len() <= at {
+            return VertexLine::End(self);
+        }
+        let x = field(s, at, LF);
+        match x {
+            Scan::Bad(_) => VertexLine::Fault(BAD_FORM, self),
+            Scan::Outside(_) => VertexLine::Fault(OUT_OF_RANGE, self),
+            Scan::Value(z, next) => VertexLine::Line(z, Cursor { at: next }),
+        }
+    }
+
+    // The edge line at this place.
+    pub fn edge(self, s: &[u8]) -> EdgeLine
+        ensures { λ r. ⌜ edgeSays r ≡ edgeLine (now (s .entry)) (self .at) ⌝ }
+    {
+        let at = self.at;
+        if s.len() <= at {
+            return EdgeLine::End(self);
+        }
+        let x = field(s, at, SPACE);
+        match x {
+            Scan::Bad(_) => EdgeLine::Fault(BAD_FORM, self),
+            Scan::Outside(p) => edge_outside(self, field(s, p, LF)),
+            Scan::Value(u, p) => edge_of(self, u, field(s, p, LF)),
+        }
+    }
+
+    // The claim line at this place, for BFS, WCC and CDLP: it has an edge line's form.
+    pub fn claim(self, s: &[u8]) -> EdgeLine
+        ensures { λ r. ⌜ edgeSays r ≡ claimLine (now (s .entry)) (self .at) ⌝ }
+    {
+        self.edge(s)
+    }
+
+    // The claim line at this place, for LCC.
+    pub fn coefficient_claim(self, s: &[u8]) -> CoefficientLine
+        ensures { λ r. ⌜ coefficientSays r ≡ coefficientLine (now (s .entry)) (self .at) ⌝ }
+    {
+        let at = self.at;
+        if s.len() <= at {
+            return CoefficientLine::End(self);
+        }
+        let x = field(s, at, SPACE);
+        match x {
+            Scan::Bad(_) => CoefficientLine::Fault(BAD_FORM, self),
+            Scan::Outside(p) => coefficient_outside(self, p, decimal_rest(s, p)),
+            Scan::Value(u, p) => coefficient_of(self, u, p, decimal_rest(s, p)),
+        }
+    }
+}
