@@ -1,1 +1,95 @@
--- Steps.
+-- What the loops over a file's lines do with one line, and what they keep.
+use Prim.Native.Nat.{ℕ, zero, suc, _+_, _<_, _≤_, _-_, _^_}
+use mathlib.Core.Path.{_≡_}
+use mathlib.Core.Bool.{Bool, true, false, cond}
+use mathlib.Core.List.{List, [], _∷_, _++_}
+use lib.IntN.{ℤ}
+use lib.ListN.{length, getD, take, drop}
+use lib.Seq.{sets}
+use lib.Dec.{ltb}
+use Rattle.basis.specs.Refusal.{Said, gives, refuses, at, vertexFile, edgeFile}
+use Rattle.basis.specs.Order.{risingZ}
+use Rattle.basis.specs.Area.{cleared}
+use Rattle.text.specs.Line.{LineSaid, line, none, fault, vertexLine, edgeLine}
+use Rattle.graph.specs.Arcs.{Arc}
+use Rattle.store.specs.Steps.{bumps}
+use Rattle.load.specs.declared.lines.Listed.{Listed}
+use Rattle.load.specs.declared.lines.Listed.the-variants.{Lines, Refused}
+use Rattle.load.specs.declared.lines.Vertices.{Vertices}
+use Rattle.load.specs.declared.lines.VertexStep.{VertexStep}
+use Rattle.load.specs.declared.lines.VertexStep.the-variants as VS
+use Rattle.load.specs.declared.lines.Edges.{Edges}
+use Rattle.load.specs.declared.lines.EdgeStep.{EdgeStep}
+use Rattle.load.specs.declared.lines.EdgeStep.the-variants as ES
+use Rattle.load.specs.Lines.{good, bad, Before, first, after, said, faultOf}
+use Rattle.load.specs.Files.{vertexTest, identifiers, edgeTest, edgesOf, numbered, allNumbered}
+
+-- how many lines a file has, or why it was refused
+abbrev pub listedSays : Listed → Said ℕ
+listedSays (Lines n) = gives n
+listedSays (Refused r) = refuses r
+
+-- a line more: its values, the place past it and the lines so far; or the end of the reading
+pub data Step (A : Type 0) : Type 0 where
+  more : A → ℕ → ℕ → Step A
+  stop : Said ℕ → Step A
+
+module _ {A : Type 0} (file most : ℕ) (test : Before A → A → ℕ) where
+  -- a line with values, by the number of its fault
+  abbrev pub byFault : ℕ → A → ℕ → ℕ → Step A
+  byFault k v next zero = more v next (k + 1)
+  byFault k v next (suc n) = stop (refuses (at (suc n) file (k + 1)))
+
+  abbrev pub stepBy : ℕ → Before A → LineSaid A → Step A
+  stepBy k before (line v next) = byFault k v next (faultOf file most test k before (good v))
+  stepBy k before (none p) = stop (gives k)
+  stepBy k before (fault n p) = stop (refuses (at (faultOf file most test k before (bad n)) file (k + 1)))
+
+-- the line before, of a reader that passed k lines
+abbrev pub beforeBy : {A : Type 0} → ℕ → A → Before A
+beforeBy k last = cond (ltb 0 k) (after last) first
+
+-- ---- the vertex file
+unfoldable pub vertexStep : List ℕ → ℕ → Vertices → Step ℤ
+vertexStep s most c = stepBy vertexFile most vertexTest (c .lines) (beforeBy (c .lines) (c .last)) (vertexLine s (c .at .at))
+
+abbrev pub vertexStepSays : VertexStep → Step ℤ
+vertexStepSays (VS.More d) = more (d .last) (d .at .at) (d .lines)
+vertexStepSays (VS.Stop r) = stop (listedSays r)
+
+-- what the identifiers leave behind: their count, and an area with them at its front, as far as there is room
+abbrev pub idsInto : List ℤ → ℕ → List ℤ → ℕ × List ℤ
+idsInto area k ids = (k + length ids, sets area k ids)
+
+abbrev pub idsLeft : Listed → List ℤ → Said (ℕ × List ℤ)
+idsLeft (Lines n) area = gives (n, area)
+idsLeft (Refused r) area = refuses r
+
+-- ---- the edge file
+abbrev pub pairOf : Edges → ℤ × ℤ
+pairOf c = (c .first, c .second)
+
+-- with the numbers of an edge's vertices
+abbrev pub withNumbers : List ℤ → Step (ℤ × ℤ) → Step ((ℤ × ℤ) × Arc)
+withNumbers ids (more e next k) = more (e, numbered ids e) next k
+withNumbers ids (stop r) = stop r
+
+unfoldable pub edgeStep : Bool → ℕ → List ℤ → List ℕ → Edges → Step (ℤ × ℤ)
+edgeStep both most ids s c = stepBy edgeFile most (edgeTest both ids) (c .lines) (beforeBy (c .lines) (pairOf c)) (edgeLine s (c .at .at))
+
+abbrev pub edgeStepSays : EdgeStep → Step ((ℤ × ℤ) × Arc)
+edgeStepSays (ES.More u v d) = more (pairOf d, (u, v)) (d .at .at) (d .lines)
+edgeStepSays (ES.Stop r) = stop (listedSays r)
+
+-- the second ends of edges
+abbrev pub seconds : List Arc → List ℕ
+seconds [] = []
+seconds (e ∷ l) = e .1 ∷ seconds l
+
+-- what edges leave behind: their count, one more for each at its first end, and an area with their second ends at its front
+abbrev pub edgesInto : List ℕ → List ℕ → ℕ → List Arc → ℕ × List ℕ × List ℕ
+edgesInto counts targets k es = (k + length es, bumps counts es, sets targets k (seconds es))
+
+abbrev pub edgesLeft : Listed → List ℕ → List ℕ → Said (ℕ × List ℕ × List ℕ)
+edgesLeft (Lines n) counts targets = gives (n, counts, targets)
+edgesLeft (Refused r) counts targets = refuses r
