@@ -1,2 +1,4 @@
 -- Laws that belong to no one function.
 pub mod Examples
+pub mod Reading
+pub mod Runs

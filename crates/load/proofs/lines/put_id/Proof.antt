@@ -1,3 +1,5 @@
+use lib.Seq.{set-out}
+use mathlib.Core.Path.{sym}
 use borrow.Author.Needs.{needs}
 use Rattle.load.proofs.lines.put_id.Statement.{statement}
 use Rattle.load.proofs.lines.put_id.Tie as tie
@@ -22,7 +24,7 @@ returns c = search needs
 
 -- src/lines.rt:97:1
 returns-2 : tie.Need-returns-2
-returns-2 c = ?
+returns-2 c = sym (set-out _ _ _ (c .if1 .left))
 
 pub put-id-spec : {M : Type 1} → statement M
 put-id-spec = tie.close (tie.spec mul-z slice-set-from-z same-length returns returns-2)

@@ -1,3 +1,4 @@
+use Rattle.load.proofs.Reading.{vertex-end, vertex-bad, vertex-fault, vertex-more}
 use borrow.Author.Needs.{needs}
 use Rattle.load.proofs.lines.vertex_step.Statement.{statement}
 use Rattle.load.proofs.lines.vertex_step.Tie as tie
@@ -50,7 +51,7 @@ at-requires-2 c κs = search needs
 
 -- src/lines.rt:89:17
 returns : tie.Need-returns
-returns c = ?
+returns c = search (vertex-fault, needs, c .before .if1 .taken)
 
 -- src/lines.rt:91:58
 add-t22 : tie.Need-add-t22
@@ -58,15 +59,15 @@ add-t22 c = search needs
 
 -- src/lines.rt:75:1
 returns-2 : tie.Need-returns-2
-returns-2 c = ?
+returns-2 c = search vertex-end
 
 -- src/lines.rt:75:1
 returns-3 : tie.Need-returns-3
-returns-3 c = ?
+returns-3 c = search vertex-bad
 
 -- src/lines.rt:75:1
 returns-4 : tie.Need-returns-4
-returns-4 c = ?
+returns-4 c = search (vertex-more, needs)
 
 pub vertex-step-spec : {M : Type 1} → statement M
 vertex-step-spec =
