@@ -1,17 +1,21 @@
 -- What the loops over a file's lines do with one line, and what they keep.
-use Prim.Native.Nat.{ℕ, zero, suc, _+_, _<_, _≤_, _-_, _^_}
+use Prim.Native.Nat.{ℕ, zero, suc, _+_, _≤_}
 use mathlib.Core.Path.{_≡_}
-use mathlib.Core.Bool.{Bool, true, false, cond}
-use mathlib.Core.List.{List, [], _∷_, _++_}
+use mathlib.Core.Bool.{Bool, true, false, cond, _&&_}
+use mathlib.Core.List.{List}
 use lib.IntN.{ℤ}
-use lib.ListN.{length, getD, take, drop}
+use lib.ListN.{length}
 use lib.Seq.{sets}
+use lib.Signed.{ltZ}
 use lib.Dec.{ltb}
-use Rattle.basis.specs.Refusal.{Said, gives, refuses, at, vertexFile, edgeFile}
-use Rattle.basis.specs.Order.{risingZ}
+use Rattle.basis.specs.Refusal.{Said, gives, refuses, at, notAbove, selfEdge, largerFirst, vertexFile, edgeFile}
+use Rattle.basis.specs.Order.{sameZ, risingZ}
 use Rattle.basis.specs.Area.{cleared}
 use Rattle.text.specs.Line.{LineSaid, line, none, fault, vertexLine, edgeLine}
 use Rattle.graph.specs.Arcs.{Arc}
+use Rattle.graph.specs.declared.find.Found.{Found}
+use Rattle.graph.specs.declared.find.Found.the-variants.{At, Missing}
+use Rattle.store.specs.Held.{seconds}
 use Rattle.store.specs.Steps.{bumps}
 use Rattle.load.specs.declared.lines.Listed.{Listed}
 use Rattle.load.specs.declared.lines.Listed.the-variants.{Lines, Refused}
@@ -19,10 +23,12 @@ use Rattle.load.specs.declared.lines.Vertices.{Vertices}
 use Rattle.load.specs.declared.lines.VertexStep.{VertexStep}
 use Rattle.load.specs.declared.lines.VertexStep.the-variants as VS
 use Rattle.load.specs.declared.lines.Edges.{Edges}
+use Rattle.load.specs.declared.lines.Ends.{Ends}
+use Rattle.load.specs.declared.lines.Ends.the-variants as EN
 use Rattle.load.specs.declared.lines.EdgeStep.{EdgeStep}
 use Rattle.load.specs.declared.lines.EdgeStep.the-variants as ES
-use Rattle.load.specs.Lines.{good, bad, Before, first, after, said, faultOf}
-use Rattle.load.specs.Files.{vertexTest, identifiers, edgeTest, edgesOf, numbered, allNumbered}
+use Rattle.load.specs.Lines.{good, bad, Before, first, after, faultOf}
+use Rattle.load.specs.Files.{vertexTest, isAbove, edgeTest, numbered, allNumbered}
 
 -- how many lines a file has, or why it was refused
 abbrev pub listedSays : Listed → Said ℕ
@@ -69,6 +75,25 @@ idsLeft (Refused r) area = refuses r
 abbrev pub pairOf : Edges → ℤ × ℤ
 pairOf c = (c .first, c .second)
 
+-- the fault of an edge whose vertices are not looked up yet
+unfoldable pub orderFault : Bool → Before (ℤ × ℤ) → ℤ × ℤ → ℕ
+orderFault both before e =
+    cond (sameZ (e .0) (e .1)) selfEdge (cond (both && ltZ (e .1) (e .0)) largerFirst (cond (isAbove before e) 0 notAbove))
+
+-- the vertices of an edge, where both are there
+pub data Looked : Type 0 where
+  found : Arc → Looked
+  unknown : Looked
+
+abbrev pub lookedBy : Found → Found → Looked
+lookedBy (At u) (At v) = found (u, v)
+lookedBy (At u) Missing = unknown
+lookedBy Missing y = unknown
+
+abbrev pub endsSays : Ends → Looked
+endsSays (EN.Known u v) = found (u, v)
+endsSays EN.Unknown = unknown
+
 -- with the numbers of an edge's vertices
 abbrev pub withNumbers : List ℤ → Step (ℤ × ℤ) → Step ((ℤ × ℤ) × Arc)
 withNumbers ids (more e next k) = more (e, numbered ids e) next k
@@ -81,15 +106,19 @@ abbrev pub edgeStepSays : EdgeStep → Step ((ℤ × ℤ) × Arc)
 edgeStepSays (ES.More u v d) = more (pairOf d, (u, v)) (d .at .at) (d .lines)
 edgeStepSays (ES.Stop r) = stop (listedSays r)
 
--- the second ends of edges
-abbrev pub seconds : List Arc → List ℕ
-seconds [] = []
-seconds (e ∷ l) = e .1 ∷ seconds l
-
--- what edges leave behind: their count, one more for each at its first end, and an area with their second ends at its front
+-- what edges leave behind: their count, one more for each at its first end, and an area with their second ends at its front, as far as there is room
 abbrev pub edgesInto : List ℕ → List ℕ → ℕ → List Arc → ℕ × List ℕ × List ℕ
 edgesInto counts targets k es = (k + length es, bumps counts es, sets targets k (seconds es))
+
+abbrev pub numberedInto : List ℤ → List ℕ → List ℕ → ℕ → List (ℤ × ℤ) → ℕ × List ℕ × List ℕ
+numberedInto ids counts targets k es = edgesInto counts targets k (allNumbered ids es)
 
 abbrev pub edgesLeft : Listed → List ℕ → List ℕ → Said (ℕ × List ℕ × List ℕ)
 edgesLeft (Lines n) counts targets = gives (n, counts, targets)
 edgesLeft (Refused r) counts targets = refuses r
+
+-- what the reading of edges asks for
+pub record Asked (ids : List ℤ) (counts : List ℕ) : Type 0 where
+  pub rise : risingZ ids ≡ true
+  pub places : length ids ≤ length counts
+  pub clear : counts ≡ cleared counts

@@ -4,18 +4,22 @@ use basis::order::{less, same};
 use basis::refusal::{
     EDGE_FILE, LARGER_FIRST, NOT_ABOVE, SELF_EDGE, TOO_MANY, UNKNOWN_VERTEX, VERTEX_FILE,
 };
+use crate::spread::count_arc;
 use graph::find::{Found, find};
 use text::line::{Cursor, EdgeLine, VertexLine};
 ghost use mathlib.Core.Path.{_≡_};
-ghost use mathlib.Core.Bool.{Bool, cond};
+ghost use mathlib.Core.Bool.{Bool, true, cond, _&&_};
 ghost use Prim.Native.Nat.{ℕ, _+_, _-_, _<_, _≤_, _^_};
 ghost use lib.ListN.{length, getD, set};
 ghost use lib.Dec.{leb};
+ghost use lib.Signed.{ltZ};
 ghost use Rattle.basis.specs.Order.{risingZ};
 ghost use Rattle.basis.specs.Refusal.{tooMany, vertexFile, edgeFile};
+ghost use Rattle.graph.specs.Find.{placeIn};
+ghost use Rattle.store.specs.Steps.{bump};
 ghost use Rattle.load.specs.Lines.{good, said, faultOf};
-ghost use Rattle.load.specs.Files.{vertexTest, identifiers};
-ghost use Rattle.load.specs.Steps.{beforeBy, vertexStep, vertexStepSays, idsInto, idsLeft};
+ghost use Rattle.load.specs.Files.{vertexTest, identifiers, isAbove, edgesOf};
+ghost use Rattle.load.specs.Steps.{beforeBy, vertexStep, vertexStepSays, idsInto, idsLeft, orderFault, lookedBy, endsSays, withNumbers, edgeStep, edgeStepSays, numberedInto, edgesLeft, Asked};
 
 // How many lines a file has, or why it was refused.
 pub(crate) enum Listed {
@@ -43,6 +47,13 @@ pub(crate) struct Edges {
     pub second: i64,
 }
 
+// The numbers of an edge's vertices, or that one of them isn't there.
+enum Ends {
+    Known(usize, usize),
+    Unknown,
+}
+
+// The numbers of an edge's vertices, and the reader past its line.
 pub(crate) enum EdgeStep {
     More(usize, usize, Edges),
     Stop(Listed),
@@ -115,6 +126,121 @@ pub(crate) fn read_vertices(s: &[u8], most: usize, ids: &mut [i64]) -> Listed
                 c = next;
             }
             VertexStep::Stop(out) => {
+                return out;
+            }
+        }
+    }
+}
+
+// Undirected, and the first number is the larger.
+fn wrong_way(both: bool, a: i64, b: i64) -> bool
+    ensures { λ r. ⌜ r ≡ (both && ltZ b a) ⌝ }
+{
+    if both {
+        return less(b, a);
+    }
+    false
+}
+
+// Whether the edge from a to b is above the one from p to q that stood before it, if k lines did.
+fn is_above(k: usize, p: i64, q: i64, a: i64, b: i64) -> bool
+    ensures { λ r. ⌜ r ≡ isAbove (beforeBy k (p, q)) (a, b) ⌝ }
+{
+    if k == 0 {
+        return true;
+    }
+    if less(p, a) {
+        return true;
+    }
+    if same(p, a) {
+        return less(q, b);
+    }
+    false
+}
+
+// The fault of the edge from a to b after the one from p to q, or 0: its vertices are not looked up yet.
+fn order_fault(both: bool, k: usize, p: i64, q: i64, a: i64, b: i64) -> usize
+    ensures { λ r. ⌜ r ≡ orderFault both (beforeBy k (p, q)) (a, b) ⌝ }
+{
+    if same(a, b) {
+        return SELF_EDGE;
+    }
+    if wrong_way(both, a, b) {
+        return LARGER_FIRST;
+    }
+    if is_above(k, p, q, a, b) {
+        return 0;
+    }
+    NOT_ABOVE
+}
+
+// The vertices of the edge from a to b.
+fn look_up(ids: &[i64], a: i64, b: i64) -> Ends
+    requires { ⌜ risingZ (now ids) ≡ true ⌝ }
+    ensures { λ r. ⌜ endsSays r ≡ lookedBy (placeIn (now (ids .entry)) a) (placeIn (now (ids .entry)) b) ⌝ }
+{
+    let from = find(ids, a);
+    match from {
+        Found::Missing => Ends::Unknown,
+        Found::At(u) => {
+            let to = find(ids, b);
+            match to {
+                Found::Missing => Ends::Unknown,
+                Found::At(v) => Ends::Known(u, v),
+            }
+        }
+    }
+}
+
+// One edge line more.
+fn edge_step(s: &[u8], most: usize, both: bool, ids: &[i64], c: Edges) -> EdgeStep
+    requires { ⌜ (c .lines < 2 ^ 64 - 1) × (risingZ (now ids) ≡ true) ⌝ }
+    ensures { λ r. ⌜ edgeStepSays r ≡ withNumbers (now (ids .entry)) (edgeStep both most (now (ids .entry)) (now (s .entry)) c) ⌝ }
+{
+    let place = c.at;
+    let k = c.lines;
+    let line = place.edge(s);
+    match line {
+        EdgeLine::End(_) => EdgeStep::Stop(Listed::Lines(k)),
+        EdgeLine::Fault(n, _) => EdgeStep::Stop(Listed::Refused(Refusal::at(limited(most, k, n), EDGE_FILE, k + 1))),
+        EdgeLine::Line(a, b, next) => {
+            let fault = limited(most, k, order_fault(both, k, c.first, c.second, a, b));
+            if fault != 0 {
+                return EdgeStep::Stop(Listed::Refused(Refusal::at(fault, EDGE_FILE, k + 1)));
+            }
+            let joined = look_up(ids, a, b);
+            match joined {
+                Ends::Unknown => EdgeStep::Stop(Listed::Refused(Refusal::at(UNKNOWN_VERTEX, EDGE_FILE, k + 1))),
+                Ends::Known(u, v) => EdgeStep::More(u, v, Edges { at: next, lines: k + 1, first: a, second: b }),
+            }
+        }
+    }
+}
+
+// A number is stored where there is room for it.
+fn put(area: &mut [usize], i: usize, value: usize)
+    ensures { λ _. ⌜ now (area .exit) ≡ set (now (area .entry)) i value ⌝ }
+{
+    if i < area.len() {
+        area[i] = value;
+    }
+}
+
+// The edges of an edge file: one more for each in `counts` at its first end, the second ends in `targets` as far as there is room.
+pub(crate) fn read_edges(s: &[u8], most: usize, both: bool, ids: &[i64], counts: &mut [usize], targets: &mut [usize]) -> Listed
+    requires { ⌜ Asked (now ids) (now counts) ⌝ }
+    ensures { λ r. ⌜ edgesLeft r (now (counts .exit)) (now (targets .exit)) ≡ said (numberedInto (now (ids .entry)) (now (counts .entry)) (now (targets .entry)) 0) (edgesOf both most (now (ids .entry)) (now (s .entry))) ⌝ }
+{
+    let mut c = Edges { at: Cursor { at: 0 }, lines: 0, first: 0, second: 0 };
+    loop {
+        let step = edge_step(s, most, both, ids, c);
+        match step {
+            EdgeStep::More(u, v, next) => {
+                count_arc(counts, u);
+                put(targets, c.lines, v);
+                c = next;
+            }
+            EdgeStep::Stop(out) => {
                 return out;
             }
         }
