@@ -2,3 +2,4 @@
 pub mod Examples
 pub mod Reading
 pub mod Runs
+pub mod Gathers

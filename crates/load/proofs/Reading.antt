@@ -193,7 +193,7 @@ test-by both ids before e = go (sameZ (e .0) (e .1)) (both && ltZ (e .1) (e .0))
     go false false true (At u) (At v) = refl
 
 -- a limit that is not passed, and no fault of order
-limit-none : (most k o : ℕ) → cond (leb most k) tooMany o ≡ 0 → (leb most k ≡ false) × (o ≡ 0)
+pub limit-none : (most k o : ℕ) → cond (leb most k) tooMany o ≡ 0 → (leb most k ≡ false) × (o ≡ 0)
 limit-none most k o e = go (leb most k) refl e
   where
     go : (t : Bool) → leb most k ≡ t → cond t tooMany o ≡ 0 → (leb most k ≡ false) × (o ≡ 0)

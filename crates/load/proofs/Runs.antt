@@ -98,6 +98,7 @@ module _ {A : Type 0} (file most : ℕ) (test : Before A → A → ℕ) (read : 
       pub counted : m ≡ k + 1
       pub onward : place < next
       pub within : next ≤ length s
+      pub passed : faultOf file most test k before (good v) ≡ 0
       pub same : left k before place ≡ said (λ vs. v ∷ vs) (left (k + 1) (after v) next)
 
     pub left-more : ((v : A) (next : ℕ) → read s place ≡ line v next → (place < next) × (next ≤ length s)) → k ≤ place → (v : A) (next m : ℕ)
@@ -121,6 +122,7 @@ module _ {A : Type 0} (file most : ℕ) (test : Before A → A → ℕ) (read : 
                   counted = cc;
                   onward = rw b (t .0);
                   within = rw b (t .1);
+                  passed = rw a g;
                   same = rw (q, linesFrom, valuesFrom, g, a, b, l);
                 }
 
@@ -132,7 +134,7 @@ into-more ids k v (gives vs) =
     let a : sets (set ids k v) (k + 1) vs ≡ sets (set ids k v) (suc k) vs = rw add-one in
     cc
 
-before-next : {A : Type 0} (m k : ℕ) (v : A) → m ≡ k + 1 → beforeBy m v ≡ after v
+pub before-next : {A : Type 0} (m k : ℕ) (v : A) → m ≡ k + 1 → beforeBy m v ≡ after v
 before-next m k v e = rw (e, lt-ltb 0 (k + 1) (omega arith))
 
 module _ (s : List ℕ) (most : ℕ) (ids₀ : List ℤ) where
