@@ -3,3 +3,5 @@ pub mod Examples
 pub mod Reading
 pub mod Runs
 pub mod Gathers
+pub mod Values
+pub mod Valids
