@@ -5,3 +5,4 @@ pub mod Runs
 pub mod Gathers
 pub mod Values
 pub mod Valids
+pub mod Arranges

@@ -1,5 +1,5 @@
 -- What the loops over a file's lines do with one line, and what they keep.
-use Prim.Native.Nat.{ℕ, zero, suc, _+_, _≤_}
+use Prim.Native.Nat.{ℕ, zero, suc, _+_, _≤_, _<_}
 use mathlib.Core.Path.{_≡_}
 use mathlib.Core.Bool.{Bool, true, false, cond, _&&_}
 use mathlib.Core.List.{List}
@@ -7,15 +7,15 @@ use lib.IntN.{ℤ}
 use lib.ListN.{length}
 use lib.Seq.{sets}
 use lib.Signed.{ltZ}
-use lib.Dec.{ltb}
+use lib.Dec.{leb, ltb}
 use Rattle.basis.specs.Refusal.{Said, gives, refuses, at, notAbove, selfEdge, largerFirst, vertexFile, edgeFile}
 use Rattle.basis.specs.Order.{sameZ, risingZ}
-use Rattle.basis.specs.Area.{cleared}
+use Rattle.basis.specs.Area.{cleared, pad}
 use Rattle.text.specs.Line.{LineSaid, line, none, fault, vertexLine, edgeLine}
-use Rattle.graph.specs.Arcs.{Arc}
+use Rattle.graph.specs.Arcs.{Arc, arcs, parts, offsets}
 use Rattle.graph.specs.declared.find.Found.{Found}
 use Rattle.graph.specs.declared.find.Found.the-variants.{At, Missing}
-use Rattle.store.specs.Held.{seconds}
+use Rattle.store.specs.Held.{inArcs, seconds}
 use Rattle.store.specs.Steps.{bumps}
 use Rattle.load.specs.declared.lines.Listed.{Listed}
 use Rattle.load.specs.declared.lines.Listed.the-variants.{Lines, Refused}
@@ -27,8 +27,9 @@ use Rattle.load.specs.declared.lines.Ends.{Ends}
 use Rattle.load.specs.declared.lines.Ends.the-variants as EN
 use Rattle.load.specs.declared.lines.EdgeStep.{EdgeStep}
 use Rattle.load.specs.declared.lines.EdgeStep.the-variants as ES
-use Rattle.load.specs.Lines.{good, bad, Before, first, after, faultOf}
-use Rattle.load.specs.Files.{vertexTest, isAbove, edgeTest, numbered, allNumbered}
+use Rattle.load.specs.Lines.{good, bad, Before, first, after, onward, faultOf}
+use Rattle.load.specs.Files.{vertexTest, isAbove, edgeTest, edgesOf, numbered, allNumbered}
+use Rattle.load.specs.Load.{withRoom}
 
 -- how many lines a file has, or why it was refused
 abbrev pub listedSays : Listed → Said ℕ
@@ -122,3 +123,44 @@ pub record Asked (ids : List ℤ) (counts : List ℕ) : Type 0 where
   pub rise : risingZ ids ≡ true
   pub places : length ids ≤ length counts
   pub clear : counts ≡ cleared counts
+
+-- ---- edges stored by their first ends, and their arcs the other way
+-- how many arcs so many edges have
+abbrev pub arcCount : Bool → ℕ → ℕ
+arcCount both m = cond both (m + m) m
+
+-- the edges of a file by number, if areas of two lengths have room for their arcs
+unfoldable pub edgesRead : Bool → ℕ → List ℤ → List ℕ → ℕ → ℕ → Said (List Arc)
+edgesRead both most ids s t t′ =
+    onward (edgesOf both most ids s)
+    (λ es. withRoom (leb (length (arcs both (allNumbered ids es))) t && leb (length (arcs both (allNumbered ids es))) t′) (allNumbered ids es))
+
+-- two pairs of areas, and how many edges they hold
+pub record Arranged : Type 0 where
+  pub edges : ℕ
+  pub offsets : List ℕ
+  pub targets : List ℕ
+  pub backOffsets : List ℕ
+  pub backTargets : List ℕ
+
+abbrev pub arranged : ℕ → List ℕ → List ℕ → List ℕ → List ℕ → Arranged
+arranged m o t b u = record { edges = m; offsets = o; targets = t; backOffsets = b; backTargets = u }
+
+-- the edges of n vertices in areas of four lengths
+abbrev pub arrangedBy : Bool → ℕ → ℕ → ℕ → ℕ → ℕ → List Arc → Arranged
+arrangedBy both n o t b u es =
+    arranged (length es) (pad o (offsets es n)) (pad t (parts es n)) (pad b (offsets (inArcs both es) n)) (pad u (parts (inArcs both es) n))
+
+abbrev pub arrangedLeft : Listed → List ℕ → List ℕ → List ℕ → List ℕ → Said Arranged
+arrangedLeft (Lines m) o t b u = gives (arranged m o t b u)
+arrangedLeft (Refused r) o t b u = refuses r
+
+-- what the storing of edges asks for: identifiers that rise, places for their offsets, areas of zeros
+pub record Blank (ids : List ℤ) (o t b u : List ℕ) : Type 0 where
+  pub rise : risingZ ids ≡ true
+  pub places : length ids < length o
+  pub backPlaces : length ids < length b
+  pub clearOffsets : o ≡ cleared o
+  pub clearTargets : t ≡ cleared t
+  pub clearBackOffsets : b ≡ cleared b
+  pub clearBackTargets : u ≡ cleared u

@@ -1,4 +1,5 @@
 // A graph from the bytes of its vertex file and its edge file.
+mod fill;
 mod lines;
 mod spread;
 use basis::Refusal;
