@@ -29,7 +29,7 @@ use Rattle.load.specs.declared.lines.Listed.{Listed}
 use Rattle.load.specs.declared.lines.Listed.the-variants.{Lines, Refused}
 use Rattle.load.specs.Lines.{linesOf, first, onward, said}
 use Rattle.load.specs.Files.{edgeTest, edgesOf, allNumbered}
-use Rattle.load.specs.Load.{withRoom}
+use Rattle.load.specs.Load.{arcRoom, withRoom}
 use Rattle.load.specs.Steps.{numberedInto, edgesLeft, arcCount, edgesRead, Arranged, arranged, arrangedBy, arrangedLeft, Blank}
 use Rattle.load.proofs.Values.{values-accepted}
 use Rattle.load.proofs.Valids.{valid-edges}
@@ -71,7 +71,7 @@ pub copy-end : (d s e : List ℕ) (n i : ℕ) → n ≤ i → i ≤ n → e ≡ 
 copy-end d s e n i h g q = let o : i ≡ n = omega arith in subst (λ (k : ℕ). e ≡ take k s ++ drop k d) o q
 
 -- ---- values written to the front of an area of one value throughout
-drop-same : {A : Type 0} (z : A) (m k : ℕ) → drop m (replicate k z) ≡ replicate (k - m) z
+pub drop-same : {A : Type 0} (z : A) (m k : ℕ) → drop m (replicate k z) ≡ replicate (k - m) z
 drop-same z zero k = let e : k ≡ k - 0 = omega arith in ap (λ (j : ℕ). replicate j z) e
 drop-same z (suc m) zero = let e : 0 ≡ 0 - suc m = omega arith in ap (λ (j : ℕ). replicate j z) e
 drop-same z (suc m) (suc k) = let e : k - m ≡ suc k - suc m = omega arith in drop-same z m k ∙ ap (λ (j : ℕ). replicate j z) e
@@ -86,7 +86,7 @@ pub length-numbered : (ids : List ℤ) (es : List (ℤ × ℤ)) → length (allN
 length-numbered ids [] = refl
 length-numbered ids (e ∷ es) = ap suc (length-numbered ids es)
 
-length-seconds : (es : List Arc) → length (seconds es) ≡ length es
+pub length-seconds : (es : List Arc) → length (seconds es) ≡ length es
 length-seconds [] = refl
 length-seconds (e ∷ es) = ap suc (length-seconds es)
 
@@ -162,7 +162,7 @@ module _ (both : Bool) (most : ℕ) (ids : List ℤ) (s : List ℕ) (fo ft to tt
     arcs-long : length (arcs both es) ≡ arcCount both m
     arcs-long = arc-count both es ∙ ap (arcCount both) (sym count)
 
-    short : (r : Refusal) → r ≡ plain noRoom → (leb (length (arcs both es)) (length ft) && leb (length (arcs both es)) (length tt)) ≡ false → refuses r ≡ result
+    short : (r : Refusal) → r ≡ plain noRoom → arcRoom (length ft) (length tt) (length (arcs both es)) ≡ false → refuses r ≡ result
     unfolding edgesRead
     short r e h = rw (taken .1, h, e)
 

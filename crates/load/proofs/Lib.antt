@@ -6,3 +6,4 @@ pub mod Gathers
 pub mod Values
 pub mod Valids
 pub mod Arranges
+pub mod Fills

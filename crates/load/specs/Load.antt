@@ -40,24 +40,24 @@ isUndirected mode = eqb mode 0
 abbrev pub vertexRoom : Room → ℕ → Bool
 vertexRoom room n = leb n (room .ids) && (ltb n (room .outOffsets) && ltb n (room .inOffsets))
 
--- "room for the arcs each way"
-abbrev pub arcRoom : Room → ℕ → Bool
-arcRoom room m = leb m (room .outTargets) && leb m (room .inSources)
+-- "room for the arcs each way", in areas of two lengths
+abbrev pub arcRoom : ℕ → ℕ → ℕ → Bool
+arcRoom t t′ m = leb m t && leb m t′
 
 abbrev pub withRoom : {A : Type 0} → Bool → A → Said A
 withRoom enough x = cond enough (gives x) (refuses (plain noRoom))
 
 -- the arcs of an edge file over the given identifiers, if there is room for them
-unfoldable pub arcsRead : Bool → ℕ → Room → List ℤ → List ℕ → Said (List Arc)
-arcsRead both most room ids s =
-    onward (edgesOf both most ids s)
-    (λ es. withRoom (arcRoom room (length (arcs both (allNumbered ids es)))) (arcs both (allNumbered ids es)))
+unfoldable pub arcsRead : Bool → ℕ → List ℤ → List ℕ → ℕ → ℕ → Said (List Arc)
+arcsRead both most ids s t t′ =
+    onward (edgesOf both most ids s) (λ es. withRoom (arcRoom t t′ (length (arcs both (allNumbered ids es)))) (arcs both (allNumbered ids es)))
 
 -- "the vertex file line by line; room for identifiers and offsets; the edge file line by line; room for the arcs each way"
 unfoldable pub listsRead : Bool → ℕ → ℕ → Room → List ℕ → List ℕ → Said Lists
 listsRead both mostVertices mostEdges room vertices edges =
     onward (identifiers mostVertices vertices)
-    (λ ids. onward (withRoom (vertexRoom room (length ids)) ids) (λ ids. said (λ l. record { ids = ids; arcs = l }) (arcsRead both mostEdges room ids edges)))
+    (λ ids. onward (withRoom (vertexRoom room (length ids)) ids)
+    (λ ids. said (λ l. record { ids = ids; arcs = l }) (arcsRead both mostEdges ids edges (room .outTargets) (room .inSources))))
 
 -- "the mode (12)" before all
 unfoldable pub loaded : ℕ → ℕ → ℕ → Room → List ℕ → List ℕ → Said Lists

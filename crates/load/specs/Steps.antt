@@ -10,13 +10,16 @@ use lib.Signed.{ltZ}
 use lib.Dec.{leb, ltb}
 use Rattle.basis.specs.Refusal.{Said, gives, refuses, at, notAbove, selfEdge, largerFirst, vertexFile, edgeFile}
 use Rattle.basis.specs.Order.{sameZ, risingZ}
-use Rattle.basis.specs.Area.{cleared, pad}
+use Rattle.basis.specs.Area.{cleared, clearedZ, pad}
 use Rattle.text.specs.Line.{LineSaid, line, none, fault, vertexLine, edgeLine}
-use Rattle.graph.specs.Arcs.{Arc, arcs, parts, offsets}
+use Rattle.graph.specs.declared.Size.{Size}
+use Rattle.graph.specs.Arcs.{Arc, arcs, backward, parts, offsets}
 use Rattle.graph.specs.declared.find.Found.{Found}
 use Rattle.graph.specs.declared.find.Found.the-variants.{At, Missing}
 use Rattle.store.specs.Held.{inArcs, seconds}
 use Rattle.store.specs.Steps.{bumps}
+use Rattle.load.specs.declared.Loaded.{Loaded}
+use Rattle.load.specs.declared.Loaded.the-variants as L
 use Rattle.load.specs.declared.lines.Listed.{Listed}
 use Rattle.load.specs.declared.lines.Listed.the-variants.{Lines, Refused}
 use Rattle.load.specs.declared.lines.Vertices.{Vertices}
@@ -29,7 +32,7 @@ use Rattle.load.specs.declared.lines.EdgeStep.{EdgeStep}
 use Rattle.load.specs.declared.lines.EdgeStep.the-variants as ES
 use Rattle.load.specs.Lines.{good, bad, Before, first, after, onward, faultOf}
 use Rattle.load.specs.Files.{vertexTest, isAbove, edgeTest, edgesOf, numbered, allNumbered}
-use Rattle.load.specs.Load.{withRoom}
+use Rattle.load.specs.Load.{Lists, Room, arcRoom, withRoom, Outcome, outcome, outcomeOf}
 
 -- how many lines a file has, or why it was refused
 abbrev pub listedSays : Listed → Said ℕ
@@ -132,8 +135,7 @@ arcCount both m = cond both (m + m) m
 -- the edges of a file by number, if areas of two lengths have room for their arcs
 unfoldable pub edgesRead : Bool → ℕ → List ℤ → List ℕ → ℕ → ℕ → Said (List Arc)
 edgesRead both most ids s t t′ =
-    onward (edgesOf both most ids s)
-    (λ es. withRoom (leb (length (arcs both (allNumbered ids es))) t && leb (length (arcs both (allNumbered ids es))) t′) (allNumbered ids es))
+    onward (edgesOf both most ids s) (λ es. withRoom (arcRoom t t′ (length (arcs both (allNumbered ids es)))) (allNumbered ids es))
 
 -- two pairs of areas, and how many edges they hold
 pub record Arranged : Type 0 where
@@ -164,3 +166,39 @@ pub record Blank (ids : List ℤ) (o t b u : List ℕ) : Type 0 where
   pub clearTargets : t ≡ cleared t
   pub clearBackOffsets : b ≡ cleared b
   pub clearBackTargets : u ≡ cleared u
+
+-- ---- a graph's four areas, and its size
+pub record Filled : Type 0 where
+  pub size : Size
+  pub outOffsets : List ℕ
+  pub outTargets : List ℕ
+  pub inOffsets : List ℕ
+  pub inSources : List ℕ
+
+abbrev pub filled : Size → List ℕ → List ℕ → List ℕ → List ℕ → Filled
+filled size oo ot io is = record { size = size; outOffsets = oo; outTargets = ot; inOffsets = io; inSources = is }
+
+-- the arcs of n vertices in areas of four lengths
+abbrev pub filledBy : ℕ → ℕ → ℕ → ℕ → ℕ → List Arc → Filled
+filledBy n oo ot io is l =
+    filled (record { vertices = n; arcs = length l }) (pad oo (offsets l n)) (pad ot (parts l n)) (pad io (offsets (backward l) n)) (pad is (parts (backward l) n))
+
+abbrev pub filledLeft : Loaded → List ℕ → List ℕ → List ℕ → List ℕ → Said Filled
+filledLeft (L.Graph size) oo ot io is = gives (filled size oo ot io is)
+filledLeft (L.Refused r) oo ot io is = refuses r
+
+-- ---- all five areas
+abbrev pub outcomeBy : Room → Lists → Outcome
+outcomeBy room g = outcomeOf room (gives g)
+
+abbrev pub outcomeLeft : Loaded → List ℤ → List ℕ → List ℕ → List ℕ → List ℕ → Said Outcome
+outcomeLeft (L.Graph size) ids oo ot io is = gives (outcome (gives size) ids oo ot io is)
+outcomeLeft (L.Refused r) ids oo ot io is = refuses r
+
+-- five areas of zeros
+pub record Zeros (ids : List ℤ) (oo ot io is : List ℕ) : Type 0 where
+  pub noIds : ids ≡ clearedZ ids
+  pub noOutOffsets : oo ≡ cleared oo
+  pub noOutTargets : ot ≡ cleared ot
+  pub noInOffsets : io ≡ cleared io
+  pub noInSources : is ≡ cleared is

@@ -1,15 +1,19 @@
 // The edges of a file in the four areas of a graph, outward and inward.
 use basis::Refusal;
-use basis::refusal::NO_ROOM;
-use crate::lines::{Listed, read_edges};
+use basis::refusal::{NO_ROOM, UNKNOWN_NUMBER};
+use crate::Loaded;
+use crate::lines::{Listed, read_edges, read_vertices};
 use crate::spread::{spread, sum_up};
+use graph::Size;
 ghost use mathlib.Core.Path.{_≡_};
+ghost use mathlib.Core.Bool.{Bool, true, false, not};
 ghost use mathlib.Core.List.{_++_};
 ghost use Prim.Native.Nat.{ℕ, _+_, _≤_};
 ghost use lib.ListN.{length, take, drop};
 ghost use lib.Dec.{ltb};
 ghost use Rattle.load.specs.Lines.{said};
-ghost use Rattle.load.specs.Steps.{arcCount, edgesRead, arrangedBy, arrangedLeft, Blank};
+ghost use Rattle.load.specs.Load.{vertexRoom, roomOf, arcsRead, loaded};
+ghost use Rattle.load.specs.Steps.{arcCount, edgesRead, arrangedBy, arrangedLeft, Blank, filledBy, filledLeft, outcomeBy, outcomeLeft, Zeros};
 
 // Whether so many places are too few for the arcs of so many edges.
 fn lacks(places: usize, edges: usize, both: bool) -> bool
@@ -66,4 +70,71 @@ fn arrange(
             Listed::Lines(m)
         }
     }
+}
+
+// The arcs of a directed edge file: outward as they are read, inward the other way round.
+fn directed(
+    s: &[u8],
+    most: usize,
+    ids: &[i64],
+    oo: &mut [usize],
+    ot: &mut [usize],
+    io: &mut [usize],
+    is: &mut [usize],
+) -> Loaded
+    requires { ⌜ Blank (now ids) (now oo) (now ot) (now io) (now is) ⌝ }
+    ensures { λ r. ⌜ filledLeft r (now (oo .exit)) (now (ot .exit)) (now (io .exit)) (now (is .exit)) ≡ said (filledBy (length (now (ids .entry))) (length (now (oo .entry))) (length (now (ot .entry))) (length (now (io .entry))) (length (now (is .entry)))) (arcsRead false most (now (ids .entry)) (now (s .entry)) (length (now (ot .entry))) (length (now (is .entry)))) ⌝ }
+{
+    let n = ids.len();
+    let listed = arrange(s, most, false, ids, oo, ot, io, is);
+    match listed {
+        Listed::Refused(r) => Loaded::Refused(r),
+        Listed::Lines(m) => Loaded::Graph(Size { vertices: n, arcs: m }),
+    }
+}
+
+// The arcs of an undirected edge file: read into the inward areas, both arcs of every edge stored outward, and the same inward.
+fn undirected(
+    s: &[u8],
+    most: usize,
+    ids: &[i64],
+    oo: &mut [usize],
+    ot: &mut [usize],
+    io: &mut [usize],
+    is: &mut [usize],
+) -> Loaded
+    requires { ⌜ Blank (now ids) (now oo) (now ot) (now io) (now is) ⌝ }
+    ensures { λ r. ⌜ filledLeft r (now (oo .exit)) (now (ot .exit)) (now (io .exit)) (now (is .exit)) ≡ said (filledBy (length (now (ids .entry))) (length (now (oo .entry))) (length (now (ot .entry))) (length (now (io .entry))) (length (now (is .entry)))) (arcsRead true most (now (ids .entry)) (now (s .entry)) (length (now (ot .entry))) (length (now (is .entry)))) ⌝ }
+{
+    let n = ids.len();
+    let listed = arrange(s, most, true, ids, io, is, oo, ot);
+    match listed {
+        Listed::Refused(r) => Loaded::Refused(r),
+        Listed::Lines(m) => {
+            let arcs = m + m;
+            copy(io, oo, n + 1);
+            copy(is, ot, arcs);
+            Loaded::Graph(Size { vertices: n, arcs })
+        }
+    }
+}
+
+// The arcs of an edge file.
+fn store_edges(
+    s: &[u8],
+    most: usize,
+    both: bool,
+    ids: &[i64],
+    oo: &mut [usize],
+    ot: &mut [usize],
+    io: &mut [usize],
+    is: &mut [usize],
+) -> Loaded
+    requires { ⌜ Blank (now ids) (now oo) (now ot) (now io) (now is) ⌝ }
+    ensures { λ r. ⌜ filledLeft r (now (oo .exit)) (now (ot .exit)) (now (io .exit)) (now (is .exit)) ≡ said (filledBy (length (now (ids .entry))) (length (now (oo .entry))) (length (now (ot .entry))) (length (now (io .entry))) (length (now (is .entry)))) (arcsRead both most (now (ids .entry)) (now (s .entry)) (length (now (ot .entry))) (length (now (is .entry)))) ⌝ }
+{
+    if both {
+        return undirected(s, most, ids, oo, ot, io, is);
+    }
+    directed(s, most, ids, oo, ot, io, is)
 }
