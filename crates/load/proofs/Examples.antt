@@ -12,7 +12,7 @@ use Rattle.text.specs.Line.{lineBy, twoOf}
 use Rattle.graph.specs.Find.{placeFrom}
 use Rattle.load.specs.Lines.{linesFrom, valuesFrom}
 use Rattle.load.specs.Files.{edgeTest}
-use Rattle.load.specs.Load.{roomOf, arcsRead, listsRead, loaded, outcome, outcomeOf, loadCall}
+use Rattle.load.specs.Load.{roomOf, arcsRead, listsRead, loaded, outcome, outcomeOf, loadCall, library}
 
 -- -3 / 2 / 5 / 9 / 20
 vertices : List ℕ
@@ -23,7 +23,7 @@ edges : List ℕ
 edges =
     50 ∷ 32 ∷ 53 ∷ 10 ∷ 50 ∷ 32 ∷ 57 ∷ 10 ∷ 53 ∷ 32 ∷ 50 ∷ 10 ∷ 53 ∷ 32 ∷ 57 ∷ 10 ∷ 57 ∷ 32 ∷ 50 ∷ 48 ∷ 10 ∷ []
 
-directed : loadCall 65536 1048576 1 (roomOf 6 7 6 6 5) vertices edges
+directed : loadCall library 1 (roomOf 6 7 6 6 5) vertices edges
     ≡ outcome (gives (record { vertices = 5; arcs = 5 }))
     (negsuc 2 ∷ pos 2 ∷ pos 5 ∷ pos 9 ∷ pos 20 ∷ pos 0 ∷ [])
     (0 ∷ 0 ∷ 2 ∷ 4 ∷ 5 ∷ 5 ∷ 0 ∷ [])

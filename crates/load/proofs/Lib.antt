@@ -7,3 +7,4 @@ pub mod Values
 pub mod Valids
 pub mod Arranges
 pub mod Fills
+pub mod Loads

@@ -9,6 +9,7 @@ use Rattle.basis.specs.Refusal.{Said, gives, refuses, plain, noRoom, unknownNum
 use Rattle.basis.specs.Area.{padWith}
 use Rattle.graph.specs.declared.Size.{Size}
 use Rattle.graph.specs.Arcs.{Arc, arcs, backward, parts, offsets}
+use Rattle.load.specs.declared.Limits.{Limits}
 use Rattle.load.specs.declared.Loaded.{Loaded}
 use Rattle.load.specs.declared.Loaded.the-variants as L
 use Rattle.load.specs.Lines.{onward, said}
@@ -37,8 +38,8 @@ abbrev pub isUndirected : ℕ → Bool
 isUndirected mode = eqb mode 0
 
 -- "room for identifiers (n places) and offsets (n+1 places each way)"
-abbrev pub vertexRoom : Room → ℕ → Bool
-vertexRoom room n = leb n (room .ids) && (ltb n (room .outOffsets) && ltb n (room .inOffsets))
+abbrev pub vertexRoom : ℕ → ℕ → ℕ → ℕ → Bool
+vertexRoom ids oo io n = leb n ids && (ltb n oo && ltb n io)
 
 -- "room for the arcs each way", in areas of two lengths
 abbrev pub arcRoom : ℕ → ℕ → ℕ → Bool
@@ -53,16 +54,16 @@ arcsRead both most ids s t t′ =
     onward (edgesOf both most ids s) (λ es. withRoom (arcRoom t t′ (length (arcs both (allNumbered ids es)))) (arcs both (allNumbered ids es)))
 
 -- "the vertex file line by line; room for identifiers and offsets; the edge file line by line; room for the arcs each way"
-unfoldable pub listsRead : Bool → ℕ → ℕ → Room → List ℕ → List ℕ → Said Lists
-listsRead both mostVertices mostEdges room vertices edges =
-    onward (identifiers mostVertices vertices)
-    (λ ids. onward (withRoom (vertexRoom room (length ids)) ids)
-    (λ ids. said (λ l. record { ids = ids; arcs = l }) (arcsRead both mostEdges ids edges (room .outTargets) (room .inSources))))
+unfoldable pub listsRead : Limits → Bool → Room → List ℕ → List ℕ → Said Lists
+listsRead limits both room vertices edges =
+    onward (identifiers (limits .vertices) vertices)
+    (λ ids. onward (withRoom (vertexRoom (room .ids) (room .outOffsets) (room .inOffsets) (length ids)) ids)
+    (λ ids. said (λ l. record { ids = ids; arcs = l }) (arcsRead both (limits .edges) ids edges (room .outTargets) (room .inSources))))
 
 -- "the mode (12)" before all
-unfoldable pub loaded : ℕ → ℕ → ℕ → Room → List ℕ → List ℕ → Said Lists
-loaded mostVertices mostEdges mode room vertices edges =
-    cond (leb mode 1) (listsRead (isUndirected mode) mostVertices mostEdges room vertices edges) (refuses (plain unknownNumber))
+unfoldable pub loaded : Limits → ℕ → Room → List ℕ → List ℕ → Said Lists
+loaded limits mode room vertices edges =
+    cond (leb mode 1) (listsRead limits (isUndirected mode) room vertices edges) (refuses (plain unknownNumber))
 
 -- a load's outcome: its answer, and the content of each area
 pub record Outcome : Type 0 where
@@ -97,6 +98,10 @@ outcomeOf room g =
     (area 0 (room .inOffsets) (λ g. offsets (backward (g .arcs)) (length (g .ids))) g)
     (area 0 (room .inSources) (λ g. parts (backward (g .arcs)) (length (g .ids))) g)
 
--- the whole call, with the limits of vertices and edges
-unfoldable pub loadCall : ℕ → ℕ → ℕ → Room → List ℕ → List ℕ → Outcome
-loadCall mostVertices mostEdges mode room vertices edges = outcomeOf room (loaded mostVertices mostEdges mode room vertices edges)
+-- the whole call
+unfoldable pub loadCall : Limits → ℕ → Room → List ℕ → List ℕ → Outcome
+loadCall limits mode room vertices edges = outcomeOf room (loaded limits mode room vertices edges)
+
+-- "Library limits: 65,536 vertices, 1,048,576 edges"
+abbrev pub library : Limits
+library = record { vertices = 65536; edges = 1048576 }

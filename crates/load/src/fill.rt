@@ -1,7 +1,7 @@
 // The edges of a file in the four areas of a graph, outward and inward.
 use basis::Refusal;
 use basis::refusal::{NO_ROOM, UNKNOWN_NUMBER};
-use crate::Loaded;
+use crate::{Limits, Loaded};
 use crate::lines::{Listed, read_edges, read_vertices};
 use crate::spread::{spread, sum_up};
 use graph::Size;
@@ -137,4 +137,50 @@ fn store_edges(
         return undirected(s, most, ids, oo, ot, io, is);
     }
     directed(s, most, ids, oo, ot, io, is)
+}
+
+// Whether areas of these lengths have places for n identifiers and their offsets.
+fn has_places(n: usize, ids: usize, oo: usize, io: usize) -> bool
+    ensures { λ r. ⌜ r ≡ vertexRoom ids oo io n ⌝ }
+{
+    if ids < n {
+        return false;
+    }
+    if oo <= n {
+        return false;
+    }
+    if io <= n {
+        return false;
+    }
+    true
+}
+
+// The graph of two files in five areas of zeros; where it is refused, what stands in them is of no use.
+pub(crate) fn fill(
+    limits: Limits,
+    mode: usize,
+    vertices: &[u8],
+    edges: &[u8],
+    ids: &mut [i64],
+    oo: &mut [usize],
+    ot: &mut [usize],
+    io: &mut [usize],
+    is: &mut [usize],
+) -> Loaded
+    requires { ⌜ Zeros (now ids) (now oo) (now ot) (now io) (now is) ⌝ }
+    ensures { λ r. ⌜ outcomeLeft r (now (ids .exit)) (now (oo .exit)) (now (ot .exit)) (now (io .exit)) (now (is .exit)) ≡ said (outcomeBy (roomOf (length (now (ids .entry))) (length (now (oo .entry))) (length (now (ot .entry))) (length (now (io .entry))) (length (now (is .entry))))) (loaded limits mode (roomOf (length (now (ids .entry))) (length (now (oo .entry))) (length (now (ot .entry))) (length (now (io .entry))) (length (now (is .entry)))) (now (vertices .entry)) (now (edges .entry))) ⌝ }
+{
+    if 1 < mode {
+        return Loaded::Refused(Refusal::plain(UNKNOWN_NUMBER));
+    }
+    let listed = read_vertices(vertices, limits.vertices, ids);
+    match listed {
+        Listed::Refused(r) => Loaded::Refused(r),
+        Listed::Lines(n) => {
+            if has_places(n, ids.len(), oo.len(), io.len()) {
+                return store_edges(edges, limits.edges, mode == 0, &ids[..n], oo, ot, io, is);
+            }
+            Loaded::Refused(Refusal::plain(NO_ROOM))
+        }
+    }
 }
