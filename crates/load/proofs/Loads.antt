@@ -27,7 +27,7 @@ use Rattle.load.specs.declared.lines.Listed.the-variants.{Lines, Refused
 use Rattle.load.specs.Lines.{linesOf, Before, first, after, onward, said}
 use Rattle.load.specs.Files.{vertexTest, identifiers}
 use Rattle.load.specs.Load.{says, Lists, Room, roomOf, isUndirected, vertexRoom, withRoom, arcsRead, listsRead, loaded, Outcome, outcome, outcomeOf, loadCall}
-use Rattle.load.specs.Steps.{idsInto, idsLeft, Blank, Filled, filled, filledBy, filledLeft, outcomeBy, outcomeLeft, Zeros}
+use Rattle.load.specs.Steps.{idsInto, idsLeft, Blank, Filled, filled, filledBy, filledLeft, outcomeBy, outcomeLeft, Zeros, Emptied}
 use Rattle.load.proofs.Values.{Passes, values-accepted}
 use Rattle.load.proofs.Arranges.{put-front, said-gives, said-refuses}
 
@@ -163,3 +163,51 @@ module _ (limits : Limits) (mode : ℕ) (v e : List ℕ) (ids : List ℤ) (oo ot
               rw (le-leb mode 1 h, taken .1, same-room ∙ f)
               (five-areas room list a padded r oo′ ot′ io′ is′ (arcsRead (eqb mode 0) (limits .edges) list e (length ot) (length is))
               (g ∙ ap (λ (l : List ℤ). said (filledBy (length l) (length oo) (length ot) (length io) (length is)) (arcsRead (eqb mode 0) (limits .edges) l e (length ot) (length is))) lent))
+
+-- ---- the whole call: cleared, filled, and cleared again where it was refused
+emptied : {A : Type 0} (z : A) (a b : List A) → b ≡ replicate (length a) z → (length b ≡ length a) × (b ≡ replicate (length b) z)
+emptied z a b e =
+    let l : length b ≡ length a = ap length e ∙ length-replicate (length a) z in
+    (l, e ∙ ap (λ (k : ℕ). replicate k z) (sym l))
+
+module _ (ids : List ℤ) (oo ot io is : List ℕ) (ids₁ : List ℤ) (oo₁ ot₁ io₁ is₁ : List ℕ)
+    (em : Emptied ids oo ot io is ids₁ oo₁ ot₁ io₁ is₁) where
+  pub empty-zeros : Zeros ids₁ oo₁ ot₁ io₁ is₁
+  empty-zeros =
+      record {
+        noIds = emptied (pos 0) ids ids₁ (em .emptyIds) .1;
+        noOutOffsets = emptied 0 oo oo₁ (em .emptyOutOffsets) .1;
+        noOutTargets = emptied 0 ot ot₁ (em .emptyOutTargets) .1;
+        noInOffsets = emptied 0 io io₁ (em .emptyInOffsets) .1;
+        noInSources = emptied 0 is is₁ (em .emptyInSources) .1;
+      }
+
+  abbrev wide : Room
+  wide = roomOf (length ids) (length oo) (length ot) (length io) (length is)
+
+  abbrev filledRoom : Room
+  filledRoom = roomOf (length ids₁) (length oo₁) (length ot₁) (length io₁) (length is₁)
+
+  rooms-agree : filledRoom ≡ wide
+  rooms-agree =
+      rooms (emptied (pos 0) ids ids₁ (em .emptyIds) .0) (emptied 0 oo oo₁ (em .emptyOutOffsets) .0) (emptied 0 ot ot₁ (em .emptyOutTargets) .0)
+      (emptied 0 io io₁ (em .emptyInOffsets) .0) (emptied 0 is is₁ (em .emptyInSources) .0)
+    where
+      rooms : {a b c d e a′ b′ c′ d′ e′ : ℕ} → a ≡ a′ → b ≡ b′ → c ≡ c′ → d ≡ d′ → e ≡ e′ → roomOf a b c d e ≡ roomOf a′ b′ c′ d′ e′
+      rooms p q r s t = cc
+
+  module _ (limits : Limits) (mode : ℕ) (v e : List ℕ) (x : Loaded) (ids₂ : List ℤ) (oo₂ ot₂ io₂ is₂ : List ℕ)
+      (told : outcomeLeft x ids₂ oo₂ ot₂ io₂ is₂ ≡ said (outcomeBy filledRoom) (loaded limits mode filledRoom v e)) where
+    pub load-graph : (size : Size) → x ≡ L.Graph size → outcome (gives size) ids₂ oo₂ ot₂ io₂ is₂ ≡ loadCall limits mode wide v e
+    unfolding loadCall
+    load-graph size q =
+        let g = said-gives (outcomeBy filledRoom) (loaded limits mode filledRoom v e) (outcome (gives size) ids₂ oo₂ ot₂ io₂ is₂) (ap (λ y. outcomeLeft y ids₂ oo₂ ot₂ io₂ is₂) (sym q) ∙ told) in
+        g .2 ∙ ap (outcomeOf filledRoom) (sym (g .1)) ∙ ap (λ (r : Room). outcomeOf r (loaded limits mode r v e)) rooms-agree
+
+    pub load-refused : (r : Refusal) → x ≡ L.Refused r → length ids₂ ≡ length ids₁ → length oo₂ ≡ length oo₁ → length ot₂ ≡ length ot₁ → length io₂ ≡ length io₁ → length is₂ ≡ length is₁
+        → (ids₃ : List ℤ) (oo₃ ot₃ io₃ is₃ : List ℕ) → Emptied ids₂ oo₂ ot₂ io₂ is₂ ids₃ oo₃ ot₃ io₃ is₃ → outcome (refuses r) ids₃ oo₃ ot₃ io₃ is₃ ≡ loadCall limits mode wide v e
+    unfolding loadCall outcomeOf
+    load-refused r q li loo lot lio lis ids₃ oo₃ ot₃ io₃ is₃ f =
+        let g = said-refuses (outcomeBy filledRoom) (loaded limits mode filledRoom v e) r (ap (λ y. outcomeLeft y ids₂ oo₂ ot₂ io₂ is₂) (sym q) ∙ told) in
+        rw (f .emptyIds, f .emptyOutOffsets, f .emptyOutTargets, f .emptyInOffsets, f .emptyInSources, li, loo, lot, lio, lis)
+        (ap (outcomeOf filledRoom) (sym g) ∙ ap (λ (r : Room). outcomeOf r (loaded limits mode r v e)) rooms-agree)

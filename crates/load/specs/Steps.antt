@@ -202,3 +202,11 @@ pub record Zeros (ids : List ℤ) (oo ot io is : List ℕ) : Type 0 where
   pub noOutTargets : ot ≡ cleared ot
   pub noInOffsets : io ≡ cleared io
   pub noInSources : is ≡ cleared is
+
+-- five areas that were cleared
+pub record Emptied (ids : List ℤ) (oo ot io is : List ℕ) (ids′ : List ℤ) (oo′ ot′ io′ is′ : List ℕ) : Type 0 where
+  pub emptyIds : ids′ ≡ clearedZ ids
+  pub emptyOutOffsets : oo′ ≡ cleared oo
+  pub emptyOutTargets : ot′ ≡ cleared ot
+  pub emptyInOffsets : io′ ≡ cleared io
+  pub emptyInSources : is′ ≡ cleared is
