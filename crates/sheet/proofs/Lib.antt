@@ -1,2 +1,3 @@
--- Laws of what is printed.
+-- Laws of what is printed: a job, all jobs, a whole sheet.
 pub mod Ran
+pub mod Whole

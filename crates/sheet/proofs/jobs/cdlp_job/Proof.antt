@@ -2,44 +2,31 @@ use Rattle.sheet.proofs.Ran.{cdlp-put}
 use borrow.Author.Needs.{needs}
 use Rattle.sheet.proofs.jobs.cdlp_job.Statement.{statement}
 use Rattle.sheet.proofs.jobs.cdlp_job.Tie as tie
-use Rattle.sheet.proofs.jobs.cdlp_job.Reads as reads
-use Rattle.sheet.proofs.jobs.cdlp_job.Lts as lts
-use Rattle.cdlp.proofs.cdlp.Reads as cdlp-reads
-use Rattle.sheet.proofs.jobs.put_labels.Reads as put-labels-reads
 
--- src/jobs.rt:152:9
 slice-aggregate-cdlp : tie.Need-slice-aggregate-cdlp
 slice-aggregate-cdlp c = search needs
 
--- src/jobs.rt:153:9
 slice-aggregate-cdlp-2 : tie.Need-slice-aggregate-cdlp-2
 slice-aggregate-cdlp-2 c = search needs
 
--- src/jobs.rt:154:9
 slice-aggregate-cdlp-3 : tie.Need-slice-aggregate-cdlp-3
 slice-aggregate-cdlp-3 c = search needs
 
--- src/jobs.rt:155:9
 slice-aggregate-cdlp-4 : tie.Need-slice-aggregate-cdlp-4
 slice-aggregate-cdlp-4 c = search needs
 
--- src/jobs.rt:144:9
 cdlp-requires : tie.Need-cdlp-requires
 cdlp-requires c κs = search needs
 
--- src/jobs.rt:157:39
 slice-aggregate-put-labels : tie.Need-slice-aggregate-put-labels
 slice-aggregate-put-labels c = search needs
 
--- src/jobs.rt:157:5
 put-labels-requires : tie.Need-put-labels-requires
 put-labels-requires c κs = search needs
 
--- src/jobs.rt:126:1
 same-length : tie.Need-same-length
 same-length c = search needs
 
--- src/jobs.rt:126:1
 returns : tie.Need-returns
 returns c = search (cdlp-put, needs)
 

@@ -2,45 +2,31 @@ use Rattle.sheet.proofs.Ran.{ran-refused, ran-done}
 use borrow.Author.Needs.{needs}
 use Rattle.sheet.proofs.jobs.put_labels.Statement.{statement}
 use Rattle.sheet.proofs.jobs.put_labels.Tie as tie
-use Rattle.sheet.proofs.jobs.put_labels.Reads as reads
-use Rattle.sheet.proofs.jobs.put_labels.Lts as lts
-use Rattle.listing.proofs.put_refused.Reads as put-refused-reads
-use Rattle.listing.proofs.put_head.Reads as put-head-reads
-use Rattle.listing.proofs.put_pairs.Reads as put-pairs-reads
 
--- src/jobs.rt:36:25
 enum-known-x : tie.Need-enum-known-x
 enum-known-x c = search needs
 
--- src/jobs.rt:36:31
 put-refused-requires : tie.Need-put-refused-requires
 put-refused-requires c κs = search needs
 
--- src/jobs.rt:38:33
 enum-told : tie.Need-enum-told
 enum-told c = search needs
 
--- src/jobs.rt:38:17
 put-head-requires : tie.Need-put-head-requires
 put-head-requires c κs = search needs
 
--- src/jobs.rt:39:13
 put-pairs-requires : tie.Need-put-pairs-requires
 put-pairs-requires c κs = search needs
 
--- src/jobs.rt:24:1
 same-length : tie.Need-same-length
 same-length c = search needs
 
--- src/jobs.rt:24:1
 returns : tie.Need-returns
 returns c = search ran-refused
 
--- src/jobs.rt:24:1
 same-length-2 : tie.Need-same-length-2
 same-length-2 c = search needs
 
--- src/jobs.rt:24:1
 returns-2 : tie.Need-returns-2
 returns-2 c = search ran-done
 

@@ -8,10 +8,6 @@ use Rattle.sheet.specs.Jobs.{jobsText}
 use Rattle.sheet.proofs.Ran.{job-moved, jobs-end, jobs-fault, jobs-more}
 use Rattle.sheet.proofs.jobs.run_jobs.Statement.{statement}
 use Rattle.sheet.proofs.jobs.run_jobs.Tie as tie
-use Rattle.sheet.proofs.jobs.run_jobs.Reads as reads
-use Rattle.sheet.proofs.jobs.run_jobs.Lts as lts
-use Rattle.plan.proofs.job.read_job.Reads as read-job-reads
-use Rattle.sheet.proofs.jobs.run_job.Reads as run-job-reads
 
 abbrev Inv-loop : tie.InvT-loop
 Inv-loop size ids out-offsets out-targets in-offsets in-sources s count from out₀ at next₀ place₀ left₀ out next place left =
@@ -21,63 +17,48 @@ Inv-loop size ids out-offsets out-targets in-offsets in-sources s count from out
 abbrev μ-loop : tie.MeasureT-loop
 μ-loop size ids out-offsets out-targets in-offsets in-sources s count from out₀ at next₀ place₀ left₀ out next place left = left
 
--- src/jobs.rt:282:5
 loop-holds : tie.Need-loop-holds Inv-loop μ-loop
 loop-holds c = refl
 
--- src/jobs.rt:283:13
 read-job-requires : tie.Need-read-job-requires Inv-loop μ-loop
 read-job-requires c κs = search needs
 
--- src/jobs.rt:286:17
 enum-told : tie.Need-enum-told Inv-loop μ-loop
 enum-told c = search needs
 
--- src/jobs.rt:286:17
 same-length : tie.Need-same-length Inv-loop μ-loop
 same-length c = search putting-length
 
--- src/jobs.rt:286:17
 returns : tie.Need-returns Inv-loop μ-loop
 returns c = search jobs-fault
 
--- src/jobs.rt:288:27
 enum-known-x : tie.Need-enum-known-x Inv-loop μ-loop
 enum-known-x c = search needs
 
--- src/jobs.rt:297:21
 sub-run-job : tie.Need-sub-run-job Inv-loop μ-loop
 sub-run-job c = omega (arith, job-moved _ _ _ _ _ (c .before .before .before .read-job .ensures) (c .before .x .given .1))
 
--- src/jobs.rt:297:21
 part-run-job-start : tie.Need-part-run-job-start Inv-loop μ-loop
 part-run-job-start c = omega (arith, job-moved _ _ _ _ _ (c .before .before .before .read-job .ensures) (c .before .x .given .1))
 
--- src/jobs.rt:297:21
 part-run-job-end : tie.Need-part-run-job-end Inv-loop μ-loop
 part-run-job-end c = omega (arith, job-moved _ _ _ _ _ (c .before .before .before .read-job .ensures) (c .before .x .given .1))
 
--- src/jobs.rt:289:17
 run-job-requires : tie.Need-run-job-requires Inv-loop μ-loop
 run-job-requires c κs = search needs
 
--- src/jobs.rt:302:17
 sub-left : tie.Need-sub-left Inv-loop μ-loop
 sub-left c = omega arith
 
--- src/jobs.rt:282:5
 loop-less : tie.Need-loop-less Inv-loop μ-loop
 loop-less c = omega arith
 
--- src/jobs.rt:282:5
 loop-again : tie.Need-loop-again Inv-loop μ-loop
 loop-again c = search jobs-more
 
--- src/jobs.rt:264:1
 same-length-2 : tie.Need-same-length-2 Inv-loop μ-loop
 same-length-2 c = search putting-length
 
--- src/jobs.rt:264:1
 returns-2 : tie.Need-returns-2 Inv-loop μ-loop
 returns-2 c = search jobs-end
 
