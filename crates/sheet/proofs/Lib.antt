@@ -1,3 +1,4 @@
 -- Laws of what is printed: a job, all jobs, a whole sheet.
 pub mod Ran
 pub mod Whole
+pub mod Examples
