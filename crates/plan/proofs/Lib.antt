@@ -4,4 +4,5 @@ pub mod Lines
 pub mod Jobs
 pub mod Checks
 pub mod Places
+pub mod Saids
 pub mod Examples

@@ -1,4 +1,6 @@
 -- Laws of what is printed: a job, all jobs, a whole sheet.
 pub mod Ran
 pub mod Whole
+pub mod Lists
+pub mod Lengths
 pub mod Examples
