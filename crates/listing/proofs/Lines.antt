@@ -1,8 +1,7 @@
 -- Laws of the writers of lines, one for each answer of the code. Assumes nothing.
-use Prim.Native.Nat.{ℕ, suc, _+_, _≤_, _<_}
-use mathlib.Core.Path.{_≡_, refl, sym, ap, _∙_}
+use Prim.Native.Nat.{ℕ, _+_, _≤_, _<_}
+use mathlib.Core.Path.{_≡_, refl}
 use mathlib.Core.List.{List, [], _∷_, _++_}
-use native.Mathlib.Omega.{arith}
 use native.Mathlib.Numerals.{add-one}
 use lib.IntN.{ℤ, pos}
 use lib.ListN.{length, getD, drop, drop-of-length-le}
@@ -11,7 +10,7 @@ use Rattle.basis.specs.declared.refusal.Refusal.{Refusal}
 use Rattle.text.specs.Line.{lf, space}
 use Rattle.write.specs.Put.{Written, written, putAt}
 use Rattle.write.specs.Decimal.{decimal, signedText}
-use Rattle.write.proofs.Puts.{put-then, put-as, putting-more, putting-end}
+use Rattle.write.proofs.Puts.{put-then, putting-more, putting-end}
 use Rattle.listing.specs.Listing.{slash, refusedWord, spacedText, numbersText, refusedText, headText, namedText, pairText, fractionText, ratioText, pairLines, ratioLines}
 
 -- ---- two texts or three, one after another

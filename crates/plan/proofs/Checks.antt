@@ -5,7 +5,7 @@ use mathlib.Core.Bool.{Bool, true, false, not, cond}
 use mathlib.Core.List.{List, [], _∷_, _++_}
 use native.Mathlib.Omega.{arith}
 use borrow.Author.Tests.{le-leb, lt-leb, leb-true, leb-false, lt-ltb, le-ltb}
-use lib.Dec.{leb, ltb, eqb}
+use lib.Dec.{leb, eqb}
 use lib.ListN.{length, drop}
 use lib.Seq.{getD-append-seam}
 use Rattle.basis.specs.Refusal.{Said, gives, refuses, at, tooMany, badForm, sheetFile}
@@ -18,8 +18,8 @@ use Rattle.text.specs.Scan.{Scanned, scanned, hasAt, capped, cutWord, countAt, 
 use Rattle.text.specs.declared.count.Counted.{Counted}
 use Rattle.text.specs.declared.count.Counted.the-variants as T
 use Rattle.text.proofs.Bytes.{upTo-cut}
-use Rattle.text.proofs.Words.{Reads, word-has, no-end, count-reads}
-use Rattle.plan.specs.Lines.{onward, sheetFault, inSheet, sheetLine, begins}
+use Rattle.text.proofs.Words.{word-has, no-end, count-reads}
+use Rattle.plan.specs.Lines.{onward, sheetFault, inSheet, begins}
 use Rattle.plan.specs.Jobs.{jobLine, jobSays}
 use Rattle.plan.specs.Sheet.{mostVertices, mostEdges, mostJobs, mostBytes, directedWord, undirectedWord, modeOf, modeLine, limited, countLine, anyOf, nextOf, linePast, linesPast, block, linesOf, section, plan, sections, ended, checked, checkedSays, modeSays, countLineSays, pastSays, sectionSays}
 use Rattle.plan.specs.declared.job.Job.{Job}

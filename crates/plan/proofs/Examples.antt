@@ -1,7 +1,7 @@
 -- Worked examples of a sheet's check, computed. The sheet stands above each, its lines separated by /. Assumes nothing.
 use mathlib.Core.Path.{_≡_, refl}
 use mathlib.Core.Bool.{true, false}
-use mathlib.Core.List.{List, [], _∷_}
+use mathlib.Core.List.{[], _∷_}
 use Rattle.basis.specs.Refusal.{gives, refuses, at}
 use Rattle.basis.specs.Scan.{each, mem}
 use Rattle.text.specs.Word.{within}

@@ -7,24 +7,22 @@ use native.Mathlib.Omega.{arith}
 use lib.IntN.{ℤ}
 use lib.ListN.{length, drop, length-drop}
 use lib.Seq.{drop-drop, drop-append-le}
-use Rattle.basis.specs.Refusal.{Said, gives, refuses, badForm, outOfRange}
+use Rattle.basis.specs.Refusal.{gives, refuses, badForm, outOfRange}
 use Rattle.basis.specs.declared.refusal.Refusal.{Refusal}
 use Rattle.basis.specs.Scan.{mem}
-use Rattle.basis.proofs.Tests.{clash}
 use Rattle.text.specs.Word.{Word, malformed, outside, value, within, identOf}
-use Rattle.text.specs.Line.{lf, lineSays}
-use Rattle.text.specs.Scan.{Scanned, scanned, wellFormed, fieldAt, scanSays, lineOf}
+use Rattle.text.specs.Line.{lf}
+use Rattle.text.specs.Scan.{scanned, wellFormed, fieldAt, scanSays, lineOf}
 use Rattle.text.specs.declared.ident.Scan.{Scan}
 use Rattle.text.specs.declared.ident.Scan.the-variants as S
 use Rattle.text.proofs.Words.{Ends, Reads, field-reads}
 use Rattle.text.proofs.Bytes.{mem-right}
-use Rattle.plan.specs.Lines.{sheetFault, inSheet, sheetLine, begins, isWord}
+use Rattle.plan.specs.Lines.{sheetFault, inSheet, begins}
 use Rattle.plan.specs.Jobs.{bfsWord, cdlpWord, wccWord, lccWord, made, jobOf, jobLine, jobSays}
 use Rattle.plan.specs.Steps.{jobBy, withNumber, numberedAt}
 use Rattle.plan.specs.declared.job.Job.{Job}
 use Rattle.plan.specs.declared.job.Job.the-variants.{Bfs, Wcc, Cdlp, Lcc}
 use Rattle.plan.specs.declared.job.JobLine.{JobLine}
-use Rattle.plan.specs.declared.job.JobLine.the-variants as JL
 use Rattle.plan.proofs.Words.{begins-split, begins-long, begins-cut, begins-word}
 use Rattle.plan.proofs.Lines.{Line, line-said, word-reads, none-reads}
 

@@ -1,24 +1,23 @@
 -- Laws of a sheet's lines: their numbers, and a line by what is scanned of it. Assumes nothing.
-use Prim.Native.Nat.{ℕ, suc, _+_, _≤_, _<_}
+use Prim.Native.Nat.{ℕ, _+_, _≤_, _<_}
 use mathlib.Core.Path.{_≡_, refl, sym, ap, _∙_}
-use mathlib.Core.Bool.{Bool, true, false}
+use mathlib.Core.Bool.{true, false}
 use mathlib.Core.List.{List, [], _∷_, _++_}
 use native.Mathlib.Omega.{arith}
 use native.Mathlib.Numerals.{add-one}
 use borrow.Author.Tests.{eq-eqb, ne-eqb, leb-true, leb-false}
-use lib.Dec.{leb, eqb}
+use lib.Dec.{leb}
 use lib.ListN.{length, getD, take, drop, length-take, drop-of-length-le}
 use lib.Seq.{drop-cons, getD-take}
-use Rattle.basis.specs.Refusal.{Said, gives, refuses, badForm}
 use Rattle.basis.specs.Scan.{mem}
 use Rattle.basis.proofs.Tests.{bool-cases, clash}
-use Rattle.text.specs.Word.{Word, malformed, outside, value}
-use Rattle.text.specs.Line.{LineSaid, line, none, fault, lf, lineSays, lineBy}
-use Rattle.text.specs.Scan.{Scanned, scanned, wellFormed, lineOf}
-use Rattle.text.proofs.Words.{Ends, Reads}
+use Rattle.text.specs.Word.{Word, malformed, value}
+use Rattle.text.specs.Line.{line, lf, lineSays}
+use Rattle.text.specs.Scan.{Scanned, scanned, lineOf}
+use Rattle.text.proofs.Words.{Reads}
 use Rattle.text.proofs.Lines.{line-end, line-reads}
-use Rattle.plan.specs.Lines.{lfs, lineNumber, sheetFault, inSheet, sheetLine, begins, isWord}
-use Rattle.plan.proofs.Words.{begins-split, begins-word, begins-ended, is-word}
+use Rattle.plan.specs.Lines.{lfs, inSheet, sheetLine, begins}
+use Rattle.plan.proofs.Words.{begins-word, begins-ended, is-word}
 
 -- ---- the loop that counts LFs
 module _ (s : List ℕ) (at number i x : ℕ) (inv : number + lfs (drop i (take at s)) ≡ x) where

@@ -1,18 +1,17 @@
 -- What callers stand on: the sections of a plan lie in the sheet, one after another, and so does each job line. Assumes nothing.
-use Prim.Native.Nat.{ℕ, zero, suc, _+_, _≤_, _<_}
-use mathlib.Core.Path.{_≡_, refl, sym, ap, _∙_}
+use Prim.Native.Nat.{ℕ, zero, suc, _≤_, _<_}
+use mathlib.Core.Path.{_≡_, refl}
 use mathlib.Core.Bool.{Bool, true, false, cond}
 use mathlib.Core.List.{List}
 use native.Mathlib.Omega.{arith}
 use borrow.Author.Tests.{leb-true, ltb-false}
 use lib.Dec.{leb, ltb}
 use lib.ListN.{length}
-use Rattle.basis.specs.Refusal.{Said, gives, refuses, at, tooMany, badForm, sheetFile}
-use Rattle.basis.proofs.Tests.{bool-cases}
+use Rattle.basis.specs.Refusal.{Said, gives, refuses, at}
 use Rattle.text.specs.Word.{Word, countOf}
 use Rattle.text.specs.Line.{LineSaid, line, none, fault, lineBy}
 use Rattle.text.proofs.Places.{Moved, Placed, places}
-use Rattle.plan.specs.Lines.{onward, sheetFault, inSheet, sheetLine}
+use Rattle.plan.specs.Lines.{onward, inSheet, sheetLine}
 use Rattle.plan.specs.Jobs.{jobOf}
 use Rattle.plan.specs.Sheet.{mostVertices, mostEdges, mostJobs, mostBytes, modeOf, limited, countLine, anyOf, nextOf, linePast, linesPast, block, linesOf, section, plan, sections, ended, checked}
 use Rattle.plan.specs.declared.sections.Block.{Block}

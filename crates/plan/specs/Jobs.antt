@@ -1,6 +1,6 @@
 -- "Jobs are `bfs ID`, `wcc`, `cdlp N`, `lcc`, their numbers in identifier form."
 use Prim.Native.Nat.{ℕ}
-use mathlib.Core.Bool.{Bool, true, false, cond}
+use mathlib.Core.Bool.{cond}
 use mathlib.Core.List.{List, [], _∷_}
 use lib.ListN.{drop}
 use Rattle.basis.specs.Refusal.{Said, gives, refuses}

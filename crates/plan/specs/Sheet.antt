@@ -8,7 +8,6 @@ use Rattle.basis.specs.Refusal.{Said, gives, refuses, at, tooMany, badForm, she
 use Rattle.text.specs.Word.{Word, malformed, value, countOf}
 use Rattle.plan.specs.Lines.{onward, sheetFault, sheetLine, isWord}
 use Rattle.plan.specs.Jobs.{jobOf}
-use Rattle.plan.specs.declared.job.Job.{Job}
 use Rattle.plan.specs.declared.sections.Block.{Block}
 use Rattle.plan.specs.declared.sections.Plan.{Plan}
 use Rattle.plan.specs.declared.sections.Checked.{Checked}

@@ -1,6 +1,6 @@
 -- How long the texts are. Assumes nothing.
-use Prim.Native.Nat.{ℕ, zero, suc, _+_, _-_, _*_, _/_, _^_, _≤_, _<_}
-use mathlib.Core.Path.{_≡_, refl, sym, ap, _∙_}
+use Prim.Native.Nat.{ℕ, zero, suc, _+_, _-_, _*_, _^_, _≤_, _<_}
+use mathlib.Core.Path.{_≡_, refl}
 use mathlib.Core.Bool.{Bool, true, false, cond}
 use mathlib.Core.List.{List, [], _∷_, _++_}
 use native.Mathlib.Omega.{arith}
@@ -8,29 +8,25 @@ use native.Mathlib.Nat.{div-le-self, mul-le-mul}
 use lib.Dec.{eqb, ltb}
 use lib.IntN.{ℤ, pos, natAbs}
 use lib.Signed.{mag, ltZ}
-use lib.ListN.{length, getD, take, drop, length-append, length-drop}
+use lib.ListN.{length, drop, length-append, length-drop}
 use lib.Seq.{length-take-le}
-use mir.Syntax.{w64}
-use mir.Val.{SFits}
 use Rattle.basis.specs.Refusal.{Said, gives, refuses, plain}
 use Rattle.basis.specs.declared.refusal.Refusal.{Refusal}
 use Rattle.basis.specs.Order.{sameZ}
-use Rattle.basis.specs.Area.{column}
 use Rattle.graph.specs.Sound.{Graph, outward, inward, names, soundGraph}
 use Rattle.graph.specs.Find.{placeIn}
 use Rattle.graph.specs.declared.find.Found.{Found}
 use Rattle.graph.specs.declared.find.Found.the-variants.{At, Missing}
 use Rattle.kernels.specs.Answer.{kernelSays}
-use Rattle.bfs.specs.Depth.{leastFrom, depthOf, depths}
+use Rattle.bfs.specs.Depth.{leastFrom, depthOf}
 use Rattle.bfs.specs.Call.{bfsSays, depthsFrom, bfsCall}
 use Rattle.wcc.specs.Component.{labelOf, wccOf}
 use Rattle.wcc.specs.Promise as W
-use Rattle.cdlp.specs.Label.{times, mostTimes, standing, mostCommon, smallest, smallestOr, nextLabel}
-use Rattle.cdlp.specs.Rounds.{around, labelsAt, nextAt, oneRound, rounds, cdlpOf}
+use Rattle.cdlp.specs.Label.{times, standing, mostCommon, smallest, smallestOr, nextLabel}
+use Rattle.cdlp.specs.Rounds.{labelsAt, nextAt, oneRound, rounds, cdlpOf}
 use Rattle.cdlp.specs.Promise as C
 use Rattle.lcc.specs.Lcc.{either, neighbours, arcsFrom, coefficientAmong, numerator, denominator, numerators, denominators}
 use Rattle.lcc.specs.Ratio.{gcdOf, lowest}
-use Rattle.lcc.specs.Common.{commonCount}
 use Rattle.lcc.specs.Promise.{lccSays, lccCall}
 use Rattle.lcc.proofs.Commons.{count-le}
 use Rattle.lcc.proofs.Coefficients.{those-short}
@@ -102,9 +98,16 @@ spaced-most k n h g = omega (arith, decimal-long k n h g)
 pub refused-most : (r : Refusal) → Brief r → length (refusedText r) ≤ 19
 unfolding refusedText numbersText
 refused-most r b =
-    omega (arith, length-append refusedWord (numbersText r ++ (lf ∷ [])), length-append (numbersText r) (lf ∷ []),
-    length-append (spacedText (r .number)) (spacedText (r .file) ++ spacedText (r .line)), length-append (spacedText (r .file)) (spacedText (r .line)),
-    spaced-most 2 (r .number) (omega arith) (b .number), spaced-most 1 (r .file) (omega arith) (b .file), spaced-most 5 (r .line) (omega arith) (b .line))
+    omega (
+      arith,
+      length-append refusedWord (numbersText r ++ (lf ∷ [])),
+      length-append (numbersText r) (lf ∷ []),
+      length-append (spacedText (r .number)) (spacedText (r .file) ++ spacedText (r .line)),
+      length-append (spacedText (r .file)) (spacedText (r .line)),
+      spaced-most 2 (r .number) (omega arith) (b .number),
+      spaced-most 1 (r .file) (omega arith) (b .file),
+      spaced-most 5 (r .line) (omega arith) (b .line),
+    )
 
 plain-brief : (n : ℕ) → n < 10 ^ 2 → Brief (plain n)
 plain-brief n h = record { number = h; file = omega arith; line = omega arith }
@@ -117,8 +120,13 @@ module _ (n : ℕ) (line listing : List ℕ) (few : n ≤ 1024) (long : length l
   answered-most true false c number h = omega (arith, refused-most _ (plain-brief number h))
   answered-most true true false number h = omega (arith, refused-most _ (plain-brief 8 (omega arith)))
   answered-most true true true number h =
-      omega (arith, length-append (headText line n) listing, length-append line (decimal n ++ (lf ∷ [])), length-append (decimal n) (lf ∷ []),
-      decimal-long 4 n (omega arith) (omega arith))
+      omega (
+        arith,
+        length-append (headText line n) listing,
+        length-append line (decimal n ++ (lf ∷ [])),
+        length-append (decimal n) (lf ∷ []),
+        decimal-long 4 n (omega arith) (omega arith),
+      )
 
 -- ---- the kernels' values
 least-small : (p : ℕ → Bool) (f k : ℕ) → k + f ≤ 1024 → Small (leastFrom p f k)
@@ -195,12 +203,13 @@ module _ (out : ℕ → List ℕ) (ns : List ℕ) (few : length ns ≤ 1024) whe
     where
       by : (t : Bool)
           → Short (cond t (record { numerator = 0; denominator = 1 }) (lowest (arcsFrom out ns ns) (length ns * (length ns - 1))) .numerator)
-            × Short (cond t (record { numerator = 0; denominator = 1 }) (lowest (arcsFrom out ns ns) (length ns * (length ns - 1))) .denominator)
+          × Short (cond t (record { numerator = 0; denominator = 1 }) (lowest (arcsFrom out ns ns) (length ns * (length ns - 1))) .denominator)
       by true = (omega arith, omega arith)
       by false =
-          let p : length ns * (length ns - 1) ≤ length ns * length ns = mul-le-mul (let r : length ns ≤ length ns = omega arith in r) (omega arith) in
-          (omega (arith, square, arcs-most out ns ns, div-le-self (arcsFrom out ns ns) (gcdOf (arcsFrom out ns ns) (length ns * (length ns - 1)))),
-          omega (arith, square, p, div-le-self (length ns * (length ns - 1)) (gcdOf (arcsFrom out ns ns) (length ns * (length ns - 1)))))
+          let p : length ns * (length ns - 1) ≤ length ns * length ns = mul-le-mul (let r : length ns ≤ length ns = omega arith in r) (omega arith) in (
+            omega (arith, square, arcs-most out ns ns, div-le-self (arcsFrom out ns ns) (gcdOf (arcsFrom out ns ns) (length ns * (length ns - 1)))),
+            omega (arith, square, p, div-le-self (length ns * (length ns - 1)) (gcdOf (arcsFrom out ns ns) (length ns * (length ns - 1)))),
+          )
 
 module _ (g : Graph) (ids : All Small (g .ids)) (count : length (g .ids) ≤ 1024) (few : g .vertices ≤ 1024) where
   neighbours-few : (v : ℕ) → length (neighbours (g .vertices) (outward g) (inward g) v) ≤ 1024

@@ -3,4 +3,5 @@ pub mod Ran
 pub mod Whole
 pub mod Lists
 pub mod Lengths
+pub mod Room
 pub mod Examples

@@ -4,8 +4,7 @@ use mathlib.Core.Path.{_≡_, refl, sym, ap, _∙_}
 use mathlib.Core.List.{List, [], _++_}
 use native.Mathlib.Omega.{arith}
 use lib.IntN.{ℤ}
-use lib.ListN.{length}
-use Rattle.basis.specs.Refusal.{Said, gives, refuses}
+use Rattle.basis.specs.Refusal.{gives, refuses}
 use Rattle.basis.specs.declared.refusal.Refusal.{Refusal}
 use Rattle.graph.specs.Sound.{Graph}
 use Rattle.kernels.specs.Answer.{says}

@@ -1,14 +1,14 @@
 -- Laws of the whole: a load's two answers, and a check's. Assumes nothing.
 use Prim.Native.Nat.{ℕ, _≤_}
-use mathlib.Core.Path.{_≡_, refl, sym, ap, _∙_}
-use mathlib.Core.Bool.{Bool, true, false, cond, _&&_}
+use mathlib.Core.Path.{_≡_, sym, ap, _∙_}
+use mathlib.Core.Bool.{Bool}
 use mathlib.Core.List.{List}
 use native.Mathlib.Omega.{arith}
 use borrow.Author.Tests.{leb-true}
-use lib.Dec.{leb, ltb}
+use lib.Dec.{leb}
 use lib.IntN.{ℤ}
-use lib.ListN.{length, take}
-use Rattle.basis.specs.Refusal.{Said, gives, refuses, plain, noRoom, unknownNumber}
+use lib.ListN.{length}
+use Rattle.basis.specs.Refusal.{Said, gives, refuses}
 use Rattle.basis.specs.declared.refusal.Refusal.{Refusal}
 use Rattle.basis.proofs.Tests.{and-first, bool-cases}
 use Rattle.graph.specs.declared.Size.{Size}
@@ -17,7 +17,7 @@ use Rattle.load.specs.declared.Loaded.{Loaded}
 use Rattle.load.specs.declared.Loaded.the-variants as LD
 use Rattle.load.specs.Lines.{onward, said}
 use Rattle.load.specs.Files.{identifiers}
-use Rattle.load.specs.Load.{says, Lists, Room, roomOf, Outcome, outcome, isUndirected, vertexRoom, withRoom, arcsRead, listsRead, loaded, sizeOf, outcomeOf, loadCall}
+use Rattle.load.specs.Load.{says, Lists, Room, Outcome, outcome, isUndirected, vertexRoom, withRoom, arcsRead, listsRead, loaded, sizeOf, outcomeOf, loadCall}
 use Rattle.write.specs.Put.{written, putAt}
 use Rattle.write.proofs.Puts.{put-as}
 use Rattle.plan.specs.declared.sections.Plan.{Plan}
@@ -45,9 +45,9 @@ module _ (limits : Limits) (both : Bool) (room : Room) (v e : List ℕ) where
 
   few-ids : (x : Said (List ℤ))
       → Few room
-        (onward x
-        (λ ids. onward (withRoom (vertexRoom (room .ids) (room .outOffsets) (room .inOffsets) (length ids)) ids)
-        (λ ids. said (λ l. record { ids = ids; arcs = l }) (arcsRead both (limits .edges) ids e (room .outTargets) (room .inSources)))))
+      (onward x
+      (λ ids. onward (withRoom (vertexRoom (room .ids) (room .outOffsets) (room .inOffsets) (length ids)) ids)
+      (λ ids. said (λ l. record { ids = ids; arcs = l }) (arcsRead both (limits .edges) ids e (room .outTargets) (room .inSources)))))
   few-ids (refuses r) = tt
   few-ids (gives ids) =
       bool-cases (vertexRoom (room .ids) (room .outOffsets) (room .inOffsets) (length ids)) _

@@ -2,7 +2,6 @@
 pub mod jobs;
 
 use crate::jobs::run_jobs;
-use graph::Size;
 use listing::put_refused;
 use load::Limits;
 use load::Loaded;

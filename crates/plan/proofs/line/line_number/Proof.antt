@@ -1,7 +1,6 @@
 use Prim.Native.Nat.{_+_, _-_, _≤_}
 use mathlib.Core.Path.{_≡_, refl}
 use native.Mathlib.Omega.{arith}
-use borrow.Author.Needs.{needs}
 use lib.ListN.{take, drop}
 use Rattle.plan.specs.Lines.{lfs, lineNumber}
 use Rattle.plan.proofs.Lines.{number-more, number-on, number-short, number-end}
