@@ -2,10 +2,10 @@
 use Prim.Native.Nat.{ℕ, zero, suc, _+_, _-_, _^_, _≤_, _<_}
 use mathlib.Core.Path.{_≡_, refl, sym, ap, _∙_}
 use mathlib.Core.List.{List, [], _∷_, _++_}
-use mathlib.Core.Bool.{Bool, true, false, cond, _&&_, _||_}
+use mathlib.Core.Bool.{Bool, true, false, cond, _&&_}
 use native.Mathlib.Omega.{arith}
 use native.Mathlib.Nat.{add-zero}
-use borrow.Author.Tests.{eq-eqb, eqb-true, ne-eqb, eqb-false}
+use borrow.Author.Tests.{eq-eqb, eqb-true}
 use lib.Dec.{leb, eqb}
 use lib.ListN.{length, getD, drop, length-drop, length-append}
 use lib.Seq.{getD-drop, getD-append-seam, drop-drop}
@@ -15,7 +15,7 @@ use Rattle.basis.proofs.Tests.{clash, false-of, bool-cases, and-first, and-seco
 use Rattle.basis.proofs.Scans.{each-mem}
 use Rattle.text.specs.Word.{Word, malformed, outside, value, within, isDigit, stepped, runLen, runVal, zeroOf, countOf, rangedOf, signedOf, afterMinus, identOf}
 use Rattle.text.specs.Scan.{Scanned, scanned, wellFormed, hasAt, countAt, signedAt, identAt, closed, fieldAt}
-use Rattle.text.proofs.Bytes.{within-is, no-first, no-zero, first-digit, has-yes, has-below, mem-head, mem-tail, mem-cut}
+use Rattle.text.proofs.Bytes.{no-first, no-zero, first-digit, has-yes, has-below, mem-head, mem-tail}
 use Rattle.text.proofs.Runs.{val-digit, val-stop, len-digit, len-stop}
 
 -- what was scanned is the word w, and stops at q where it is well formed

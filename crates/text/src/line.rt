@@ -40,22 +40,22 @@ pub enum CoefficientLine {
     Line(i64, Decimal, Cursor),
 }
 
-// The decimal from a place to the end of its line, and the place past that line; or that there is none.
+// The decimal that ends its line, and the place past that line; or the place where one should have begun.
 enum Rest {
-    Bad,
+    Bad(usize),
     Value(Decimal, usize),
 }
 
 fn decimal_rest(s: &[u8], at: usize) -> Rest
-    ensures { λ r. ⌜ restSays at r ≡ restAt (now (s .entry)) at ⌝ }
+    ensures { λ r. ⌜ restSays r ≡ restAt (now (s .entry)) at ⌝ }
 {
     let end = line_end(s, at);
     if !has(s, end, LF) {
-        return Rest::Bad;
+        return Rest::Bad(at);
     }
     let x = decimal_of(&s[at..end]);
     match x {
-        DecimalWord::Bad => Rest::Bad,
+        DecimalWord::Bad => Rest::Bad(at),
         DecimalWord::Value(d) => Rest::Value(d, end + 1),
     }
 }
@@ -82,20 +82,21 @@ fn fault_beside(second: Scan) -> usize
     }
 }
 
-fn coefficient_of(c: Cursor, u: i64, from: usize, second: Rest) -> CoefficientLine
-    ensures { λ r. ⌜ coefficientSays r ≡ lineOf (c .at) (beside (value u) (restSays from second)) ⌝ }
+// A coefficient line, likewise.
+fn coefficient_of(c: Cursor, u: i64, second: Rest) -> CoefficientLine
+    ensures { λ r. ⌜ coefficientSays r ≡ lineOf (c .at) (beside (value u) (restSays second)) ⌝ }
 {
     match second {
-        Rest::Bad => CoefficientLine::Fault(BAD_FORM, c),
+        Rest::Bad(_) => CoefficientLine::Fault(BAD_FORM, c),
         Rest::Value(d, next) => CoefficientLine::Line(u, d, Cursor { at: next }),
     }
 }
 
-fn fault_beside_rest(from: usize, second: Rest) -> usize
-    ensures { λ r. ⌜ r ≡ faultBeside (restSays from second .said) ⌝ }
+fn fault_beside_rest(second: Rest) -> usize
+    ensures { λ r. ⌜ r ≡ faultBeside (restSays second .said) ⌝ }
 {
     match second {
-        Rest::Bad => BAD_FORM,
+        Rest::Bad(_) => BAD_FORM,
         Rest::Value(_, _) => OUT_OF_RANGE,
     }
 }
@@ -151,11 +152,8 @@ impl Cursor {
         let x = field(s, at, SPACE);
         match x {
             Scan::Bad(_) => CoefficientLine::Fault(BAD_FORM, self),
-            Scan::Outside(p) => CoefficientLine::Fault(
-                fault_beside_rest(p, decimal_rest(s, p)),
-                self,
-            ),
-            Scan::Value(u, p) => coefficient_of(self, u, p, decimal_rest(s, p)),
+            Scan::Outside(p) => CoefficientLine::Fault(fault_beside_rest(decimal_rest(s, p)), self),
+            Scan::Value(u, p) => coefficient_of(self, u, decimal_rest(s, p)),
         }
     }
 }
