@@ -46,7 +46,7 @@ module _ (n ids oo io : ℕ) where
   places-all h g k = rw (le-leb n ids h, lt-ltb n oo g, lt-ltb n io k)
 
 -- ---- identifiers that were accepted rise
-test-rises : (y z : ℤ) → vertexTest (after y) z ≡ 0 → ltZ y z ≡ true
+pub test-rises : (y z : ℤ) → vertexTest (after y) z ≡ 0 → ltZ y z ≡ true
 test-rises y z h = go (ltZ y z) refl h
   where
     go : (t : Bool) → ltZ y z ≡ t → _≡_ {A = ℕ} (cond t 0 4) 0 → ltZ y z ≡ true
