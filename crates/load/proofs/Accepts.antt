@@ -24,8 +24,8 @@ use Rattle.load.specs.declared.Limits.{Limits}
 use Rattle.load.specs.Lines.{Line, good, bad, linesFrom, linesOf, Before, first, after, onward, said, valuesFrom}
 use Rattle.load.specs.Files.{vertexTest, identifiers, abovePair, isAbove, isThere, edgeTest, edgesOf, allNumbered}
 use Rattle.load.specs.Load.{Lists, Room, isUndirected, vertexRoom, arcRoom, withRoom, arcsRead, listsRead, loaded}
-use Rattle.load.specs.Good.{joined, Says, FileSays, GoodVertices, GoodEdges, GoodLoad}
-use Rattle.load.proofs.Values.{allGood, Passes, Accepted, values-accepted, accepted-values}
+use Rattle.load.specs.Good.{joined, Says, FileSays, allGood, Passes, GoodVertices, GoodEdges, GoodLoad}
+use Rattle.load.proofs.Values.{Accepted, values-accepted, accepted-values}
 use Rattle.load.proofs.Valids.{Tested, test-passed, passed-test}
 use Rattle.load.proofs.Loads.{ids-rise}
 

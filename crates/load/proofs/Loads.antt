@@ -28,7 +28,8 @@ use Rattle.load.specs.Lines.{linesOf, Before, first, after, onward, said
 use Rattle.load.specs.Files.{vertexTest, identifiers}
 use Rattle.load.specs.Load.{says, Lists, Room, roomOf, isUndirected, vertexRoom, withRoom, arcsRead, listsRead, loaded, Outcome, outcome, outcomeOf, loadCall}
 use Rattle.load.specs.Steps.{idsInto, idsLeft, Blank, Filled, filled, filledBy, filledLeft, outcomeBy, outcomeLeft, Zeros, Emptied}
-use Rattle.load.proofs.Values.{Passes, values-accepted}
+use Rattle.load.specs.Good.{Passes}
+use Rattle.load.proofs.Values.{values-accepted}
 use Rattle.load.proofs.Arranges.{put-front, said-gives, said-refuses}
 
 -- ---- places for identifiers and offsets
