@@ -1,0 +1,2 @@
+-- Laws of the writers of lines.
+pub mod Lines

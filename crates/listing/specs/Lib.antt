@@ -1,0 +1,2 @@
+-- The texts of the lines that the desk program prints.
+pub mod Listing

@@ -1,0 +1,53 @@
+-- 01 "Layers, desk program, host call": the lines that the desk program prints, byte for byte.
+use Prim.Native.Nat.{ℕ}
+use mathlib.Core.List.{List, [], _∷_, _++_}
+use lib.IntN.{ℤ}
+use Rattle.basis.specs.declared.refusal.Refusal.{Refusal}
+use Rattle.text.specs.Line.{lf, space}
+use Rattle.write.specs.Decimal.{decimal, signedText}
+
+-- the byte of `/`
+abbrev pub slash : ℕ
+slash = 47
+
+-- "`refused` and the three numbers, one space apart"
+abbrev pub refusedWord : List ℕ
+refusedWord = 114 ∷ 101 ∷ 102 ∷ 117 ∷ 115 ∷ 101 ∷ 100 ∷ []
+
+unfoldable pub spacedText : ℕ → List ℕ
+spacedText n = space ∷ decimal n
+
+unfoldable pub numbersText : Refusal → List ℕ
+numbersText r = spacedText (r .number) ++ (spacedText (r .file) ++ spacedText (r .line))
+
+unfoldable pub refusedText : Refusal → List ℕ
+refusedText r = refusedWord ++ (numbersText r ++ (lf ∷ []))
+
+-- "Each job prints its line, a count line": the line is given with its LF
+unfoldable pub headText : List ℕ → ℕ → List ℕ
+headText line n = line ++ (decimal n ++ (lf ∷ []))
+
+-- "then identifier and value for each vertex": one space between; a coefficient has `/` between its two numbers
+unfoldable pub namedText : ℤ → List ℕ
+namedText id = signedText id ++ (space ∷ [])
+
+unfoldable pub pairText : ℤ → ℤ → List ℕ
+pairText id value = namedText id ++ (signedText value ++ (lf ∷ []))
+
+unfoldable pub fractionText : ℕ → ℕ → List ℕ
+fractionText numerator denominator = decimal numerator ++ (slash ∷ decimal denominator)
+
+unfoldable pub ratioText : ℤ → ℕ → ℕ → List ℕ
+ratioText id numerator denominator = namedText id ++ (fractionText numerator denominator ++ (lf ∷ []))
+
+-- the lines of all vertices, as far as the lists go
+unfoldable pub pairLines : List ℤ → List ℤ → List ℕ
+pairLines [] values = []
+pairLines (id ∷ ids) [] = []
+pairLines (id ∷ ids) (v ∷ values) = pairText id v ++ pairLines ids values
+
+unfoldable pub ratioLines : List ℤ → List ℕ → List ℕ → List ℕ
+ratioLines [] numerators denominators = []
+ratioLines (id ∷ ids) [] denominators = []
+ratioLines (id ∷ ids) (n ∷ numerators) [] = []
+ratioLines (id ∷ ids) (n ∷ numerators) (d ∷ denominators) = ratioText id n d ++ ratioLines ids numerators denominators

@@ -1,0 +1,8 @@
+-- Laws of words and lines of a sheet; `Places` is for callers.
+pub mod Words
+pub mod Lines
+pub mod Jobs
+pub mod Checks
+pub mod Places
+pub mod Saids
+pub mod Examples

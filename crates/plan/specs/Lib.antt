@@ -1,0 +1,5 @@
+-- The meaning of a sheet, in reading order; then what private functions promise.
+pub mod Lines
+pub mod Jobs
+pub mod Sheet
+pub mod Steps

@@ -1,0 +1,125 @@
+-- "`directed` or `undirected`; then three sections, each after its count line: vertices, edges, jobs."
+use Prim.Native.Nat.{ℕ, zero, suc}
+use mathlib.Core.Bool.{Bool, true, false, cond}
+use mathlib.Core.List.{List, [], _∷_}
+use lib.ListN.{length}
+use lib.Dec.{leb, ltb}
+use Rattle.basis.specs.Refusal.{Said, gives, refuses, at, tooMany, badForm, sheetFile}
+use Rattle.text.specs.Word.{Word, malformed, value, countOf}
+use Rattle.plan.specs.Lines.{onward, sheetFault, sheetLine, isWord}
+use Rattle.plan.specs.Jobs.{jobOf}
+use Rattle.plan.specs.declared.sections.Block.{Block}
+use Rattle.plan.specs.declared.sections.Plan.{Plan}
+use Rattle.plan.specs.declared.sections.Checked.{Checked}
+use Rattle.plan.specs.declared.sections.Checked.the-variants as Ch
+use Rattle.plan.specs.declared.sections.Mode.{Mode}
+use Rattle.plan.specs.declared.sections.Mode.the-variants as M
+use Rattle.plan.specs.declared.sections.CountLine.{CountLine}
+use Rattle.plan.specs.declared.sections.CountLine.the-variants as C
+use Rattle.plan.specs.declared.sections.Past.{Past}
+use Rattle.plan.specs.declared.sections.Past.the-variants as P
+use Rattle.plan.specs.declared.sections.Section.{Section}
+use Rattle.plan.specs.declared.sections.Section.the-variants as S
+
+-- "Desk limits: 1,024 vertices, 2,048 edges, 16 jobs, a sheet of 65,536 bytes."
+abbrev pub mostVertices : ℕ
+mostVertices = 1024
+
+abbrev pub mostEdges : ℕ
+mostEdges = 2048
+
+abbrev pub mostJobs : ℕ
+mostJobs = 16
+
+abbrev pub mostBytes : ℕ
+mostBytes = 65536
+
+-- `directed` and `undirected`
+abbrev pub directedWord : List ℕ
+directedWord = 100 ∷ 105 ∷ 114 ∷ 101 ∷ 99 ∷ 116 ∷ 101 ∷ 100 ∷ []
+
+abbrev pub undirectedWord : List ℕ
+undirectedWord = 117 ∷ 110 ∷ directedWord
+
+-- whether the graph is directed, by the bytes of the first line
+unfoldable pub modeOf : List ℕ → Word Bool
+modeOf bs = cond (isWord directedWord bs) (value true) (cond (isWord undirectedWord bs) (value false) malformed)
+
+abbrev pub modeLine : List ℕ → Said (Bool × ℕ)
+modeLine s = sheetLine modeOf s 0
+
+-- "any count above its limit is 1": the count at a place, with the place past its line
+abbrev pub limited : ℕ → List ℕ → ℕ → ℕ × ℕ → Said (ℕ × ℕ)
+limited limit s place c = cond (leb (c .0) limit) (gives c) (refuses (sheetFault s place tooMany))
+
+unfoldable pub countLine : ℕ → List ℕ → ℕ → Said (ℕ × ℕ)
+countLine limit s place = onward (sheetLine countOf s place) (limited limit s place)
+
+-- "enough ended lines per section": of the vertices and edges any bytes will do, since the load reads them
+abbrev pub anyOf : List ℕ → Word (Unit {0})
+anyOf bs = value tt
+
+-- the place past a line of the jobs, or of another section
+abbrev pub nextOf : {A : Type 0} → Said (A × ℕ) → Said ℕ
+nextOf (gives x) = gives (x .1)
+nextOf (refuses r) = refuses r
+
+abbrev pub linePast : Bool → List ℕ → ℕ → Said ℕ
+linePast true s place = nextOf (sheetLine jobOf s place)
+linePast false s place = nextOf (sheetLine anyOf s place)
+
+-- the place past so many lines
+unfoldable pub linesPast : Bool → ℕ → List ℕ → ℕ → Said ℕ
+linesPast jobs zero s place = gives place
+linesPast jobs (suc more) s place = elim (linePast jobs s place) [ gives next ↦ linesPast jobs more s next | refuses r ↦ refuses r ]
+
+abbrev pub block : ℕ → ℕ → ℕ → Block
+block count from to = record { count = count; from = from; to = to }
+
+-- a section: its count line, and then so many lines
+abbrev pub linesOf : Bool → List ℕ → ℕ × ℕ → Said Block
+linesOf jobs s c = onward (linesPast jobs (c .0) s (c .1)) (λ to. gives (block (c .0) (c .1) to))
+
+unfoldable pub section : Bool → ℕ → List ℕ → ℕ → Said Block
+section jobs limit s place = onward (countLine limit s place) (linesOf jobs s)
+
+abbrev pub plan : Bool → Block → Block → Block → Plan
+plan directed vertices edges jobs = record { directed = directed; vertices = vertices; edges = edges; jobs = jobs }
+
+-- "mode, counts, enough ended lines per section, jobs"
+unfoldable pub sections : List ℕ → Said Plan
+sections s =
+    onward (modeLine s)
+    (λ mode. onward (section false mostVertices s (mode .1))
+    (λ vertices. onward (section false mostEdges s (vertices .to))
+    (λ edges. onward (section true mostJobs s (edges .to))
+    (λ jobs. gives (plan (mode .0) vertices edges jobs)))))
+
+-- "Bytes after the last job are 2, at the next line."
+abbrev pub ended : List ℕ → Plan → Said Plan
+ended s p = cond (ltb (p .jobs .to) (length s)) (refuses (sheetFault s (p .jobs .to) badForm)) (gives p)
+
+-- "A sheet is checked for length (1, line 0), then line by line"
+unfoldable pub checked : List ℕ → Said Plan
+checked s = cond (ltb mostBytes (length s)) (refuses (at tooMany sheetFile 0)) (onward (sections s) (ended s))
+
+-- the paper's number and values of each of the code's answers
+abbrev pub checkedSays : Checked → Said Plan
+checkedSays (Ch.Refused r) = refuses r
+checkedSays (Ch.Good p) = gives p
+
+abbrev pub modeSays : Mode → Said (Bool × ℕ)
+modeSays (M.Refused r) = refuses r
+modeSays (M.Directed d next) = gives (d, next)
+
+abbrev pub countLineSays : CountLine → Said (ℕ × ℕ)
+countLineSays (C.Refused r) = refuses r
+countLineSays (C.Count n next) = gives (n, next)
+
+abbrev pub pastSays : Past → Said ℕ
+pastSays (P.Refused r) = refuses r
+pastSays (P.Next next) = gives next
+
+abbrev pub sectionSays : Section → Said Block
+sectionSays (S.Refused r) = refuses r
+sectionSays (S.Lines b) = gives b

@@ -1,0 +1,55 @@
+-- Laws of lists whose members all have a property, and of what is given or refused. Assumes nothing.
+use Prim.Native.Nat.{ℕ, zero, suc, _-_}
+use mathlib.Core.Path.{_≡_, refl}
+use mathlib.Core.Bool.{Bool, true, false, cond}
+use mathlib.Core.List.{List, [], _∷_, _++_}
+use lib.ListN.{length, getD, take, replicate}
+use Rattle.basis.specs.Refusal.{Said, gives, refuses}
+use Rattle.basis.specs.declared.refusal.Refusal.{Refusal}
+use Rattle.basis.specs.Area.{column, padWith, leaves}
+
+-- each member has P
+abbrev pub All : {A : Type 0} → (A → Type 0) → List A → Type 0
+All P [] = Unit {0}
+All P (x ∷ l) = P x × All P l
+
+module _ {A : Type 0} (P : A → Type 0) where
+  pub all-append : (a b : List A) → All P a → All P b → All P (a ++ b)
+  all-append [] b h g = g
+  all-append (x ∷ a) b h g = (h .0, all-append a b (h .1) g)
+
+  pub all-same : (n : ℕ) (x : A) → P x → All P (replicate n x)
+  all-same zero x h = tt
+  all-same (suc n) x h = (h, all-same n x h)
+
+  pub all-take : (n : ℕ) (l : List A) → All P l → All P (take n l)
+  all-take zero l h = tt
+  all-take (suc n) [] h = tt
+  all-take (suc n) (x ∷ l) h = (h .0, all-take n l (h .1))
+
+  pub all-at : (l : List A) (i : ℕ) (d : A) → P d → All P l → P (getD l i d)
+  all-at [] i d g h = g
+  all-at (x ∷ l) zero d g h = h .0
+  all-at (x ∷ l) (suc i) d g h = all-at l i d g (h .1)
+
+  pub all-column : (f : ℕ → A) → ((v : ℕ) → P (f v)) → (s n : ℕ) → All P (column f s n)
+  unfolding column
+  all-column f h s zero = tt
+  all-column f h s (suc n) = (h s, all-column f h (suc s) n)
+
+  pub all-pad : (z : A) (size : ℕ) (l : List A) → P z → All P l → All P (padWith z size l)
+  all-pad z size l g h = all-append l (replicate (size - length l) z) h (all-same (size - length l) z g)
+
+  pub all-left : {B : Type 0} (said : Said B) (z : A) (size : ℕ) (l : List A) → P z → All P l → All P (leaves said z size l)
+  all-left (gives x) z size l g h = all-pad z size l g h
+  all-left (refuses r) z size l g h = all-same size z g
+
+-- what is given has P, a refusal has Q
+abbrev pub Either : {A : Type 0} → (A → Type 0) → (Refusal → Type 0) → Said A → Type 0
+Either P Q (gives x) = P x
+Either P Q (refuses r) = Q r
+
+pub either-cond : {A : Type 0} (P : A → Type 0) (Q : Refusal → Type 0) (t : Bool) (x y : Said A) → (t ≡ true → Either P Q x) → (t ≡ false → Either P Q y)
+    → Either P Q (cond t x y)
+either-cond P Q true x y h g = h refl
+either-cond P Q false x y h g = g refl

@@ -1,0 +1,56 @@
+-- 01 "Layers, desk program, host call": the whole output of the desk program for the bytes of a sheet.
+use Prim.Native.Nat.{ℕ}
+use mathlib.Core.Bool.{Bool, cond}
+use mathlib.Core.List.{List}
+use lib.IntN.{ℤ}
+use lib.ListN.{take}
+use Rattle.basis.specs.Refusal.{Said, gives, refuses}
+use Rattle.graph.specs.declared.Size.{Size}
+use Rattle.graph.specs.Sound.{Graph, lent}
+use Rattle.load.specs.declared.Limits.{Limits}
+use Rattle.load.specs.Load.{Room, roomOf, Outcome, loadCall}
+use Rattle.plan.specs.declared.sections.Block.{Block}
+use Rattle.plan.specs.declared.sections.Plan.{Plan}
+use Rattle.plan.specs.Sheet.{mostVertices, mostEdges, checked}
+use Rattle.listing.specs.Listing.{refusedText}
+use Rattle.sheet.specs.Jobs.{between, jobsText}
+
+-- "Desk limits: 1,024 vertices, 2,048 edges": areas for as many vertices, with one offset more, and for two arcs of each edge
+abbrev pub deskLimits : Limits
+deskLimits = record { vertices = mostVertices; edges = mostEdges }
+
+abbrev pub deskRoom : Room
+deskRoom = roomOf 1024 1025 4096 1025 4096
+
+-- "mode (0 undirected, 1 directed)"
+abbrev pub modeNumber : Bool → ℕ
+modeNumber directed = cond directed 1 0
+
+-- the bytes of a section
+abbrev pub linesIn : Block → List ℕ → List ℕ
+linesIn b s = between (b .from) (b .to) s
+
+-- "Then the load reads the vertex and edge sections as files 1 and 2, lines counted within the section."
+abbrev pub loadOf : List ℕ → Plan → Room → Outcome
+loadOf s p room = loadCall deskLimits (modeNumber (p .directed)) room (linesIn (p .vertices) s) (linesIn (p .edges) s)
+
+-- the graph that a load left in the areas, with the identifiers of its vertices alone
+abbrev pub graphIn : Size → List ℤ → List ℕ → List ℕ → List ℕ → List ℕ → Graph
+graphIn size ids oo ot io is = lent size (take (size .vertices) ids) oo ot io is
+
+-- "A refused sheet or load prints one line": else the jobs print theirs, in their order
+abbrev pub loadText : List ℕ → Plan → Outcome → Said Size → List ℕ
+loadText s p o (gives size) =
+    jobsText (graphIn size (o .ids) (o .outOffsets) (o .outTargets) (o .inOffsets) (o .inSources)) s (p .jobs .count) (p .jobs .from)
+loadText s p o (refuses r) = refusedText r
+
+unfoldable pub planText : List ℕ → Plan → List ℕ
+planText s p = loadText s p (loadOf s p deskRoom) (loadOf s p deskRoom .answer)
+
+-- "A sheet is checked .. Then the load .. Each job prints"
+abbrev pub checkedText : List ℕ → Said Plan → List ℕ
+checkedText s (gives p) = planText s p
+checkedText s (refuses r) = refusedText r
+
+unfoldable pub deskOutput : List ℕ → List ℕ
+deskOutput s = checkedText s (checked s)

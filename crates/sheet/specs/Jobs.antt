@@ -1,0 +1,59 @@
+-- 01 "Layers, desk program, host call": what a job prints.
+use Prim.Native.Nat.{ℕ, zero, suc, _-_}
+use mathlib.Core.List.{List, [], _++_}
+use lib.IntN.{ℤ, pos}
+use lib.ListN.{take, drop, replicate}
+use Rattle.basis.specs.Refusal.{Said, gives, refuses}
+use Rattle.graph.specs.Sound.{Graph}
+use Rattle.bfs.specs.Call.{bfsCall}
+use Rattle.wcc.specs.Promise.{wccCall}
+use Rattle.cdlp.specs.Promise.{cdlpCall}
+use Rattle.lcc.specs.Promise.{lccCall}
+use Rattle.plan.specs.Jobs.{jobLine}
+use Rattle.plan.specs.Sheet.{mostVertices}
+use Rattle.plan.specs.declared.job.Job.{Job}
+use Rattle.plan.specs.declared.job.Job.the-variants.{Bfs, Wcc, Cdlp, Lcc}
+use Rattle.listing.specs.Listing.{refusedText, headText, pairLines, ratioLines}
+
+-- the areas that a kernel is lent: one place for each vertex that a desk graph may have
+abbrev pub zeros : List ℕ
+zeros = replicate mostVertices 0
+
+abbrev pub zerosZ : List ℤ
+zerosZ = replicate mostVertices (pos 0)
+
+-- "Each job prints its line, a count line, then identifier and value for each vertex; a refused job prints only its `refused` line."
+abbrev pub answered : ℕ → List ℕ → Said (Unit {0}) → List ℕ → List ℕ
+answered n line (gives x) listing = headText line n ++ listing
+answered n line (refuses r) listing = refusedText r
+
+-- `bfs ID`, `wcc`, `cdlp N`, `lcc`: the kernel's answer, and what it leaves in its result areas
+unfoldable pub bfsText : Graph → ℤ → List ℕ → List ℕ
+bfsText g root line = let call = bfsCall g root zerosZ zeros in answered (g .vertices) line (call .said) (pairLines (g .ids) (call .depth))
+
+unfoldable pub wccText : Graph → List ℕ → List ℕ
+wccText g line = let call = wccCall g zerosZ zeros zeros in answered (g .vertices) line (call .said) (pairLines (g .ids) (call .result))
+
+unfoldable pub cdlpText : Graph → ℤ → List ℕ → List ℕ
+cdlpText g iterations line =
+    let call = cdlpCall g iterations zerosZ zeros zeros zeros in answered (g .vertices) line (call .said) (pairLines (g .ids) (call .result))
+
+unfoldable pub lccText : Graph → List ℕ → List ℕ
+lccText g line =
+    let call = lccCall g zeros zeros zeros in answered (g .vertices) line (call .said) (ratioLines (g .ids) (call .numerators) (call .denominators))
+
+abbrev pub jobText : Graph → List ℕ → Job → List ℕ
+jobText g line (Bfs root) = bfsText g root line
+jobText g line Wcc = wccText g line
+jobText g line (Cdlp iterations) = cdlpText g iterations line
+jobText g line Lcc = lccText g line
+
+-- the bytes of the sheet from one place to another
+abbrev pub between : ℕ → ℕ → List ℕ → List ℕ
+between from to s = take (to - from) (drop from s)
+
+-- so many jobs from a place on, each with its line; a refused one does not end the run
+unfoldable pub jobsText : Graph → List ℕ → ℕ → ℕ → List ℕ
+jobsText g s zero place = []
+jobsText g s (suc more) place =
+    elim (jobLine s place) [ gives x ↦ jobText g (between place (x .1) s) (x .0) ++ jobsText g s more (x .1) | refuses r ↦ [] ]
