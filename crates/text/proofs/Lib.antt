@@ -5,3 +5,6 @@ pub mod Scans
 pub mod Decimals
 pub mod Words
 pub mod Lines
+pub mod Places
+pub mod Saids
+pub mod Examples

@@ -1,0 +1,187 @@
+-- What callers' loops stand on: a line that is read moves the place forward and within the file, a fault or the end does not move it, and
+-- the numbers that are read are inside the range of i64. Assumes nothing.
+use Prim.Native.Nat.{ℕ, zero, suc, _+_, _-_, _^_, _≤_, _<_}
+use mathlib.Core.Path.{_≡_, refl, sym, ap, _∙_}
+use mathlib.Core.List.{List, [], _∷_, _++_}
+use mathlib.Core.Bool.{Bool, true, false, cond, _&&_}
+use native.Mathlib.Omega.{arith}
+use borrow.Author.Tests.{le-leb, lt-leb, leb-true, leb-false, ltb-true, ltb-false}
+use lib.Dec.{leb, ltb, eqb}
+use lib.IntN.{ℤ, pos}
+use lib.Signed.{mag}
+use lib.Seq.{drop-cons}
+use lib.ListN.{length, getD, drop, length-drop, length-append}
+use Rattle.basis.specs.Refusal.{badForm, outOfRange}
+use Rattle.basis.specs.Scan.{each, mem}
+use Rattle.basis.proofs.Tests.{clash, bool-cases}
+use Rattle.text.specs.Word.{Word, malformed, outside, value, within, isDigit, runLen, runVal, minusOf, rangedOf, zeroOf, countOf, signedOf, afterMinus, identOf}
+use Rattle.text.specs.Decimal.{decimalOf}
+use Rattle.text.specs.Line.{LineSaid, line, none, fault, lf, space, upTo, past, lineSays, lineBy, both, twoOf, vertexLine, edgeLine, coefficientLine}
+use Rattle.text.specs.Scan.{Scanned, scanned, wellFormed, hasAt, countAt, identAt, closed, fieldAt}
+use Rattle.text.specs.declared.decimal.Decimal.{Decimal}
+use Rattle.text.proofs.Bytes.{cut-at, has-below, nothing-past, within-is, first-digit}
+use Rattle.text.proofs.Runs.{len-digit, len-le}
+use Rattle.text.proofs.Scans.{mag-minus}
+use Rattle.text.proofs.Words.{ident-from}
+
+-- from `at` to q, forward and within the file
+pub record Moved (s : List ℕ) (at q : ℕ) : Type 0 where
+  pub forward : at < q
+  pub inside : q ≤ length s
+
+-- what a reader's answer says of the place
+abbrev pub Placed : {A : Type 0} → List ℕ → ℕ → LineSaid A → Type 0
+Placed s at (line v q) = Moved s at q
+Placed s at (none k) = (k ≡ at) × (length s ≤ at)
+Placed s at (fault n k) = (k ≡ at) × (at < length s)
+
+line-placed : {A : Type 0} (s : List ℕ) (at q : ℕ) (w : Word A) → at < length s → Moved s at q → Placed s at (lineSays at q w)
+line-placed s at q malformed h m = (refl, h)
+line-placed s at q outside h m = (refl, h)
+line-placed s at q (value v) h m = m
+
+pub places : {A : Type 0} (word : List ℕ → Word A) (s : List ℕ) (at : ℕ) → Placed s at (lineBy word s at)
+unfolding lineBy
+places word s at =
+    bool-cases (leb (length s) at) _ (λ e. rw e (refl, leb-true (length s) at e))
+    (λ e. let h : at < length s = leb-false (length s) at e in
+    rw e
+    (bool-cases (mem lf (drop at s)) _
+    (λ m. rw m
+    (line-placed s at (at + length (upTo lf (drop at s)) + 1) (word (upTo lf (drop at s))) h
+    (record { forward = omega arith; inside = omega (arith, length-drop at s, ap length (cut-at lf (drop at s) m) ∙ length-append (upTo lf (drop at s)) (lf ∷ past lf (drop at s))) })))
+    (λ m. rw m (refl, h))))
+
+module _ {A : Type 0} (word : List ℕ → Word A) (s : List ℕ) (at : ℕ) (x : LineSaid A) (e : x ≡ lineBy word s at) where
+  placed : Placed s at x
+  placed = rw e (places word s at)
+
+  pub line-moves : (v : A) (q : ℕ) → x ≡ line v q → Moved s at q
+  line-moves v q h = rw h at placed
+
+  pub none-stays : (k : ℕ) → x ≡ none k → (k ≡ at) × (length s ≤ at)
+  none-stays k h = rw h at placed
+
+  pub fault-stays : (n k : ℕ) → x ≡ fault n k → (k ≡ at) × (at < length s)
+  fault-stays n k h = rw h at placed
+
+-- ---- scans: a field and a count move the place
+module _ (s : List ℕ) (at c : ℕ) where
+  pub field-moves : wellFormed (fieldAt s at c .said) ≡ true → Moved s at (fieldAt s at c .next)
+  unfolding fieldAt
+  field-moves h = by (identAt s at) (ident-from s at) h
+    where
+      by : (x : Scanned ℤ) → at ≤ x .next → wellFormed (closed s c x .said) ≡ true → Moved s at (closed s c x .next)
+      by x f h =
+          bool-cases (wellFormed (x .said)) _
+          (λ w. bool-cases (hasAt s (x .next) c) _
+          (λ g. rw (w, g) (record { forward = omega arith; inside = omega (arith, has-below s (x .next) c g) }))
+          (λ g. clash (rw (w, g) at h) refl))
+          (λ w. clash (rw w at h) w)
+
+pub count-moves : (s : List ℕ) (at : ℕ) → wellFormed (countAt s at .said) ≡ true → Moved s at (countAt s at .next)
+unfolding countAt
+count-moves s at =
+    bool-cases (hasAt s at 48) _ (λ e. rw e (λ _. record { forward = omega arith; inside = omega (arith, has-below s at 48 e) }))
+    (λ e. bool-cases (within 49 57 (getD s at 0)) _
+    (λ w. rw (e, w) (λ _. by w))
+    (λ w. rw (e, w) (λ h. clash h refl)))
+  where
+    by : within 49 57 (getD s at 0) ≡ true → Moved s at (at + runLen (drop at s))
+    by w =
+        let b = within-is 49 57 (getD s at 0) w in
+        let l : at < length s = bool-cases (ltb at (length s)) (at < length s) (λ e. ltb-true at (length s) e) (λ e. absurd (omega (arith, nothing-past s at (ltb-false at (length s) e)))) in
+        let q : runLen (drop at s) ≡ 1 + runLen (drop (suc at) s) = ap runLen (drop-cons s at 0 l) ∙ len-digit (getD s at 0) (drop (suc at) s) (first-digit (getD s at 0) w) in
+        record { forward = omega arith; inside = omega (arith, len-le (drop at s), length-drop at s) }
+
+-- ---- the numbers that are read
+-- a word's value, if it has one, has P
+abbrev Has : {A : Type 0} → (A → Type 0) → Word A → Type 0
+Has P malformed = Unit {0}
+Has P outside = Unit {0}
+Has P (value v) = P v
+
+abbrev Small : ℤ → Type 0
+Small z = mag z < 2 ^ 63
+
+ranged-small : (negative : Bool) (n : ℕ) → Has Small (rangedOf negative n)
+ranged-small true n = bool-cases (leb n (2 ^ 63)) _ (λ e. rw e (mag-minus n (leb-true n (2 ^ 63) e))) (λ e. rw e tt)
+ranged-small false n = bool-cases (leb n (2 ^ 63 - 1)) _ (λ e. rw e (let h = leb-true n (2 ^ 63 - 1) e in omega arith)) (λ e. rw e tt)
+
+signed-small : (negative : Bool) (w : Word ℕ) → Has Small (signedOf negative w)
+signed-small negative malformed = tt
+signed-small negative outside = tt
+signed-small negative (value n) = ranged-small negative n
+
+minus-small : (bs : List ℕ) → Has Small (afterMinus bs)
+minus-small [] = tt
+minus-small (b ∷ bs) = by (eqb b 48)
+  where
+    by : (t : Bool) → Has Small (cond t malformed (signedOf true (countOf (b ∷ bs))))
+    by true = tt
+    by false = signed-small true (countOf (b ∷ bs))
+
+pub ident-small : (bs : List ℕ) → Has Small (identOf bs)
+ident-small [] = tt
+ident-small (b ∷ bs) = by (eqb b 45)
+  where
+    by : (t : Bool) → Has Small (cond t (afterMinus bs) (signedOf false (countOf (b ∷ bs))))
+    by true = minus-small bs
+    by false = signed-small false (countOf (b ∷ bs))
+
+-- the values of a line
+abbrev pub LineHas : {A : Type 0} → (A → Type 0) → LineSaid A → Type 0
+LineHas P (line v q) = P v
+LineHas P (none k) = Unit {0}
+LineHas P (fault n k) = Unit {0}
+
+says-has : {A : Type 0} (P : A → Type 0) (at q : ℕ) (w : Word A) → Has P w → LineHas P (lineSays at q w)
+says-has P at q malformed h = tt
+says-has P at q outside h = tt
+says-has P at q (value v) h = h
+
+line-has : {A : Type 0} (P : A → Type 0) (word : List ℕ → Word A) (s : List ℕ) (at : ℕ) → ((bs : List ℕ) → Has P (word bs)) → LineHas P (lineBy word s at)
+unfolding lineBy
+line-has {A} P word s at h = by (leb (length s) at) (mem lf (drop at s))
+  where
+    by : (t u : Bool) → LineHas P (cond t (none at) (cond u (lineSays at (at + length (upTo lf (drop at s)) + 1) (word (upTo lf (drop at s)))) (fault badForm at)))
+    by true u = tt
+    by false true = says-has P at (at + length (upTo lf (drop at s)) + 1) (word (upTo lf (drop at s))) (h (upTo lf (drop at s)))
+    by false false = tt
+
+abbrev Pairs : {A B : Type 0} → (A → Type 0) → (B → Type 0) → A × B → Type 0
+Pairs P Q x = P (x .0) × Q (x .1)
+
+both-has : {A B : Type 0} (P : A → Type 0) (Q : B → Type 0) (v : Word A) (w : Word B) → Has P v → Has Q w → Has (Pairs P Q) (both v w)
+both-has P Q malformed w h k = tt
+both-has P Q outside malformed h k = tt
+both-has P Q outside outside h k = tt
+both-has P Q outside (value b) h k = tt
+both-has P Q (value a) malformed h k = tt
+both-has P Q (value a) outside h k = tt
+both-has P Q (value a) (value b) h k = (h, k)
+
+two-has : {A : Type 0} (Q : A → Type 0) (word : List ℕ → Word A) → ((bs : List ℕ) → Has Q (word bs)) → (bs : List ℕ) → Has (Pairs Small Q) (twoOf identOf word bs)
+unfolding twoOf
+two-has Q word h bs = by (mem space bs)
+  where
+    by : (t : Bool) → Has (Pairs Small Q) (cond t (both (identOf (upTo space bs)) (word (past space bs))) malformed)
+    by true = both-has Small Q (identOf (upTo space bs)) (word (past space bs)) (ident-small (upTo space bs)) (h (past space bs))
+    by false = tt
+
+any-has : {A : Type 0} (w : Word A) → Has (λ _. Unit {0}) w
+any-has malformed = tt
+any-has outside = tt
+any-has (value v) = tt
+
+module _ (s : List ℕ) (at : ℕ) where
+  pub vertex-range : (z : ℤ) (q : ℕ) → vertexLine s at ≡ line z q → mag z < 2 ^ 63
+  vertex-range z q e = rw e at (line-has Small identOf s at ident-small)
+
+  pub edge-range : (u v : ℤ) (q : ℕ) → edgeLine s at ≡ line (u, v) q → (mag u < 2 ^ 63) × (mag v < 2 ^ 63)
+  edge-range u v q e = rw e at (line-has (Pairs Small Small) (twoOf identOf identOf) s at (two-has Small identOf ident-small))
+
+  pub coefficient-range : (u : ℤ) (d : Decimal) (q : ℕ) → coefficientLine s at ≡ line (u, d) q → mag u < 2 ^ 63
+  coefficient-range u d q e =
+      let h : mag u < 2 ^ 63 × Unit {0} = rw e at (line-has (Pairs Small (λ _. Unit {0})) (twoOf identOf decimalOf) s at (two-has (λ _. Unit {0}) decimalOf (λ bs. any-has (decimalOf bs)))) in
+      h .0
