@@ -2,9 +2,9 @@
 -- Assumes nothing.
 use Prim.Native.Nat.{ℕ, zero, suc, _+_, _≤_, _<_}
 use mathlib.Core.Path.{_≡_, refl, sym, ap, _∙_}
-use mathlib.Core.Logic.{⊎-elim}
+use mathlib.Core.Logic.{_⊎_, inl, inr, ⊎-elim}
 use mathlib.Core.Bool.{Bool, true, false, _&&_, _||_}
-use mathlib.Core.List.{List, [], _∷_}
+use mathlib.Core.List.{List, [], _∷_, _++_}
 use native.Mathlib.Omega.{arith}
 use native.Mathlib.Nat.{not-suc-le-zero, le-of-suc-le-suc, eq-or-lt-of-le}
 use native.Mathlib.Numerals.{add-one}
@@ -12,7 +12,7 @@ use lib.ListN.{length, getD}
 use lib.Dec.{eqb, ltb}
 use borrow.Author.Tests.{eq-eqb, ne-eqb, eqb-true, ltb-true, lt-ltb}
 use Rattle.basis.specs.Scan.{every, each, allBelow, mem}
-use Rattle.basis.proofs.Tests.{clash, false-of, same-test, and-first, and-second, and-both, or-first, or-second}
+use Rattle.basis.proofs.Tests.{clash, false-of, same-test, and-first, and-second, and-both, or-first, or-second, or-cases}
 
 -- ---- every number below a bound
 module _ (p : ℕ → Bool) where
@@ -92,3 +92,32 @@ each-mem p (y ∷ l) h x m = by (eqb x y) refl m (each-mem p l (and-second (p y)
     by : (t : Bool) → eqb x y ≡ t → (t || mem x l) ≡ true → (mem x l ≡ true → p x ≡ true) → p x ≡ true
     by true e k f = ap p (eqb-true x y e) ∙ and-first (p y) (each p l) h
     by false e k f = f k
+
+-- ---- members of a longer list and of two lists
+pub mem-none-of : (x : ℕ) → mem x [] ≡ true → ⊥
+unfolding mem
+mem-none-of x m = clash m refl
+
+pub mem-head : (x : ℕ) (l : List ℕ) → mem x (x ∷ l) ≡ true
+unfolding mem
+mem-head x l = or-first (eqb x x) (mem x l) (eq-eqb x x refl)
+
+pub mem-tail : (x y : ℕ) (l : List ℕ) → mem x l ≡ true → mem x (y ∷ l) ≡ true
+unfolding mem
+mem-tail x y l m = or-second (eqb x y) (mem x l) m
+
+pub mem-cases : (x y : ℕ) (l : List ℕ) → mem x (y ∷ l) ≡ true → (x ≡ y) ⊎ (mem x l ≡ true)
+unfolding mem
+mem-cases x y l m = ⊎-elim (λ e. inl (eqb-true x y e)) (λ t. inr t) (or-cases (eqb x y) (mem x l) m)
+
+pub mem-append : (x : ℕ) (a b : List ℕ) → mem x (a ++ b) ≡ (mem x a || mem x b)
+unfolding mem
+mem-append x [] b = refl
+mem-append x (y ∷ a) b = ap (λ (t : Bool). eqb x y || t) (mem-append x a b) ∙ or-assoc (eqb x y) (mem x a) (mem x b)
+  where
+    or-assoc : (r s t : Bool) → (r || (s || t)) ≡ ((r || s) || t)
+    or-assoc true s t = refl
+    or-assoc false s t = refl
+
+pub below-mem : (n : ℕ) (l : List ℕ) → allBelow n l ≡ true → (x : ℕ) → mem x l ≡ true → x < n
+below-mem n l h x m = ltb-true x n (each-mem (λ x. ltb x n) l h x m)

@@ -1,5 +1,6 @@
 -- Laws of tests: what a conjunction of tests says of each, and a test by its two cases. Assumes nothing.
 use mathlib.Core.Path.{_≡_, refl, sym, ap, _∙_}
+use mathlib.Core.Logic.{_⊎_, inl, inr}
 use mathlib.Core.Bool.{Bool, true, false, not, _&&_, _||_, false≢true}
 use borrow.Author.Tests.{not-true, not-false}
 
@@ -42,6 +43,10 @@ or-first s t h = ap (λ (x : Bool). x || t) h
 pub or-second : (s t : Bool) → t ≡ true → (s || t) ≡ true
 or-second true t h = refl
 or-second false t h = h
+
+pub or-cases : (s t : Bool) → (s || t) ≡ true → (s ≡ true) ⊎ (t ≡ true)
+or-cases true t h = inl refl
+or-cases false t h = inr h
 
 -- after `if !f(..)`: what the answer t of a call says of the test b that it promises
 pub failed : (t b : Bool) → t ≡ b → not t ≡ true → b ≡ false

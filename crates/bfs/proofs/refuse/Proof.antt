@@ -1,0 +1,33 @@
+use Rattle.bfs.proofs.Calls.{outcomes}
+use borrow.Author.Needs.{needs}
+use Rattle.bfs.proofs.refuse.Statement.{statement}
+use Rattle.bfs.proofs.refuse.Tie as tie
+
+clear-signed-requires : tie.Need-clear-signed-requires
+clear-signed-requires c κs = search needs
+
+clear-requires : tie.Need-clear-requires
+clear-requires c κs = search needs
+
+refused-requires : tie.Need-refused-requires
+refused-requires c κs = search needs
+
+same-length : tie.Need-same-length
+same-length c = search needs
+
+same-length-2 : tie.Need-same-length-2
+same-length-2 c = search needs
+
+returns : tie.Need-returns
+returns c = outcomes (c .refused .ensures) (c .before .before .before .before .before .before .clear-signed .ensures) (c .before .before .before .clear .ensures)
+
+pub refuse-spec : {M : Type 1} → statement M
+refuse-spec =
+    tie.close
+    (tie.spec
+    clear-signed-requires
+    clear-requires
+    refused-requires
+    same-length
+    same-length-2
+    returns)

@@ -1,0 +1,38 @@
+-- 01 "Kernels" and 000, 2.3.1: depths of breadth-first search, over the arcs that leave each vertex.
+use Prim.Native.Nat.{ℕ, zero, suc}
+use mathlib.Core.Bool.{Bool, true, false}
+use mathlib.Core.List.{List, [], _∷_, _++_}
+use lib.IntN.{ℤ, pos}
+use Rattle.basis.specs.Area.{column}
+use Rattle.basis.specs.Scan.{mem}
+
+-- "Unreachable is 9223372036854775807"
+abbrev pub infinity : ℕ
+infinity = 9223372036854775807
+
+abbrev pub unreachable : ℤ
+unreachable = pos infinity
+
+-- the least of k, k + 1, .. (f of them) that passes a test
+unfoldable pub leastFrom : (ℕ → Bool) → ℕ → ℕ → ℤ
+leastFrom p zero k = unreachable
+leastFrom p (suc f) k = elim (p k) [ true ↦ pos k | false ↦ leastFrom p f (suc k) ]
+
+module _ (out : ℕ → List ℕ) where
+  -- where the arcs from a list of vertices lead
+  unfoldable pub ends : List ℕ → List ℕ
+  ends [] = []
+  ends (u ∷ l) = out u ++ ends l
+
+  -- "The root has depth 0, its outgoing neighbors have depth 1, their outgoing neighbors have depth 2, etc.": where the walks of k arcs end
+  unfoldable pub ring : ℕ → ℕ → List ℕ
+  ring root zero = root ∷ []
+  ring root (suc k) = ends (ring root k)
+
+-- "least hops along outgoing arcs from the root": the first ring that v stands in, of the first n, since a shortest walk meets no vertex twice
+unfoldable pub depthOf : ℕ → (ℕ → List ℕ) → ℕ → ℕ → ℤ
+depthOf n out root v = leastFrom (λ k. mem v (ring out root k)) n 0
+
+-- "labels each vertex of a graph": the depths of vertices 0 to n - 1
+abbrev pub depths : ℕ → (ℕ → List ℕ) → ℕ → List ℤ
+depths n out root = column (depthOf n out root) 0 n
