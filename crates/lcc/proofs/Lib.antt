@@ -1,0 +1,10 @@
+-- Laws of common members, of lowest terms, of a merge, and of the coefficients.
+pub mod Commons
+pub mod Ratios
+pub mod Merges
+pub mod Coefficients
+pub mod Rising
+pub mod Neighbours
+pub mod Calls
+pub mod Meaning
+pub mod Examples
