@@ -1,0 +1,90 @@
+-- What a round asks and gives, vertex by vertex, and that rounds can go on. Assumes nothing.
+use Prim.Native.Nat.{ℕ, _+_, _≤_, _<_}
+use mathlib.Core.Path.{_≡_, refl, sym, ap, ap₂, _∙_, subst}
+use mathlib.Core.List.{List, _++_}
+use native.Mathlib.Omega.{arith}
+use native.Mathlib.Numerals.{add-one}
+use lib.ListN.{length, getD, set, drop, replicate}
+use lib.Dec.{eqb, ltb}
+use Rattle.basis.specs.Area.{column}
+use Rattle.basis.proofs.Areas.{column-none, column-more, column-end}
+use Rattle.graph.specs.Part.{partOf}
+use Rattle.cdlp.specs.Label.{nextLabel}
+use Rattle.cdlp.specs.Rounds.{around, labelsAt, nextAt, oneRound, rounds}
+use Rattle.cdlp.specs.Steps.{Low, Inside, Parts, Board, near, nextNumbers, numbersAfter}
+use Rattle.cdlp.proofs.Names.{rounds-low, rounds-length}
+use Rattle.cdlp.proofs.Lists.{low-append}
+
+-- the first v places of next have the next labels of their vertices
+pub record Filled (io is oo ot labels next₀ next : List ℕ) (v : ℕ) : Type 0 where
+  pub front : next ≡ column (nextAt eqb ltb 0 (near (length labels) io is oo ot) (length labels) labels) 0 v ++ drop v next₀
+
+-- the next label of v from its two parts
+next-of : (io is oo ot labels a b : List ℕ) (v : ℕ) → a ≡ partOf (length labels) io is v → b ≡ partOf (length labels) oo ot v
+    → nextLabel eqb ltb (getD labels v 0) (labelsAt 0 labels (a ++ b)) ≡ nextAt eqb ltb 0 (near (length labels) io is oo ot) (length labels) labels v
+unfolding nextAt around
+next-of io is oo ot labels a b v p q = ap₂ (λ x y. nextLabel eqb ltb (getD labels v 0) (labelsAt 0 labels (x ++ y))) p q
+
+module _ {io is oo ot labels : List ℕ} where
+  -- what `settle` asks of v
+  pub parts-of : {next counts a b C : List ℕ} → Board io is oo ot labels next counts → (v : ℕ) → v < length labels → a ≡ partOf (length labels) io is v → b ≡ partOf (length labels) oo ot v → C ≡ counts → Parts a b labels C
+  parts-of s v h p q e =
+      record {
+        sides = rw (p, q) (s .inside v h);
+        lowLabels = subst (λ (n : ℕ). Low n labels) (sym (s .roomCounts) ∙ sym (ap length e)) (s .lowLabels);
+        fresh = subst (λ (D : List ℕ). D ≡ replicate (length D) 0) (sym e) (s .fresh);
+      }
+
+  pub filled-none : {next : List ℕ} → Filled io is oo ot labels next next 0
+  filled-none {next} = record { front = column-none (nextAt eqb ltb 0 (near (length labels) io is oo ot) (length labels) labels) next }
+
+  pub filled-more : {next₀ counts next a b : List ℕ} {v r : ℕ} → Board io is oo ot labels next₀ counts → v < length labels → Filled io is oo ot labels next₀ next v
+      → a ≡ partOf (length labels) io is v → b ≡ partOf (length labels) oo ot v → r ≡ nextLabel eqb ltb (getD labels v 0) (labelsAt 0 labels (a ++ b))
+      → Filled io is oo ot labels next₀ (set next v r) (v + 1)
+  filled-more {next₀} {counts} {next} {a} {b} {v} {r} s h f p q e =
+      record {
+        front =
+            column-more (nextAt eqb ltb 0 (near (length labels) io is oo ot) (length labels) labels) v next₀ next r (let l = s .roomNext in omega arith) (f .front)
+            (e ∙ next-of io is oo ot labels a b v p q);
+      }
+
+  pub filled-all : {next₀ counts next : List ℕ} {v : ℕ} → Board io is oo ot labels next₀ counts → v ≤ length labels → length labels ≤ v → Filled io is oo ot labels next₀ next v
+      → next ≡ nextNumbers io is oo ot labels
+  unfolding oneRound
+  filled-all {next₀} {counts} {next} {v} s g h f =
+      column-end (nextAt eqb ltb 0 (near (length labels) io is oo ot) (length labels) labels) v (length labels) next₀ next (omega arith)
+      (let l = s .roomNext in omega arith) (f .front)
+
+pub near-low : (n : ℕ) (io is oo ot : List ℕ) → Inside n io is oo ot → (v : ℕ) → v < n → Low n (near n io is oo ot v)
+unfolding around
+near-low n io is oo ot h v l = low-append n (partOf n io is v) (partOf n oo ot v) (h v l .lowIn) (h v l .lowOut)
+
+module _ {io is oo ot L N C : List ℕ} (s : Board io is oo ot L N C) where
+  -- after any number of rounds the next one can be run
+  pub board-on : {L′ N′ C′ : List ℕ} (k : ℕ) → L′ ≡ numbersAfter io is oo ot L k → length N′ ≡ length N → C′ ≡ C → Board io is oo ot L′ N′ C′
+  board-on {L′} k e p q =
+      let nears = near-low (length L) io is oo ot (s .inside) in
+      let len : length L′ ≡ length L = ap length e ∙ rounds-length (near (length L) io is oo ot) (length L) nears L k refl in
+      let low : Low (length L) L′ = rw e (rounds-low (near (length L) io is oo ot) (length L) nears L k refl (s .lowLabels)) in
+      record {
+        inside = subst (λ (n : ℕ). Inside n io is oo ot) (sym len) (s .inside);
+        lowLabels = subst (λ (n : ℕ). Low n L′) (sym len) low;
+        roomNext = p ∙ s .roomNext ∙ sym len;
+        roomCounts = ap length q ∙ s .roomCounts ∙ sym len;
+        fresh = subst (λ (D : List ℕ). D ≡ replicate (length D) 0) (sym q) (s .fresh);
+      }
+
+  -- and the labels are as long as what is copied into them
+  pub copy-room : (L′ N′ N″ : List ℕ) (k : ℕ) → L′ ≡ numbersAfter io is oo ot L k → length N′ ≡ length N → length N″ ≡ length N′ → length L′ ≡ length N″
+  copy-room L′ N′ N″ k e p q = sym (q ∙ board-on {N′ = N′} k e p refl .roomNext)
+
+-- one round more: the labels are what was copied into them, the next labels
+module _ (io is oo ot L : List ℕ) where
+  pub round-on : (L′ M X : List ℕ) (k : ℕ) → L′ ≡ numbersAfter io is oo ot L k → length L′ ≡ length L → M ≡ nextNumbers io is oo ot L′ → X ≡ M
+      → X ≡ numbersAfter io is oo ot L (k + 1)
+  unfolding rounds
+  round-on L′ M X k e l m q = q ∙ m ∙ ap₂ (λ n M. oneRound eqb ltb 0 (near n io is oo ot) n M) l e ∙ rw (add-one k) refl
+
+  pub round-none : L ≡ numbersAfter io is oo ot L 0
+  unfolding rounds
+  round-none = refl

@@ -1,0 +1,150 @@
+-- Labels as vertex numbers and labels as names: rounds on the one are rounds on the other. Assumes nothing.
+use Prim.Native.Nat.{ℕ, zero, suc, _+_, _<_}
+use mathlib.Core.Path.{_≡_, refl, sym, ap, ap₂, _∙_, subst}
+use mathlib.Core.Bool.{Bool, true, false, cond}
+use mathlib.Core.List.{List, [], _∷_}
+use native.Mathlib.Omega.{arith}
+use lib.ListN.{length, getD}
+use lib.Dec.{eqb, ltb}
+use Rattle.basis.specs.Order.{risingBy}
+use Rattle.basis.proofs.Areas.{column-length, column-is}
+use Rattle.basis.proofs.Orders.{Order, less-places, same-places}
+use Rattle.cdlp.specs.Label.{one, larger, times, mostTimes, standing, mostCommon, smallest, smallestOr, nextLabel}
+use Rattle.cdlp.specs.Rounds.{labelsAt, nextAt, oneRound, rounds}
+use Rattle.cdlp.specs.Steps.{Low, itself, upTo}
+use Rattle.cdlp.proofs.Lists.{low-at, labels-low, labels-at, column-low, column-labels}
+
+-- the next label of numbers below n is below n
+standing-low : (n k : ℕ) (ls cs : List ℕ) → Low n cs → Low n (standing eqb k ls cs)
+unfolding standing
+standing-low n k ls [] h = tt
+standing-low n k ls (c ∷ cs) h = go (eqb (times eqb c ls) k) (standing-low n k ls cs (h .1))
+  where
+    go : (t : Bool) → Low n (standing eqb k ls cs) → Low n (cond t (c ∷ standing eqb k ls cs) (standing eqb k ls cs))
+    go true l = (h .0, l)
+    go false l = l
+
+smallest-low : (n a : ℕ) (cs : List ℕ) → a < n → Low n cs → smallest ltb a cs < n
+unfolding smallest
+smallest-low n a [] h g = h
+smallest-low n a (c ∷ cs) h g = smallest-low n (cond (ltb c a) c a) cs (go (ltb c a)) (g .1)
+  where
+    go : (t : Bool) → cond t c a < n
+    go true = g .0
+    go false = h
+
+smallestOr-low : (n own : ℕ) (cs : List ℕ) → own < n → Low n cs → smallestOr ltb own cs < n
+unfolding smallestOr
+smallestOr-low n own [] h g = h
+smallestOr-low n own (c ∷ cs) h g = smallest-low n c cs (g .0) (g .1)
+
+next-low : (n own : ℕ) (ls : List ℕ) → own < n → Low n ls → nextLabel eqb ltb own ls < n
+unfolding nextLabel mostCommon
+next-low n own ls h g = smallestOr-low n own (standing eqb (mostTimes eqb ls ls) ls ls) h (standing-low n (mostTimes eqb ls ls) ls ls g)
+
+module _ (near : ℕ → List ℕ) (n : ℕ) (inside : (v : ℕ) → v < n → Low n (near v)) where
+  round-low : (L : List ℕ) → length L ≡ n → Low n L → Low n (oneRound eqb ltb 0 near n L)
+  unfolding oneRound nextAt
+  round-low L e h =
+      column-low (nextAt eqb ltb 0 near n L) n 0 n n (omega arith)
+      (λ v l. next-low n (getD L v 0) (labelsAt 0 L (near v)) (low-at n L v h (omega arith)) (labels-low n L (near v) (subst (λ (m : ℕ). Low m (near v)) (sym e) (inside v l)) h))
+
+  pub rounds-length : (L : List ℕ) (k : ℕ) → length L ≡ n → length (rounds eqb ltb 0 near n L k) ≡ n
+  unfolding rounds oneRound
+  rounds-length L zero e = e
+  rounds-length L (suc k) e = column-length (nextAt eqb ltb 0 near n (rounds eqb ltb 0 near n L k)) 0 n
+
+  pub rounds-low : (L : List ℕ) (k : ℕ) → length L ≡ n → Low n L → Low n (rounds eqb ltb 0 near n L k)
+  unfolding rounds
+  rounds-low L zero e h = h
+  rounds-low L (suc k) e h = round-low (rounds eqb ltb 0 near n L k) (rounds-length L k e) (rounds-low L k e h)
+
+pub upTo-low : (n : ℕ) → Low n (upTo n)
+unfolding upTo
+upTo-low n = column-low itself n 0 n n (omega arith) (λ v l. l)
+
+-- names that rise: their tests are those of their places
+module _ {B : Type 0} {same less : B → B → Bool} (order : Order same less) (z : B) (F : List B) (r : risingBy less F ≡ true) where
+  abbrev n : ℕ
+  n = length F
+
+  times-named : (x : ℕ) (ls : List ℕ) → x < n → Low n ls → times same (getD F x z) (labelsAt z F ls) ≡ times eqb x ls
+  unfolding times labelsAt
+  times-named x [] h g = refl
+  times-named x (l ∷ ls) h g = ap₂ (λ t k. one t + k) (same-places order z F r x l h (g .0)) (times-named x ls h (g .1))
+
+  most-named : (ls cs : List ℕ) → Low n ls → Low n cs → mostTimes same (labelsAt z F ls) (labelsAt z F cs) ≡ mostTimes eqb ls cs
+  unfolding mostTimes labelsAt
+  most-named ls [] h g = refl
+  most-named ls (c ∷ cs) h g = ap₂ larger (times-named c ls (g .0) h) (most-named ls cs h (g .1))
+
+  standing-named : (k : ℕ) (ls cs : List ℕ) → Low n ls → Low n cs → standing same k (labelsAt z F ls) (labelsAt z F cs) ≡ labelsAt z F (standing eqb k ls cs)
+  unfolding standing labelsAt
+  standing-named k ls [] h g = refl
+  standing-named k ls (c ∷ cs) h g =
+      ap₂ (λ m t. cond (eqb m k) (getD F c z ∷ t) t) (times-named c ls (g .0) h) (standing-named k ls cs h (g .1))
+      ∙ go (eqb (times eqb c ls) k)
+    where
+      go : (t : Bool) → cond t (getD F c z ∷ labelsAt z F (standing eqb k ls cs)) (labelsAt z F (standing eqb k ls cs)) ≡ labelsAt z F (cond t (c ∷ standing eqb k ls cs) (standing eqb k ls cs))
+      go true = refl
+      go false = refl
+
+  smallest-named : (a : ℕ) (cs : List ℕ) → a < n → Low n cs → smallest less (getD F a z) (labelsAt z F cs) ≡ getD F (smallest ltb a cs) z
+  unfolding smallest labelsAt
+  smallest-named a [] h g = refl
+  smallest-named a (c ∷ cs) h g =
+      ap (λ t. smallest less (cond t (getD F c z) (getD F a z)) (labelsAt z F cs)) (less-places order z F r c a (g .0) h)
+      ∙ go (ltb c a) (smallest-named (cond (ltb c a) c a) cs (low (ltb c a)) (g .1))
+    where
+      low : (t : Bool) → cond t c a < n
+      low true = g .0
+      low false = h
+
+      go : (t : Bool) → smallest less (getD F (cond t c a) z) (labelsAt z F cs) ≡ getD F (smallest ltb (cond t c a) cs) z
+          → smallest less (cond t (getD F c z) (getD F a z)) (labelsAt z F cs) ≡ getD F (smallest ltb (cond t c a) cs) z
+      go true e = e
+      go false e = e
+
+  smallestOr-named : (own : ℕ) (cs : List ℕ) → own < n → Low n cs → smallestOr less (getD F own z) (labelsAt z F cs) ≡ getD F (smallestOr ltb own cs) z
+  unfolding smallestOr labelsAt
+  smallestOr-named own [] h g = refl
+  smallestOr-named own (c ∷ cs) h g = smallest-named c cs (g .0) (g .1)
+
+  next-named : (own : ℕ) (ls : List ℕ) → own < n → Low n ls → nextLabel same less (getD F own z) (labelsAt z F ls) ≡ getD F (nextLabel eqb ltb own ls) z
+  unfolding nextLabel mostCommon
+  next-named own ls h g =
+      ap (λ k. smallestOr less (getD F own z) (standing same k (labelsAt z F ls) (labelsAt z F ls))) (most-named ls ls g g)
+      ∙ ap (smallestOr less (getD F own z)) (standing-named (mostTimes eqb ls ls) ls ls g g)
+      ∙ smallestOr-named own (standing eqb (mostTimes eqb ls ls) ls ls) h (standing-low n (mostTimes eqb ls ls) ls ls g)
+
+  labels-named : (L us : List ℕ) → Low (length L) us → labelsAt z (labelsAt z F L) us ≡ labelsAt z F (labelsAt 0 L us)
+  unfolding labelsAt
+  labels-named L [] h = refl
+  labels-named L (u ∷ us) h = ap₂ (λ x t. x ∷ t) (labels-at z F L u (h .0)) (labels-named L us (h .1))
+
+  module _ (near : ℕ → List ℕ) (inside : (v : ℕ) → v < n → Low n (near v)) where
+    round-named : (L : List ℕ) → length L ≡ n → Low n L → oneRound same less z near n (labelsAt z F L) ≡ labelsAt z F (oneRound eqb ltb 0 near n L)
+    unfolding oneRound nextAt
+    round-named L e h =
+        column-labels z F (nextAt same less z near n (labelsAt z F L)) (nextAt eqb ltb 0 near n L) 0 n n (omega arith)
+        (λ v l.
+        let w : v < length L = omega arith in
+        let m : Low (length L) (near v) = subst (λ (k : ℕ). Low k (near v)) (sym e) (inside v l) in
+        ap₂ (nextLabel same less) (labels-at z F L v w) (labels-named L (near v) m)
+        ∙ next-named (getD L v 0) (labelsAt 0 L (near v)) (low-at n L v h w) (labels-low n L (near v) m h))
+
+    rounds-named : (L : List ℕ) (k : ℕ) → length L ≡ n → Low n L → rounds same less z near n (labelsAt z F L) k ≡ labelsAt z F (rounds eqb ltb 0 near n L k)
+    unfolding rounds
+    rounds-named L zero e h = refl
+    rounds-named L (suc k) e h =
+        ap (oneRound same less z near n) (rounds-named L k e h)
+        ∙ round-named (rounds eqb ltb 0 near n L k) (rounds-length near n inside L k e) (rounds-low near n inside L k e h)
+
+    named-all : labelsAt z F (upTo n) ≡ F
+    unfolding upTo
+    named-all = sym (column-labels z F (λ i. getD F i z) itself 0 n n (omega arith) (λ v l. refl)) ∙ column-is (λ i. getD F i z) z F n refl (λ i h. refl)
+
+    -- rounds on vertex numbers, named in the end, are rounds on names
+    pub numbers-named : (k : ℕ) → labelsAt z F (rounds eqb ltb 0 near n (upTo n) k) ≡ rounds same less z near n F k
+    unfolding upTo
+    numbers-named k = sym (rounds-named (upTo n) k (column-length itself 0 n) (upTo-low n)) ∙ ap (λ L. rounds same less z near n L k) named-all

@@ -1,0 +1,97 @@
+-- A whole run on a sound graph: from the vertex numbers, through the rounds, to the identifiers of the labels. Assumes nothing.
+use Prim.Native.Nat.{ℕ, zero, suc, _<_}
+use mathlib.Core.Path.{_≡_, sym, ap, ap₂, _∙_, subst}
+use mathlib.Core.List.{List}
+use native.Mathlib.Omega.{arith}
+use lib.IntN.{ℤ, pos}
+use lib.Signed.{ltZ}
+use lib.ListN.{length, replicate, length-replicate}
+use lib.Dec.{eqb, ltb}
+use Rattle.basis.specs.Order.{sameZ}
+use Rattle.basis.specs.Area.{cleared}
+use Rattle.basis.proofs.Areas.{column-length}
+use Rattle.basis.proofs.Orders.{signed-order}
+use Rattle.graph.specs.declared.Size.{Size}
+use Rattle.graph.specs.Sound.{Graph, lent, inward, outward, names}
+use Rattle.graph.proofs.Sounds.{Sound, sound-of, names-length, inward-rises, inward-below, outward-rises, outward-below}
+use Rattle.cdlp.specs.Rounds.{labelsAt, oneRound, rounds, cdlpOf}
+use Rattle.cdlp.specs.Steps.{Low, Inside, Board, near, numbersAfter, itself, upTo, Ready, Nameable}
+use Rattle.cdlp.proofs.Lists.{low-up, below-low, rising-short, labels-front}
+use Rattle.cdlp.proofs.Names.{rounds-low, rounds-length, upTo-low, numbers-named}
+use Rattle.cdlp.proofs.Boards.{near-low}
+
+-- the arcs of a sound graph stay inside
+pub sound-inside : (g : Graph) → Sound g → Inside (g .vertices) (g .inOffsets) (g .inSources) (g .outOffsets) (g .outTargets)
+sound-inside g s v l =
+    let few = s .fewVertices in
+    let a = rising-short (g .vertices) (inward g v) (inward-rises g s v l) (inward-below g s v l) in
+    let b = rising-short (g .vertices) (outward g v) (outward-rises g s v l) (outward-below g s v l) in
+    record {
+      lowIn = below-low (g .vertices) (inward g v) (inward-below g s v l);
+      lowOut = below-low (g .vertices) (outward g v) (outward-below g s v l);
+      shortIn = omega arith;
+      shortOut = omega arith;
+    }
+
+-- there are as many labels as vertices
+pub cdlp-length : (g : Graph) → Sound g → (k : ℕ) → length (cdlpOf g k) ≡ g .vertices
+unfolding cdlpOf rounds oneRound
+cdlp-length g s zero = names-length g s
+cdlp-length g s (suc k) = column-length _ 0 (g .vertices)
+
+module _ {size : Size} {ids : List ℤ} {oo ot io is : List ℕ} {R : List ℤ} {L N C L₁ C₁ : List ℕ} (x : Ready size ids oo ot io is R L N C)
+    (e₁ : L₁ ≡ upTo (length L)) (e₂ : C₁ ≡ cleared C) where
+  abbrev g : Graph
+  g = lent size ids oo ot io is
+
+  abbrev n : ℕ
+  n = size .vertices
+
+  s : Sound g
+  s = sound-of g (x .sound)
+
+  numbers : L₁ ≡ upTo n
+  numbers = e₁ ∙ ap upTo (x .roomLabels)
+
+  upTo-length : length (upTo n) ≡ n
+  unfolding upTo
+  upTo-length = column-length itself 0 n
+
+  numbers-length : length L₁ ≡ n
+  numbers-length = ap length numbers ∙ upTo-length
+
+  pub run-board : Board io is oo ot L₁ N C₁
+  run-board =
+      let c : length C₁ ≡ length C = ap length e₂ ∙ length-replicate (length C) 0 in
+      record {
+        inside = subst (λ (k : ℕ). Inside k io is oo ot) (sym numbers-length) (sound-inside g s);
+        lowLabels = subst (λ (k : ℕ). Low k L₁) (sym numbers-length) (subst (Low n) (sym numbers) (upTo-low n));
+        roomNext = x .roomNext ∙ sym numbers-length;
+        roomCounts = c ∙ x .roomCounts ∙ sym numbers-length;
+        fresh = e₂ ∙ ap (λ (k : ℕ). replicate k 0) (sym c);
+      }
+
+  module _ {L₂ : List ℕ} (k : ℕ) (e₃ : L₂ ≡ numbersAfter io is oo ot L₁ k) where
+    nears : (v : ℕ) → v < n → Low n (near n io is oo ot v)
+    nears = near-low n io is oo ot (sound-inside g s)
+
+    run : L₂ ≡ rounds eqb ltb 0 (near n io is oo ot) n (upTo n) k
+    run = e₃ ∙ ap₂ (λ j M. rounds eqb ltb 0 (near j io is oo ot) j M k) numbers-length numbers
+
+    low : Low n L₂
+    low = subst (Low n) (sym run) (rounds-low (near n io is oo ot) n nears (upTo n) k upTo-length (upTo-low n))
+
+    pub run-nameable : Nameable ids L₂ R
+    run-nameable =
+        record {
+          lowLabels = low-up n (length ids) L₂ (s .idsRoom) low;
+          roomResult = x .roomResult ∙ sym (ap length run ∙ rounds-length (near n io is oo ot) n nears (upTo n) k upTo-length);
+        }
+
+    pub run-named : {X : List ℤ} → X ≡ labelsAt (pos 0) ids L₂ → X ≡ cdlpOf g k
+    unfolding cdlpOf
+    run-named q =
+        q ∙ labels-front (pos 0) n ids L₂ low ∙ ap (labelsAt (pos 0) (names g)) run
+        ∙ subst (λ (j : ℕ). labelsAt (pos 0) (names g) (rounds eqb ltb 0 (near n io is oo ot) j (upTo j) k) ≡ rounds sameZ ltZ (pos 0) (near n io is oo ot) j (names g) k)
+        (names-length g s)
+        (numbers-named signed-order (pos 0) (names g) (s .idsRise) (near n io is oo ot) (λ v l. subst (λ (j : ℕ). Low j (near n io is oo ot v)) (sym (names-length g s)) (nears v (subst (λ (j : ℕ). v < j) (names-length g s) l))) k)

@@ -1,0 +1,126 @@
+-- What the private functions do and need, on vertex numbers as labels.
+use Prim.Native.Nat.{ℕ, _+_, _≤_, _<_}
+use mathlib.Core.Bool.{true, cond}
+use mathlib.Core.List.{List, [], _∷_}
+use mathlib.Core.Path.{_≡_}
+use lib.IntN.{ℤ}
+use lib.ListN.{length, getD, set, replicate}
+use lib.Dec.{eqb, ltb}
+use Rattle.basis.specs.Area.{column}
+use Rattle.graph.specs.declared.Size.{Size}
+use Rattle.graph.specs.Part.{partOf}
+use Rattle.graph.specs.Sound.{lent, soundGraph}
+use Rattle.cdlp.specs.Rounds.{around, oneRound, rounds}
+use Rattle.cdlp.specs.declared.label.Best.{Best}
+
+-- each number of a list is below n
+abbrev pub Low : ℕ → List ℕ → Type 0
+Low n [] = Unit {0}
+Low n (x ∷ l) = (x < n) × Low n l
+
+-- no count is above k
+abbrev pub Under : ℕ → List ℕ → Type 0
+Under k C = (i : ℕ) → getD C i 0 ≤ k
+
+abbrev pub best : ℕ → ℕ → Best
+best l k = record { label = l; count = k }
+
+-- the best so far, against a label that now stands there k times
+unfoldable pub leading : Best → ℕ → ℕ → Best
+leading b l k = cond (ltb (b .count) k) (best l k) (cond (ltb k (b .count)) b (cond (ltb l (b .label)) (best l k) b))
+
+-- the counts of the labels, and the best so far
+pub record Tally : Type 0 where
+  pub counts : List ℕ
+  pub lead : Best
+
+abbrev pub tally : List ℕ → Best → Tally
+tally C b = record { counts = C; lead = b }
+
+-- one label more
+unfoldable pub counted : ℕ → Tally → Tally
+counted l S = tally (set (S .counts) l (getD (S .counts) l 0 + 1)) (leading (S .lead) l (getD (S .counts) l 0 + 1))
+
+unfoldable pub countedAll : List ℕ → Tally → Tally
+countedAll [] S = S
+countedAll (l ∷ ls) S = countedAll ls (counted l S)
+
+-- the counts of these labels back to zero
+unfoldable pub forgotten : List ℕ → List ℕ → List ℕ
+forgotten [] C = C
+forgotten (l ∷ ls) C = forgotten ls (set C l 0)
+
+-- a part can be walked: its vertices have labels, and the labels have counts
+pub record Walk (part labels counts : List ℕ) : Type 0 where
+  pub lowPart : Low (length labels) part
+  pub lowLabels : Low (length counts) labels
+
+-- and its labels counted: no count wraps
+pub record Heard (part labels counts : List ℕ) : Type 0 where
+  pub walk : Walk part labels counts
+  pub under : Under 65536 counts
+  pub short : length part ≤ 65536
+
+-- the two parts of a vertex of n: vertices below n, and no more of them than a graph may have
+pub record Near (n : ℕ) (inward outward : List ℕ) : Type 0 where
+  pub lowIn : Low n inward
+  pub lowOut : Low n outward
+  pub shortIn : length inward ≤ 65536
+  pub shortOut : length outward ≤ 65536
+
+-- a vertex's two parts, the labels, and counts that are zero
+pub record Parts (inward outward labels counts : List ℕ) : Type 0 where
+  pub sides : Near (length labels) inward outward
+  pub lowLabels : Low (length counts) labels
+  pub fresh : counts ≡ replicate (length counts) 0
+
+-- the arcs of n vertices stay inside
+abbrev pub Inside : ℕ → List ℕ → List ℕ → List ℕ → List ℕ → Type 0
+Inside n io is oo ot = (v : ℕ) → v < n → Near n (partOf n io is v) (partOf n oo ot v)
+
+-- a round can be run: the arcs stay inside, labels are vertex numbers, the other areas are as long, and the counts are zero
+pub record Board (io is oo ot labels next counts : List ℕ) : Type 0 where
+  pub inside : Inside (length labels) io is oo ot
+  pub lowLabels : Low (length labels) labels
+  pub roomNext : length next ≡ length labels
+  pub roomCounts : length counts ≡ length labels
+  pub fresh : counts ≡ replicate (length counts) 0
+
+-- one round, and k rounds, with vertex numbers as labels
+abbrev pub near : ℕ → List ℕ → List ℕ → List ℕ → List ℕ → ℕ → List ℕ
+near n io is oo ot v = around (partOf n io is) (partOf n oo ot) v
+
+abbrev pub nextNumbers : List ℕ → List ℕ → List ℕ → List ℕ → List ℕ → List ℕ
+nextNumbers io is oo ot L = oneRound eqb ltb 0 (near (length L) io is oo ot) (length L) L
+
+abbrev pub numbersAfter : List ℕ → List ℕ → List ℕ → List ℕ → List ℕ → ℕ → List ℕ
+numbersAfter io is oo ot L k = rounds eqb ltb 0 (near (length L) io is oo ot) (length L) L k
+
+-- the vertex numbers 0, 1, .., n - 1
+abbrev pub itself : ℕ → ℕ
+itself v = v
+
+unfoldable pub upTo : ℕ → List ℕ
+upTo n = column itself 0 n
+
+-- the kernel can be run: the graph is sound, and the result and the working areas have one place a vertex
+pub record Ready (size : Size) (ids : List ℤ) (oo ot io is : List ℕ) (result : List ℤ) (labels next counts : List ℕ) : Type 0 where
+  pub sound : soundGraph (lent size ids oo ot io is) ≡ true
+  pub roomResult : length result ≡ size .vertices
+  pub roomLabels : length labels ≡ size .vertices
+  pub roomNext : length next ≡ size .vertices
+  pub roomCounts : length counts ≡ size .vertices
+
+-- the labels can be named: each has an identifier, and each name a place
+pub record Nameable (ids : List ℤ) (labels : List ℕ) (result : List ℤ) : Type 0 where
+  pub lowLabels : Low (length ids) labels
+  pub roomResult : length result ≡ length labels
+
+-- the three working areas
+pub record Worked : Type 0 where
+  pub labels : List ℕ
+  pub next : List ℕ
+  pub counts : List ℕ
+
+abbrev pub worked : List ℕ → List ℕ → List ℕ → Worked
+worked L N C = record { labels = L; next = N; counts = C }
