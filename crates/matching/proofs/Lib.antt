@@ -1,0 +1,6 @@
+-- Laws of matching.
+pub mod Closeness
+pub mod FirstLines
+pub mod Mismatches
+pub mod Readings
+pub mod NumberLines
