@@ -4,3 +4,4 @@ pub mod FirstLines
 pub mod Mismatches
 pub mod Readings
 pub mod NumberLines
+pub mod Judging

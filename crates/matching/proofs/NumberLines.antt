@@ -9,6 +9,8 @@ use lib.Dec.{ltb}
 use lib.IntN.{ℤ, pos}
 use lib.ListN.{length, getD, take, set, length-set}
 use lib.Seq.{take-suc-set}
+use mir.Syntax.{w64}
+use mir.Val.{toZ, ofZ}
 use borrow.Author.Tests.{lt-ltb, le-ltb, ltb-true, ltb-false}
 use Rattle.basis.specs.Refusal.{gives, refuses, at, tooMany, claimFile}
 use Rattle.basis.specs.declared.refusal.Refusal.{Refusal}
@@ -20,11 +22,11 @@ use Rattle.text.specs.Line.{twoOf}
 use Rattle.text.specs.declared.line.Cursor.{Cursor}
 use Rattle.text.specs.declared.line.EdgeLine.{EdgeLine}
 use Rattle.text.specs.declared.line.EdgeLine.the-variants as EL
-use Rattle.text.proofs.Places.{line-moves}
+use Rattle.text.proofs.Places.{line-moves, edge-range}
 use Rattle.matching.specs.declared.reading.Read.the-variants.{Lines, Fault}
 use Rattle.matching.specs.Claim.{numberLines, idsOf, valuesOf}
 use Rattle.matching.specs.Steps.{orElse, coverStep, endLine, WholeOf, ReadOf}
-use Rattle.matching.proofs.FirstLines.{Against, against-none, against-next, against-end}
+use Rattle.matching.proofs.FirstLines.{bits-back, Against, against-none, against-next, against-end}
 use Rattle.matching.proofs.Readings.{Passed, passed-none, passed-next, passed-end, passed-fault, passed-full, passed-over, ids-more, values-more}
 
 -- k lines are done, up to a place: while none of them is incomplete, they are the first k vertices' lines and their values are kept
@@ -63,13 +65,14 @@ module _ (most : ℕ) (ids : List ℤ) (s : List ℕ) where
   module _ {size : ℕ} {claimed : List ℤ} {place k incomplete : ℕ} (h : Numbers most ids s size claimed place k incomplete) where
     -- a claim that ends after k lines
     ended : numberLines most s ≡ gives (h .done) → {l : ℕ} → l ≡ endLine (length ids) k incomplete → ReadOf most ids s size claimed (Lines l)
+    unfolding endLine
     ended e {l} q =
         record {
           tells =
               record {
                 lines = h .done;
                 are = e;
-                first = q ∙ rw endLine (sym (against-end sameZ ids (pos 0) (idsOf (h .done)) k incomplete (h .covers)));
+                first = q ∙ sym (against-end sameZ ids (pos 0) (idsOf (h .done)) k incomplete (h .covers));
                 values = λ z.
                     let f = end-zero (length ids) k incomplete (sym q ∙ z) in
                     let g : k ≡ length ids = omega (arith, h .within (f .0), f .1) in
@@ -90,31 +93,36 @@ module _ (most : ℕ) (ids : List ℤ) (s : List ℕ) where
             kept = h .kept;
           }
 
-      pub numbers-next : (id v : ℤ) (c : Cursor) → x ≡ EL.Line id v c → length ids ≤ size → {id′ v′ : ℤ} → id′ ≡ id → v′ ≡ v
-          → {i : ℕ} → i ≡ coverStep ids k id′ incomplete → {left : List ℤ} → left ≡ cond (ltb k (length ids)) (set claimed k v′) claimed
+      pub numbers-next : (id v : ℤ) (c : Cursor) → x ≡ EL.Line id v c → length ids ≤ size
+          → {i : ℕ} → i ≡ coverStep ids k (toZ w64 (ofZ w64 id)) incomplete → {left : List ℤ} → left ≡ cond (ltb k (length ids)) (set claimed k (toZ w64 (ofZ w64 v))) claimed
           → Numbers most ids s size left (c .at) (k + 1) i
-      numbers-next id v c q room {id′} {v′} p p′ r r′ =
-          let here : claimLine s place ≡ line (id, v) (c .at) = sym e ∙ ap edgeSays q in
+      unfolding coverStep
+      numbers-next id v c q room r r′ =
           record {
             done = h .done ++ ((id, v) ∷ []);
             passed = passed-next (claimLine s) (length s) most (h .passed) l (id, v) (c .at) here (line-moves (twoOf identOf identOf) s place (edgeSays x) e (id, v) (c .at) (ap edgeSays q) .forward);
             covers = rw (ids-more (h .done) (id, v), r, p) covered;
             kept = rw r′ kept′;
-            within = λ z. omega (arith, cover-zero ids k id′ incomplete (sym r ∙ z) .1);
-            stored = λ z. rw (r′, values-more (h .done) (id, v)) (stored′ (cover-zero ids k id′ incomplete (sym r ∙ z)));
+            within = λ z. omega (arith, cover-zero ids k (toZ w64 (ofZ w64 id)) incomplete (sym r ∙ z) .1);
+            stored = λ z. rw (r′, values-more (h .done) (id, v)) (stored′ (cover-zero ids k (toZ w64 (ofZ w64 id)) incomplete (sym r ∙ z)));
           }
         where
+          here : claimLine s place ≡ line (id, v) (c .at)
+          here = sym e ∙ ap edgeSays q
+
+          p : toZ w64 (ofZ w64 id) ≡ id
+          p = bits-back id (edge-range s place id v (c .at) here .0)
+
           covered : Against sameZ ids (idsOf (h .done) ++ (id ∷ [])) (k + 1) (coverStep ids k id incomplete)
-          unfolding coverStep
           covered = against-next sameZ ids (pos 0) (idsOf (h .done)) k incomplete (h .covers) id
 
-          kept′ : length (cond (ltb k (length ids)) (set claimed k v′) claimed) ≡ size
+          kept′ : length (cond (ltb k (length ids)) (set claimed k (toZ w64 (ofZ w64 v))) claimed) ≡ size
           kept′ = bool-cases (ltb k (length ids)) _ (λ t. rw (t, length-set) (h .kept)) (λ t. rw t (h .kept))
 
-          stored′ : (incomplete ≡ 0) × (k < length ids) → take (k + 1) (cond (ltb k (length ids)) (set claimed k v′) claimed) ≡ valuesOf (h .done) ++ (v ∷ [])
+          stored′ : (incomplete ≡ 0) × (k < length ids) → take (k + 1) (cond (ltb k (length ids)) (set claimed k (toZ w64 (ofZ w64 v))) claimed) ≡ valuesOf (h .done) ++ (v ∷ [])
           stored′ f =
               let g : k < length claimed = omega (arith, h .kept, f .1) in
-              rw (lt-ltb k (length ids) (f .1), add-one k) (take-suc-set claimed k v′ g ∙ ap₂ (λ t x. t ++ (x ∷ [])) (h .stored (f .0)) p′)
+              rw (lt-ltb k (length ids) (f .1), add-one k) (take-suc-set claimed k (toZ w64 (ofZ w64 v)) g ∙ ap₂ (λ t x. t ++ (x ∷ [])) (h .stored (f .0)) (bits-back v (edge-range s place id v (c .at) here .1)))
 
     -- no line more is allowed
     module _ (l : most ≤ k) where

@@ -1,3 +1,6 @@
+use lib.Seq.{length-take-le}
+use mathlib.Core.Path.{sym, _∙_}
+use Rattle.matching.proofs.Judging.{judge-short, judge-room, judge-reference, judge-kept, judge-lengths, judge-done}
 use borrow.Author.Needs.{needs}
 use Rattle.matching.proofs.numbers.judge_numbers.Statement.{statement}
 use Rattle.matching.proofs.numbers.judge_numbers.Tie as tie
@@ -27,27 +30,27 @@ same-length c = search needs
 
 -- src/numbers.rt:104:9
 returns : tie.Need-returns
-returns c = ?
+returns c = search judge-short
 
 -- src/numbers.rt:106:9
 read-numbers-requires : tie.Need-read-numbers-requires
-read-numbers-requires c κs = ?
+read-numbers-requires c κs = search judge-room
 
 -- src/numbers.rt:107:40
 slice-aggregate-judged-on : tie.Need-slice-aggregate-judged-on
-slice-aggregate-judged-on c = ?
+slice-aggregate-judged-on c = sym (length-take-le _ _ (search judge-reference))
 
 -- src/numbers.rt:107:57
 slice-reshare-prefix-judged-on : tie.Need-slice-reshare-prefix-judged-on
-slice-reshare-prefix-judged-on c = ?
+slice-reshare-prefix-judged-on c = search judge-kept
 
 -- src/numbers.rt:107:57
 slice-aggregate-judged-on-2 : tie.Need-slice-aggregate-judged-on-2
-slice-aggregate-judged-on-2 c = ?
+slice-aggregate-judged-on-2 c = sym (length-take-le _ _ (search judge-kept))
 
 -- src/numbers.rt:107:9
 judged-on-requires : tie.Need-judged-on-requires
-judged-on-requires c κs = ?
+judged-on-requires c κs = search judge-lengths
 
 -- src/numbers.rt:108:5
 clear-signed-requires-2 : tie.Need-clear-signed-requires-2
@@ -59,7 +62,7 @@ same-length-2 c = search needs
 
 -- src/numbers.rt:91:1
 returns-2 : tie.Need-returns-2
-returns-2 c = ?
+returns-2 c = search judge-done
 
 pub judge-numbers-spec : {M : Type 1} → statement M
 judge-numbers-spec =

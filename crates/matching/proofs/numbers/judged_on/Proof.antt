@@ -1,3 +1,4 @@
+use Rattle.matching.proofs.Judging.{read-fault, read-incomplete, read-complete}
 use borrow.Author.Needs.{needs}
 use Rattle.matching.proofs.numbers.judged_on.Statement.{statement}
 use Rattle.matching.proofs.numbers.judged_on.Tie as tie
@@ -16,7 +17,7 @@ enum-known-read-2 c = search needs
 
 -- src/numbers.rt:73:17
 returns : tie.Need-returns
-returns c = ?
+returns c = search read-incomplete
 
 -- src/numbers.rt:75:27
 mismatch-requires : tie.Need-mismatch-requires
@@ -28,11 +29,11 @@ verdict-of-requires c κs = search needs
 
 -- src/numbers.rt:65:1
 returns-2 : tie.Need-returns-2
-returns-2 c = ?
+returns-2 c = search read-fault
 
 -- src/numbers.rt:65:1
 returns-3 : tie.Need-returns-3
-returns-3 c = ?
+returns-3 c = search read-complete
 
 pub judged-on-spec : {M : Type 1} → statement M
 judged-on-spec =

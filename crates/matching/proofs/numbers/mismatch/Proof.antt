@@ -1,3 +1,4 @@
+use Rattle.matching.proofs.Judging.{by-exact, by-equivalence}
 use borrow.Author.Needs.{needs}
 use Rattle.matching.proofs.numbers.mismatch.Statement.{statement}
 use Rattle.matching.proofs.numbers.mismatch.Tie as tie
@@ -24,11 +25,11 @@ first-unlike-requires c κs = search needs
 
 -- src/numbers.rt:41:1
 returns : tie.Need-returns
-returns c = ?
+returns c = search by-exact
 
 -- src/numbers.rt:41:1
 returns-2 : tie.Need-returns-2
-returns-2 c = ?
+returns-2 c = search by-equivalence
 
 pub mismatch-spec : {M : Type 1} → statement M
 mismatch-spec =
