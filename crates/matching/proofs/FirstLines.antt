@@ -1,6 +1,6 @@
 -- Laws of first lines: of two lists side by side, in two areas or with one of them arriving line by line; and of places that fail a test. Assumes nothing.
 use mathlib.Core.Path.{_≡_, refl, sym, ap, ap₂, _∙_}
-use mathlib.Core.Bool.{Bool, true, false, cond, _&&_}
+use mathlib.Core.Bool.{Bool, true, false, not, cond, _&&_}
 use mathlib.Core.List.{List, [], _∷_, _++_, append-assoc, append-nil}
 use Prim.Native.Nat.{ℕ, zero, suc, _+_, _-_, _^_, _≤_, _<_}
 use native.Mathlib.Numerals.{add-one}
@@ -10,12 +10,12 @@ use lib.IntN.{ℤ, pos}
 use lib.Signed.{mag}
 use lib.ListN.{length, getD, drop, set, drop-of-length-le}
 use lib.Seq.{drop-cons}
-use borrow.Author.Tests.{lt-ltb, le-ltb, le-leb, lt-leb, ltb-true, ltb-false}
+use borrow.Author.Tests.{lt-ltb, le-ltb, le-leb, lt-leb, ltb-true, ltb-false, leb-true}
 use mir.Syntax.{w64}
 use mir.Val.{toZ, ofZ, hbits}
 use mir.Facts.{toZ-ofZ}
 use Rattle.basis.specs.Order.{sameZ}
-use Rattle.basis.proofs.Tests.{bool-cases}
+use Rattle.basis.proofs.Tests.{bool-cases, held, and-first, and-second}
 use Rattle.matching.specs.Verdict.{firstLine, failingLine}
 use Rattle.matching.specs.Steps.{orElse, placeLine, coverStep, endLine}
 
@@ -92,7 +92,7 @@ module _ (p : ℕ → Bool) (n i : ℕ) where
   fails-later l h = let e : n - i ≡ suc (n - (i + 1)) = omega arith in rw (e, h)
 
 -- ---- what the functions of one line answer
-or-kept : (k l : ℕ) → (k ≡ 0 → ⊥) → k ≡ orElse k l
+pub or-kept : (k l : ℕ) → (k ≡ 0 → ⊥) → k ≡ orElse k l
 or-kept zero l h = absurd (h refl)
 or-kept (suc k) l h = refl
 
@@ -148,6 +148,14 @@ module _ (n first second : ℕ) where
 
   pub room-rest : n ≤ first → leb n second ≡ (leb n first && leb n second)
   room-rest h = rw (le-leb n first h)
+
+  -- what the answer t of both tests says
+  module _ {t : Bool} (e : t ≡ (leb n first && leb n second)) (f : not t ≡ false) where
+    pub room-first : n ≤ first
+    room-first = leb-true n first (and-first (leb n first) (leb n second) (held t _ e f))
+
+    pub room-second : n ≤ second
+    room-second = leb-true n second (and-second (leb n first) (leb n second) (held t _ e f))
 
 -- two signed numbers that went through the machine's bits
 pub same-read : {x y x′ y′ : ℤ} {t : Bool} → x′ ≡ x → y′ ≡ y → t ≡ sameZ x′ y′ → t ≡ sameZ x y

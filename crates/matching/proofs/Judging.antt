@@ -11,8 +11,8 @@ use lib.Seq.{length-take-le}
 use Rattle.basis.specs.Refusal.{Said, gives, refuses, plain, noRoom}
 use Rattle.basis.specs.declared.refusal.Refusal.{Refusal}
 use Rattle.basis.specs.Area.{clearedZ}
-use Rattle.basis.proofs.Tests.{failed, held, and-first, and-second}
-use borrow.Author.Tests.{leb-true}
+use Rattle.basis.proofs.Tests.{failed, held}
+use Rattle.matching.proofs.FirstLines.{room-first, room-second}
 use Rattle.matching.specs.declared.judged.Judged.{Judged}
 use Rattle.matching.specs.declared.numbers.Rule.{Rule}
 use Rattle.matching.specs.declared.numbers.Rule.the-variants.{Exact, Equivalence}
@@ -20,7 +20,7 @@ use Rattle.matching.specs.declared.reading.Read.{Read}
 use Rattle.matching.specs.declared.reading.Read.the-variants.{Lines, Fault}
 use Rattle.matching.specs.Claim.{numberLines, idsOf, valuesOf}
 use Rattle.matching.specs.Verdict.{Verdict, verdict, says, unequalLine, unlikeLine, mismatchLine, verdictOf, incompleteLine, judgedBy}
-use Rattle.matching.specs.Numbers.{outcome, numbersCall}
+use Rattle.matching.specs.Calls.{outcome, numbersCall}
 use Rattle.matching.specs.Steps.{ReadAs, ReadOf, readJudged}
 
 -- ---- by the first incomplete line and the first mismatch
@@ -63,12 +63,6 @@ module _ (rule : Rule) (most : ℕ) (ids reference : List ℤ) (s : List ℕ) (c
   unfolding numbersCall
   judge-short f r q left g = rw (failed t _ e f, q, g)
 
-  pub judge-room : not t ≡ false → length ids ≤ length claimed
-  judge-room f = leb-true (length ids) (length claimed) (and-second (leb (length ids) (length reference)) (leb (length ids) (length claimed)) (held t _ e f))
-
-  pub judge-reference : not t ≡ false → length ids ≤ length reference
-  judge-reference f = leb-true (length ids) (length reference) (and-first (leb (length ids) (length reference)) (leb (length ids) (length claimed)) (held t _ e f))
-
   -- what was read says the same as the definition
   module _ (mid : List ℤ) where
     read-as : (read : Read) → ReadAs most ids s mid read
@@ -84,11 +78,11 @@ module _ (rule : Rule) (most : ℕ) (ids reference : List ℤ) (s : List ℕ) (c
         by (suc i) p v = rw (← p)
 
     pub judge-kept : not t ≡ false → (read : Read) → ReadOf most ids s (length claimed) mid read → length ids ≤ length mid
-    judge-kept f read h = omega (arith, judge-room f, h .kept)
+    judge-kept f read h = omega (arith, room-second (length ids) (length reference) (length claimed) e f, h .kept)
 
     pub judge-lengths : not t ≡ false → (read : Read) → ReadOf most ids s (length claimed) mid read
         → length (take (length ids) reference) ≡ length (take (length ids) mid)
-    judge-lengths f read h = length-take-le _ _ (judge-reference f) ∙ sym (length-take-le _ _ (judge-kept f read h))
+    judge-lengths f read h = length-take-le _ _ (room-first (length ids) (length reference) (length claimed) e f) ∙ sym (length-take-le _ _ (judge-kept f read h))
 
     pub judge-done : not t ≡ false → (read : Read) → ReadOf most ids s (length claimed) mid read
         → (j : Judged) → says j ≡ readJudged rule (take (length ids) reference) (take (length ids) mid) read → (left : List ℤ) → left ≡ clearedZ mid

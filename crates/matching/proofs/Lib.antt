@@ -4,4 +4,5 @@ pub mod FirstLines
 pub mod Mismatches
 pub mod Readings
 pub mod NumberLines
+pub mod DecimalLines
 pub mod Judging

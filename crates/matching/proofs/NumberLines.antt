@@ -45,7 +45,7 @@ cover-zero ids k id zero e =
     bool-cases (ltb k (length ids)) _ (λ l. (refl, ltb-true k (length ids) l)) (λ l. absurd (let f : k + 1 ≡ 0 = rw l at e in omega arith))
 cover-zero ids k id (suc i) e = absurd (omega arith)
 
-end-zero : (n k incomplete : ℕ) → endLine n k incomplete ≡ 0 → (incomplete ≡ 0) × (n ≤ k)
+pub end-zero : (n k incomplete : ℕ) → endLine n k incomplete ≡ 0 → (incomplete ≡ 0) × (n ≤ k)
 unfolding endLine
 end-zero n k zero e = bool-cases (ltb k n) _ (λ l. absurd (let f : k + 1 ≡ 0 = rw l at e in omega arith)) (λ l. (refl, ltb-false k n l))
 end-zero n k (suc i) e = absurd (omega arith)

@@ -2,5 +2,5 @@
 pub mod Close
 pub mod Claim
 pub mod Verdict
-pub mod Numbers
+pub mod Calls
 pub mod Steps

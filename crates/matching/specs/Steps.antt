@@ -13,6 +13,8 @@ use Rattle.matching.specs.declared.close.Order.the-variants.{Less, Equal
 use Rattle.matching.specs.declared.reading.Read.{Read}
 use Rattle.matching.specs.declared.reading.Read.the-variants.{Lines, Fault}
 use Rattle.matching.specs.declared.numbers.Rule.{Rule}
+use Rattle.text.specs.declared.decimal.Decimal.{Decimal}
+use Rattle.matching.specs.Calls.{nearWithin, fractionAt}
 use Rattle.matching.specs.Claim.{numberLines, idsOf, valuesOf}
 use Rattle.matching.specs.Verdict.{Verdict, incompleteLine, mismatchLine, verdictOf}
 
@@ -41,6 +43,9 @@ placeLine n k t = cond (ltb k n) (cond t 0 (k + 1)) (k + 1)
 
 unfoldable pub coverStep : List ℤ → ℕ → ℤ → ℕ → ℕ
 coverStep ids k id incomplete = orElse incomplete (placeLine (length ids) k (sameZ (getD ids k (pos 0)) id))
+
+unfoldable pub nearStep : ℕ → List ℕ → List ℕ → ℕ → Decimal → ℕ → ℕ
+nearStep n nums dens k s mismatch = orElse mismatch (placeLine n k (nearWithin (fractionAt nums dens k) s))
 
 -- the end of a claim after k lines, of n
 unfoldable pub endLine : ℕ → ℕ → ℕ → ℕ

@@ -13,7 +13,7 @@ ghost use lib.ListN.{length};
 ghost use lib.Dec.{leb};
 ghost use Rattle.basis.specs.Refusal.{gives};
 ghost use Rattle.matching.specs.Verdict.{says, unequalLine, mismatchLine, verdictOf};
-ghost use Rattle.matching.specs.Numbers.{outcome, numbersCall};
+ghost use Rattle.matching.specs.Calls.{outcome, numbersCall};
 ghost use Rattle.matching.specs.Steps.{readJudged};
 
 // 000's methods for numbers: exact match, for BFS and CDLP, and equivalence match, for WCC.

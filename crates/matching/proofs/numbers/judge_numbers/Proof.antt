@@ -1,6 +1,7 @@
+use Rattle.matching.proofs.FirstLines.{room-first, room-second}
 use lib.Seq.{length-take-le}
 use mathlib.Core.Path.{sym, _∙_}
-use Rattle.matching.proofs.Judging.{judge-short, judge-room, judge-reference, judge-kept, judge-lengths, judge-done}
+use Rattle.matching.proofs.Judging.{judge-short, judge-kept, judge-lengths, judge-done}
 use borrow.Author.Needs.{needs}
 use Rattle.matching.proofs.numbers.judge_numbers.Statement.{statement}
 use Rattle.matching.proofs.numbers.judge_numbers.Tie as tie
@@ -34,11 +35,11 @@ returns c = search judge-short
 
 -- src/numbers.rt:106:9
 read-numbers-requires : tie.Need-read-numbers-requires
-read-numbers-requires c κs = search judge-room
+read-numbers-requires c κs = search room-second
 
 -- src/numbers.rt:107:40
 slice-aggregate-judged-on : tie.Need-slice-aggregate-judged-on
-slice-aggregate-judged-on c = sym (length-take-le _ _ (search judge-reference))
+slice-aggregate-judged-on c = sym (length-take-le _ _ (search room-first))
 
 -- src/numbers.rt:107:57
 slice-reshare-prefix-judged-on : tie.Need-slice-reshare-prefix-judged-on

@@ -28,3 +28,23 @@ numbersCall rule most ids reference s claimed =
     (judgedBy ids (mismatchLine rule (take (length ids) reference)) (numberLines most s))
     (refuses (plain noRoom)))
     (clearedZ claimed)
+
+-- a fraction whose terms are below 2^32, as every coefficient's are, and a decimal near it
+unfoldable pub nearWithin : Fraction → Decimal → Bool
+nearWithin r s = ltb (r .0) (2 ^ 32) && (ltb (r .1) (2 ^ 32) && near r s)
+
+abbrev pub farWithin : List Fraction → List Decimal → ℕ
+farWithin reference claimed = firstLine nearWithin 1 reference claimed
+
+-- the fraction at a place of two areas, and the first n of them
+abbrev pub fractionAt : List ℕ → List ℕ → ℕ → Fraction
+fractionAt nums dens i = (getD nums i 0, getD dens i 0)
+
+abbrev pub fractions : ℕ → List ℕ → List ℕ → List Fraction
+fractions n nums dens = column (fractionAt nums dens) 0 n
+
+unfoldable pub coefficientsSays : ℕ → List ℤ → List ℕ → List ℕ → List ℕ → Said Verdict
+coefficientsSays most ids nums dens s =
+    cond (leb (length ids) (length nums) && leb (length ids) (length dens))
+    (judgedBy ids (farWithin (fractions (length ids) nums dens)) (coefficientLines most s))
+    (refuses (plain noRoom))
