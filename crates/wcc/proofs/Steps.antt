@@ -1,0 +1,85 @@
+-- The kernel's loops, a turn at a time. Assumes nothing.
+use Prim.Native.Nat.{ℕ, suc, _+_, _-_, _≤_, _<_}
+use mathlib.Core.Path.{_≡_, refl, sym, ap, ap₂, _∙_}
+use mathlib.Core.List.{List}
+use native.Mathlib.Omega.{arith}
+use native.Mathlib.Numerals.{add-one}
+use lib.IntN.{ℤ, pos}
+use lib.ListN.{length, getD, set, drop, drop-of-length-le}
+use lib.Seq.{drop-cons}
+use Rattle.basis.specs.declared.refusal.Refusal.{Refusal}
+use Rattle.basis.specs.Refusal.{Said}
+use Rattle.book.specs.declared.Headed.{Headed}
+use Rattle.book.specs.Rules.{Joining, Done, done, joinBook, headOf}
+use Rattle.book.specs.Two.{Areas, areas, two, twoBook}
+use Rattle.book.specs.Says.{saysHeaded}
+use Rattle.book.specs.Series.{headIn}
+use Rattle.wcc.specs.Steps.{headHere, joinPart, joinArcs, marked, copied, Within}
+
+-- ---- the head that a call gives
+module _ (ps ss : List ℕ) (v : ℕ) (r : Headed) (e : saysHeaded r ≡ headOf (two ps ss) v) where
+  pub head-given : (h moves : ℕ) → r ≡ Headed.Head h moves → h ≡ headHere ps ss v
+  unfolding headHere
+  head-given h moves f = ap (λ (x : Headed). headIn (saysHeaded x)) (sym f) ∙ ap headIn e
+
+  pub head-refused : (q : Refusal) → r ≡ Headed.Refused q → 0 ≡ headHere ps ss v
+  unfolding headHere
+  head-refused q f = ap (λ (x : Headed). headIn (saysHeaded x)) (sym f) ∙ ap headIn e
+
+-- ---- joins
+module _ (a b : Areas) (u : ℕ) (ws : List ℕ) (i : ℕ) where
+  pub part-more : (d : Said Joining) (ps ss : List ℕ) → i < length ws → done d (areas ps ss) ≡ joinBook twoBook b u (getD ws i 0) → joinPart b u (drop i ws) ≡ a
+      → joinPart (areas ps ss) u (drop (i + 1) ws) ≡ a
+  unfolding joinPart
+  part-more d ps ss l e f =
+      rw add-one (ap (λ (x : Done Joining Areas). joinPart (x .area) u (drop (suc i) ws)) e ∙ ap (joinPart b u) (sym (drop-cons ws i 0 l)) ∙ f)
+
+  pub part-end : length ws ≤ i → joinPart b u (drop i ws) ≡ a → b ≡ a
+  unfolding joinPart
+  part-end l e = ap (joinPart b u) (sym (drop-of-length-le ws l)) ∙ e
+
+module _ (out : ℕ → List ℕ) (a : Areas) where
+  pub arcs-none : a ≡ joinArcs out 0 a
+  unfolding joinArcs
+  arcs-none = refl
+
+  pub arcs-more : (b c : Areas) (u : ℕ) (ws : List ℕ) → b ≡ joinArcs out u a → ws ≡ out u → c ≡ joinPart b u ws → c ≡ joinArcs out (u + 1) a
+  unfolding joinArcs
+  arcs-more b c u ws e q f = rw add-one (f ∙ ap₂ (λ (x : Areas) (l : List ℕ). joinPart x u l) e q)
+
+  pub arcs-end : (b : Areas) (u n : ℕ) → u ≤ n → n ≤ u → b ≡ joinArcs out u a → b ≡ joinArcs out n a
+  arcs-end b u n l k e = let q : u ≡ n = omega arith in e ∙ ap (λ (x : ℕ). joinArcs out x a) q
+
+-- ---- labels
+module _ (g : ℕ → ℕ) where
+  -- a vertex's head has a place in an area of n places
+  pub head-below : (n m v h : ℕ) → Within n g → m ≡ n → h ≡ g v → v < n → h < m
+  head-below n m v h w e q l = let k = w v l in omega arith
+
+  pub mark-none : (ids R : List ℤ) (n : ℕ) → marked g ids (n - 0) R ≡ marked g ids n R
+  mark-none ids R n = let q : n - 0 ≡ n = omega arith in ap (λ (k : ℕ). marked g ids k R) q
+
+  -- what is left to mark after i turns is the first n - i vertices
+  pub mark-more : (ids R T : List ℤ) (n i h : ℕ) (z : ℤ) → i < n → h ≡ g (n - 1 - i) → z ≡ getD ids (n - 1 - i) (pos 0) → marked g ids (n - i) R ≡ T
+      → marked g ids (n - (i + 1)) (set R h z) ≡ T
+  unfolding marked
+  mark-more ids R T n i h z l q f e =
+      let s : n - i ≡ suc (n - 1 - i) = omega arith in
+      let t : n - (i + 1) ≡ n - 1 - i = omega arith in
+      ap₂ (λ (k : ℕ) (x : List ℤ). marked g ids k x) t (ap₂ (set R) q f) ∙ ap (λ (k : ℕ). marked g ids k R) (sym s) ∙ e
+
+  pub mark-end : (ids R T : List ℤ) (n i : ℕ) → n ≤ i → marked g ids (n - i) R ≡ T → R ≡ T
+  unfolding marked
+  mark-end ids R T n i l e = let q : 0 ≡ n - i = omega arith in ap (λ (k : ℕ). marked g ids k R) q ∙ e
+
+  pub copy-none : (R : List ℤ) → R ≡ copied g 0 R
+  unfolding copied
+  copy-none R = refl
+
+  pub copy-more : (R S : List ℤ) (v h : ℕ) (z : ℤ) → h ≡ g v → z ≡ getD S h (pos 0) → S ≡ copied g v R → set S v z ≡ copied g (v + 1) R
+  unfolding copied
+  copy-more R S v h z q f e =
+      rw add-one (ap (set S v) f ∙ ap (λ (x : ℕ). set S v (getD S x (pos 0))) q ∙ ap (λ (X : List ℤ). set X v (getD X (g v) (pos 0))) e)
+
+  pub copy-end : (R S : List ℤ) (v : ℕ) → v ≤ length R → length S ≡ length R → length S ≤ v → S ≡ copied g v R → S ≡ copied g (length R) R
+  copy-end R S v l k h e = let q : v ≡ length R = omega arith in e ∙ ap (λ (x : ℕ). copied g x R) q

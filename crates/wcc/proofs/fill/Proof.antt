@@ -1,0 +1,69 @@
+use borrow.Author.Needs.{needs}
+use Rattle.wcc.proofs.Calls.{first-result, first-parents, first-sizes, taken-ids, taken-result, taken-parents, taken-sizes, exact-of, fill-all}
+use Rattle.wcc.proofs.fill.Statement.{statement}
+use Rattle.wcc.proofs.fill.Tie as tie
+
+clear-signed-requires : tie.Need-clear-signed-requires
+clear-signed-requires c κs = search needs
+
+slice-aggregate-label : tie.Need-slice-aggregate-label
+slice-aggregate-label c = search taken-ids
+
+slice-relend-prefix-label : tie.Need-slice-relend-prefix-label
+slice-relend-prefix-label c = search first-result
+
+slice-aggregate-label-2 : tie.Need-slice-aggregate-label-2
+slice-aggregate-label-2 c = search taken-result
+
+slice-relend-prefix-label-2 : tie.Need-slice-relend-prefix-label-2
+slice-relend-prefix-label-2 c = search first-parents
+
+slice-aggregate-label-3 : tie.Need-slice-aggregate-label-3
+slice-aggregate-label-3 c = search taken-parents
+
+slice-relend-prefix-label-3 : tie.Need-slice-relend-prefix-label-3
+slice-relend-prefix-label-3 c = search first-sizes
+
+slice-aggregate-label-4 : tie.Need-slice-aggregate-label-4
+slice-aggregate-label-4 c = search taken-sizes
+
+label-requires : tie.Need-label-requires
+label-requires c κs = search exact-of
+
+clear-requires : tie.Need-clear-requires
+clear-requires c κs = search needs
+
+clear-requires-2 : tie.Need-clear-requires-2
+clear-requires-2 c κs = search needs
+
+same-length : tie.Need-same-length
+same-length c = search needs
+
+same-length-2 : tie.Need-same-length-2
+same-length-2 c = search needs
+
+same-length-3 : tie.Need-same-length-3
+same-length-3 c = search needs
+
+returns : tie.Need-returns
+returns c = search fill-all
+
+pub fill-spec : {M : Type 1} → statement M
+fill-spec =
+    tie.close
+    (tie.spec
+    clear-signed-requires
+    slice-aggregate-label
+    slice-relend-prefix-label
+    slice-aggregate-label-2
+    slice-relend-prefix-label-2
+    slice-aggregate-label-3
+    slice-relend-prefix-label-3
+    slice-aggregate-label-4
+    label-requires
+    clear-requires
+    clear-requires-2
+    same-length
+    same-length-2
+    same-length-3
+    returns)

@@ -1,0 +1,35 @@
+-- 01 "The loaded graph" and "Kernels": what the WCC call answers, and what it leaves in the areas lent for writing.
+use Prim.Native.Nat.{ℕ}
+use mathlib.Core.Bool.{Bool, true, _&&_}
+use mathlib.Core.List.{List}
+use lib.IntN.{ℤ, pos}
+use lib.ListN.{length}
+use lib.Dec.{leb}
+use Rattle.basis.specs.Refusal.{Said}
+use Rattle.basis.specs.Area.{leaves, cleared}
+use Rattle.graph.specs.Sound.{Graph, soundGraph}
+use Rattle.kernels.specs.Answer.{kernelSays}
+use Rattle.wcc.specs.Component.{wccOf}
+
+-- the answer, and what stands in the result area and in the two working areas
+pub record Outcome : Type 0 where
+  pub said : Said (Unit {0})
+  pub result : List ℤ
+  pub parents : List ℕ
+  pub sizes : List ℕ
+
+abbrev pub outcome : Said (Unit {0}) → List ℤ → List ℕ → List ℕ → Outcome
+outcome said result parents sizes = record { said = said; result = result; parents = parents; sizes = sizes }
+
+-- "each result or working area needs n places"
+unfoldable pub roomFor : ℕ → List ℤ → List ℕ → List ℕ → Bool
+roomFor n result parents sizes = leb n (length result) && leb n (length parents) && leb n (length sizes)
+
+-- with an answer: the labels in the result area with zeros behind them, or zeros where refused; "working areas are zero throughout"
+unfoldable pub leftBy : Said (Unit {0}) → List ℤ → List ℤ → List ℕ → List ℕ → Outcome
+leftBy said labels result parents sizes = outcome said (leaves said (pos 0) (length result) labels) (cleared parents) (cleared sizes)
+
+-- "Kernels check 9, then 10 or 11, then 8", of which WCC has no parameter to check
+unfoldable pub wccCall : Graph → List ℤ → List ℕ → List ℕ → Outcome
+wccCall g result parents sizes =
+    leftBy (kernelSays (soundGraph g) true 0 (roomFor (g .vertices) result parents sizes)) (wccOf g) result parents sizes

@@ -1,0 +1,47 @@
+// The components as groups of a book.
+use book::Headed;
+use book::joining::join;
+use book::readings::head;
+use graph::part::part;
+ghost use mathlib.Core.Path.{_≡_};
+ghost use Rattle.graph.specs.Part.{partOf};
+ghost use Rattle.book.specs.Two.{areas};
+ghost use Rattle.wcc.specs.Steps.{headHere, joinPart, joinArcs};
+
+// The head of v.
+pub(crate) fn head_of(parents: &[usize], sizes: &[usize], v: usize) -> usize
+    ensures { λ r. ⌜ r ≡ headHere (now (parents .entry)) (now (sizes .entry)) v ⌝ }
+{
+    match head(parents, sizes, v) {
+        Headed::Head(h, _) => h,
+        Headed::Refused(_) => 0,
+    }
+}
+
+// Joins u with each of its neighbours.
+fn join_part(parents: &mut [usize], sizes: &mut [usize], u: usize, next: &[usize])
+    ensures { λ _. ⌜ areas (now (parents .exit)) (now (sizes .exit)) ≡ joinPart (areas (now (parents .entry)) (now (sizes .entry))) u (now (next .entry)) ⌝ }
+{
+    let mut i = 0;
+    while i < next.len() {
+        join(parents, sizes, u, next[i]);
+        i += 1;
+    }
+}
+
+// Joins along every outward arc of n vertices.
+pub(crate) fn join_arcs(
+    n: usize,
+    offsets: &[usize],
+    targets: &[usize],
+    parents: &mut [usize],
+    sizes: &mut [usize],
+)
+    ensures { λ _. ⌜ areas (now (parents .exit)) (now (sizes .exit)) ≡ joinArcs (partOf n (now (offsets .entry)) (now (targets .entry))) n (areas (now (parents .entry)) (now (sizes .entry))) ⌝ }
+{
+    let mut u = 0;
+    while u < n {
+        join_part(parents, sizes, u, part(targets, offsets, n, u));
+        u += 1;
+    }
+}

@@ -1,0 +1,108 @@
+// WCC: weakly connected components (document 000, 2.3.3), on the group book.
+mod groups;
+mod labels;
+
+use basis::area::clear;
+use basis::area::clear_signed;
+use basis::refusal::NO_ROOM;
+use basis::refusal::UNSOUND;
+use graph::Size;
+use graph::sound::sound;
+use kernels::Answer;
+use kernels::refused;
+use labels::label;
+ghost use mathlib.Core.Path.{_≡_};
+ghost use mathlib.Core.Bool.{true};
+ghost use mathlib.Core.List.{[]};
+ghost use Rattle.basis.specs.Refusal.{gives, refuses, plain};
+ghost use Rattle.graph.specs.Sound.{lent, soundGraph};
+ghost use Rattle.kernels.specs.Answer.{says};
+ghost use Rattle.wcc.specs.Component.{wccOf};
+ghost use Rattle.wcc.specs.Promise.{roomFor, outcome, leftBy, wccCall};
+
+// Has each area n places?
+fn room(n: usize, result: &[i64], parents: &[usize], sizes: &[usize]) -> bool
+    ensures { λ r. ⌜ r ≡ roomFor n (now (result .entry)) (now (parents .entry)) (now (sizes .entry)) ⌝ }
+{
+    if result.len() < n {
+        return false;
+    }
+    if parents.len() < n {
+        return false;
+    }
+    n <= sizes.len()
+}
+
+// A refusal: all areas are zero.
+fn refuse(number: usize, result: &mut [i64], parents: &mut [usize], sizes: &mut [usize]) -> Answer
+    ensures { λ r. ⌜ outcome (says r) (now (result .exit)) (now (parents .exit)) (now (sizes .exit)) ≡ leftBy (refuses (plain number)) [] (now (result .entry)) (now (parents .entry)) (now (sizes .entry)) ⌝ }
+{
+    clear_signed(result);
+    clear(parents);
+    clear(sizes);
+    refused(number)
+}
+
+// The labels, in the first places of areas that have room for them.
+fn fill(
+    size: Size,
+    ids: &[i64],
+    out_offsets: &[usize],
+    out_targets: &[usize],
+    in_offsets: &[usize],
+    in_sources: &[usize],
+    result: &mut [i64],
+    parents: &mut [usize],
+    sizes: &mut [usize],
+) -> Answer
+    requires { ⌜ soundGraph (lent size (now ids) (now «out_offsets») (now «out_targets») (now «in_offsets») (now «in_sources»)) ≡ true ⌝ }
+    requires { ⌜ roomFor (size .vertices) (now result) (now parents) (now sizes) ≡ true ⌝ }
+    ensures { λ r. ⌜ outcome (says r) (now (result .exit)) (now (parents .exit)) (now (sizes .exit)) ≡ leftBy (gives tt) (wccOf (lent size (now (ids .entry)) (now («out_offsets» .entry)) (now («out_targets» .entry)) (now («in_offsets» .entry)) (now («in_sources» .entry)))) (now (result .entry)) (now (parents .entry)) (now (sizes .entry)) ⌝ }
+{
+    clear_signed(result);
+    label(
+        size.vertices,
+        out_offsets,
+        out_targets,
+        &ids[..size.vertices],
+        &mut result[..size.vertices],
+        &mut parents[..size.vertices],
+        &mut sizes[..size.vertices],
+    );
+    clear(parents);
+    clear(sizes);
+    Answer::Done
+}
+
+// The component labels of a sound graph's vertices; or a refusal: 9 or 8. `parents` and `sizes` are working areas.
+pub fn wcc(
+    size: Size,
+    ids: &[i64],
+    out_offsets: &[usize],
+    out_targets: &[usize],
+    in_offsets: &[usize],
+    in_sources: &[usize],
+    result: &mut [i64],
+    parents: &mut [usize],
+    sizes: &mut [usize],
+) -> Answer
+    ensures { λ r. ⌜ outcome (says r) (now (result .exit)) (now (parents .exit)) (now (sizes .exit)) ≡ wccCall (lent size (now (ids .entry)) (now («out_offsets» .entry)) (now («out_targets» .entry)) (now («in_offsets» .entry)) (now («in_sources» .entry))) (now (result .entry)) (now (parents .entry)) (now (sizes .entry)) ⌝ }
+{
+    if !sound(size, ids, out_offsets, out_targets, in_offsets, in_sources) {
+        return refuse(UNSOUND, result, parents, sizes);
+    }
+    if !room(size.vertices, result, parents, sizes) {
+        return refuse(NO_ROOM, result, parents, sizes);
+    }
+    fill(
+        size,
+        ids,
+        out_offsets,
+        out_targets,
+        in_offsets,
+        in_sources,
+        result,
+        parents,
+        sizes,
+    )
+}
