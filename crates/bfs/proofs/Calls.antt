@@ -19,8 +19,8 @@ use Rattle.graph.specs.declared.find.Found.the-variants.{At, Missing}
 use Rattle.graph.specs.Part.{partOf}
 use Rattle.graph.specs.Find.{placeIn, bisected}
 use Rattle.graph.specs.Sound.{Graph, outward, names, soundGraph}
-use Rattle.graph.proofs.Sounds.{sound-of, names-length, outward-below}
-use Rattle.graph.proofs.Finds.{find-rising, place-at}
+use Rattle.graph.proofs.Sounds.{sound-of, names-length, outward-below, vertex-found}
+use Rattle.graph.proofs.Finds.{place-at}
 use Rattle.kernels.specs.Answer.{kernelSays}
 use Rattle.bfs.specs.Depth.{depthOf, depths}
 use Rattle.bfs.specs.Call.{Outcome, outcome, bfsSays, bfsCall}
@@ -72,23 +72,29 @@ room-cases D Q l false = refl
 module _ (g : Graph) (root : ℤ) where
   -- a bisection of the names of a sound graph finds a vertex by its identifier
   call-place : soundGraph g ≡ true → (f : Found) → f ≡ bisected (names g) root → placeIn (names g) root ≡ f
-  call-place h f b = sym (b ∙ find-rising (names g) root (sound-of g h .idsRise))
+  call-place h f b = sym (b ∙ vertex-found g (sound-of g h) root)
 
   pub call-low : soundGraph g ≡ true → (f : Found) → f ≡ bisected (names g) root → (v : ℕ) → f ≡ At v → v < g .vertices
   call-low h f b v a = omega (arith, place-at (names g) root (sound-of g h .idsRise) v .0 (call-place h f b ∙ a) .0, names-length g (sound-of g h))
 
-  module _ (D : List ℤ) (Q : List ℕ) (o : Outcome) where
-    pub call-unsound : o ≡ refusal unsound D Q → soundGraph g ≡ false → o ≡ bfsCall g root D Q
+  module _ (D : List ℤ) (Q : List ℕ) where
+    pub call-unsound : (o : Outcome) → o ≡ refusal unsound D Q → soundGraph g ≡ false → o ≡ bfsCall g root D Q
     unfolding bfsCall bfsSays kernelSays
-    call-unsound e h = rw h e
+    call-unsound o e h = rw h e
 
-    pub call-missing : o ≡ refusal notThere D Q → soundGraph g ≡ true → (f : Found) → f ≡ bisected (names g) root → f ≡ Missing → o ≡ bfsCall g root D Q
+    pub call-missing : (o : Outcome) → o ≡ refusal notThere D Q → soundGraph g ≡ true → (f : Found) → f ≡ bisected (names g) root → f ≡ Missing → o ≡ bfsCall g root D Q
     unfolding bfsCall bfsSays kernelSays
-    call-missing e h f b m = rw (h, call-place h f b ∙ m) e
+    call-missing o e h f b m = rw (h, call-place h f b ∙ m) e
 
-    pub call-found : (v : ℕ) → o ≡ fromRoot (g .vertices) (outward g) v D Q → soundGraph g ≡ true → (f : Found) → f ≡ bisected (names g) root → f ≡ At v → o ≡ bfsCall g root D Q
+    pub call-found : (o : Outcome) (v : ℕ) → o ≡ fromRoot (g .vertices) (outward g) v D Q → soundGraph g ≡ true → (f : Found) → f ≡ bisected (names g) root → f ≡ At v → o ≡ bfsCall g root D Q
     unfolding bfsCall bfsSays kernelSays fromRoot
-    call-found v e h f b a =
+    call-found o v e h f b a =
         e
         ∙ rw (h, call-place h f b ∙ a)
         (room-cases D Q (depths (g .vertices) (outward g) v) (leb (g .vertices) (length D) && leb (g .vertices) (length Q)))
+
+    -- for callers: a sound graph, a root that is there and room enough
+    pub call-done : (v : ℕ) → soundGraph g ≡ true → placeIn (names g) root ≡ At v → g .vertices ≤ length D → g .vertices ≤ length Q
+        → bfsCall g root D Q ≡ outcome (gives tt) (padZ (length D) (depths (g .vertices) (outward g) v)) (cleared Q)
+    unfolding bfsCall bfsSays kernelSays
+    call-done v h p d q = rw (h, p, le-leb (g .vertices) (length D) d, le-leb (g .vertices) (length Q) q)
