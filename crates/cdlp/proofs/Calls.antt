@@ -12,8 +12,8 @@ use lib.Dec.{T, leb, ltb}
 use mir.Syntax.{w64}
 use mir.Val.{Fits}
 use borrow.Author.Tests.{lt-leb, le-leb, leb-true, ltb-false, not-true, not-false}
-use Rattle.basis.specs.Refusal.{Said, gives, refuses, plain, badRounds}
-use Rattle.basis.specs.Area.{cleared, clearedZ, padWith, leaves}
+use Rattle.basis.specs.Refusal.{Said, gives, refuses, plain}
+use Rattle.basis.specs.Area.{cleared, clearedZ, padWith}
 use Rattle.basis.proofs.Tests.{clash, and-first, and-second}
 use Rattle.graph.specs.declared.Size.{Size}
 use Rattle.graph.specs.Sound.{Graph, lent, soundGraph}
@@ -155,69 +155,36 @@ module _ (size : Size) (ids : List ℤ) (oo ot io is : List ℕ) (k : ℕ) (R R�
       (ap (λ (t : Worked). t .next) w ∙ front-cleared (size .vertices) N N₂ n)
       (ap (λ (t : Worked). t .counts) w ∙ front-cleared (size .vertices) C C₂ c)
 
+-- ---- a test of the code that passed, and one that failed
+pub passed : (t s : Bool) → t ≡ s → not t ≡ false → s ≡ true
+passed t s e h = sym e ∙ not-false t h
+
+failed : (t s : Bool) → t ≡ s → not t ≡ true → s ≡ false
+failed t s e h = sym e ∙ not-true t h
+
 -- ---- the call: how it ends, by its tests in their order; z′ is z as it is handed on
-said-nine : (s a r : Bool) → s ≡ false → kernelSays s a badRounds r ≡ refuses (plain 9)
-unfolding kernelSays
-said-nine s a r h = rw h
-
-said-eleven : (s a r : Bool) → s ≡ true → a ≡ false → kernelSays s a badRounds r ≡ refuses (plain 11)
-unfolding kernelSays
-said-eleven s a r h g = rw (h, g)
-
-said-eight : (s a r : Bool) → s ≡ true → a ≡ true → r ≡ false → kernelSays s a badRounds r ≡ refuses (plain 8)
-unfolding kernelSays
-said-eight s a r h g k = rw (h, g, k)
-
-said-done : (s a r : Bool) → s ≡ true → a ≡ true → r ≡ true → kernelSays s a badRounds r ≡ gives tt
-unfolding kernelSays
-said-done s a r h g k = rw (h, g, k)
-
-module _ (g : Graph) (z : ℤ) (R : List ℤ) (L N C : List ℕ) where
-  abbrev saying : Said (Unit {0})
-  saying = kernelSays (soundGraph g) (goodRounds z) badRounds (roomFor (g .vertices) R L N C)
-
-  call-refused : (k : ℕ) → saying ≡ refuses (plain k) → leftBy (refuses (plain k)) [] R L N C ≡ cdlpCall g z R L N C
-  unfolding cdlpCall leftBy
-  call-refused k h = ap (λ (s : Said (Unit {0})). outcome s (leaves s (pos 0) (length R) (cdlpOf g (natAbs z))) (cleared L) (cleared N) (cleared C)) (sym h)
-
-  call-given : saying ≡ gives tt → leftBy (gives tt) (cdlpOf g (natAbs z)) R L N C ≡ cdlpCall g z R L N C
-  unfolding cdlpCall
-  call-given h = ap (λ (s : Said (Unit {0})). leftBy s (cdlpOf g (natAbs z)) R L N C) (sym h)
-
 module _ (size : Size) (ids : List ℤ) (oo ot io is : List ℕ) (z : ℤ) (R : List ℤ) (L N C : List ℕ) (o : Outcome)
     (s : Bool) (e : s ≡ soundGraph (lent size ids oo ot io is)) where
   abbrev g : Graph
   g = lent size ids oo ot io is
 
   pub call-unsound : not s ≡ true → o ≡ leftBy (refuses (plain 9)) [] R L N C → o ≡ cdlpCall g z R L N C
-  call-unsound h q =
-      q ∙ call-refused g z R L N C 9 (said-nine (soundGraph g) (goodRounds z) (roomFor (g .vertices) R L N C) (sym e ∙ not-true s h))
+  unfolding cdlpCall kernelSays leftBy
+  call-unsound h q = q ∙ rw (failed s (soundGraph g) e h)
 
   module _ (h : not s ≡ false) (z′ : ℤ) (same : z′ ≡ z) (a : Bool) (f : a ≡ goodRounds z′) where
-    sound : soundGraph g ≡ true
-    sound = sym e ∙ not-false s h
-
-    good : a ≡ goodRounds z
-    good = f ∙ ap goodRounds same
-
     pub call-outside : not a ≡ true → o ≡ leftBy (refuses (plain 11)) [] R L N C → o ≡ cdlpCall g z R L N C
-    call-outside k q =
-        q ∙ call-refused g z R L N C 11 (said-eleven (soundGraph g) (goodRounds z) (roomFor (g .vertices) R L N C) sound (sym good ∙ not-true a k))
+    unfolding cdlpCall kernelSays leftBy
+    call-outside k q = q ∙ rw (passed s (soundGraph g) e h, ← same, failed a (goodRounds z′) f k)
 
     module _ (k : not a ≡ false) (r : Bool) (i : r ≡ roomFor (size .vertices) R L N C) where
       pub call-short : not r ≡ true → o ≡ leftBy (refuses (plain 8)) [] R L N C → o ≡ cdlpCall g z R L N C
-      call-short l q =
-          q ∙ call-refused g z R L N C 8
-          (said-eight (soundGraph g) (goodRounds z) (roomFor (g .vertices) R L N C) sound (sym good ∙ not-false a k) (sym i ∙ not-true r l))
+      unfolding cdlpCall kernelSays leftBy
+      call-short l q = q ∙ rw (passed s (soundGraph g) e h, ← same, passed a (goodRounds z′) f k, failed r (roomFor (size .vertices) R L N C) i l)
 
       pub call-done : not r ≡ false → o ≡ leftBy (gives tt) (cdlpOf g (natAbs z′)) R L N C → o ≡ cdlpCall g z R L N C
-      call-done l q =
-          q ∙ ap (λ (x : ℤ). leftBy (gives tt) (cdlpOf g (natAbs x)) R L N C) same
-          ∙ call-given g z R L N C (said-done (soundGraph g) (goodRounds z) (roomFor (g .vertices) R L N C) sound (sym good ∙ not-false a k) (sym i ∙ not-false r l))
-
--- a test that passed
-pub passed : (t s : Bool) → t ≡ s → not t ≡ false → s ≡ true
-passed t s e h = sym e ∙ not-false t h
+      unfolding cdlpCall kernelSays leftBy
+      call-done l q = q ∙ rw (passed s (soundGraph g) e h, ← same, passed a (goodRounds z′) f k, passed r (roomFor (size .vertices) R L N C) i l)
 
 -- a number of rounds within the limit is a number
 pub rounds-cast : (z : ℤ) (a : Bool) → a ≡ goodRounds z → not a ≡ false → T (nonNeg z) × Fits w64 (natAbs z)

@@ -1,20 +1,21 @@
 -- A whole run on a sound graph: from the vertex numbers, through the rounds, to the identifiers of the labels. Assumes nothing.
-use Prim.Native.Nat.{ℕ, zero, suc, _<_}
+use Prim.Native.Nat.{ℕ, zero, suc, _-_, _<_}
 use mathlib.Core.Path.{_≡_, sym, ap, ap₂, _∙_, subst}
 use mathlib.Core.List.{List}
 use native.Mathlib.Omega.{arith}
 use lib.IntN.{ℤ, pos}
 use lib.Signed.{ltZ}
-use lib.ListN.{length, replicate, length-replicate}
+use lib.ListN.{length, take, replicate, length-replicate}
+use lib.Seq.{take-at}
 use lib.Dec.{eqb, ltb}
 use Rattle.basis.specs.Order.{sameZ}
-use Rattle.basis.specs.Area.{cleared}
+use Rattle.basis.specs.Area.{cleared, padWith}
 use Rattle.basis.proofs.Areas.{column-length}
 use Rattle.basis.proofs.Orders.{signed-order}
 use Rattle.graph.specs.declared.Size.{Size}
 use Rattle.graph.specs.Sound.{Graph, lent, inward, outward, names}
 use Rattle.graph.proofs.Sounds.{Sound, sound-of, names-length, inward-rises, inward-below, outward-rises, outward-below}
-use Rattle.cdlp.specs.Rounds.{labelsAt, oneRound, rounds, cdlpOf}
+use Rattle.cdlp.specs.Rounds.{around, labelsAt, oneRound, rounds, cdlpOf}
 use Rattle.cdlp.specs.Steps.{Low, Inside, Board, near, numbersAfter, itself, upTo, Ready, Nameable}
 use Rattle.cdlp.proofs.Lists.{low-up, below-low, rising-short, labels-front}
 use Rattle.cdlp.proofs.Names.{rounds-low, rounds-length, upTo-low, numbers-named}
@@ -38,6 +39,21 @@ pub cdlp-length : (g : Graph) → Sound g → (k : ℕ) → length (cdlpOf g k) 
 unfolding cdlpOf rounds oneRound
 cdlp-length g s zero = names-length g s
 cdlp-length g s (suc k) = column-length _ 0 (g .vertices)
+
+-- after so many rounds the first places of an area hold the labels
+pub cdlp-taken : (g : Graph) → Sound g → (k size : ℕ) → take (g .vertices) (padWith (pos 0) size (cdlpOf g k)) ≡ cdlpOf g k
+cdlp-taken g s k size = take-at (cdlpOf g k) (replicate (size - length (cdlpOf g k)) (pos 0)) (g .vertices) (cdlp-length g s k)
+
+-- labels are identifiers of the graph: those of the vertices that rounds on vertex numbers give
+pub cdlp-numbers : (g : Graph) → Sound g → (k : ℕ)
+    → labelsAt (pos 0) (names g) (rounds eqb ltb 0 (around (inward g) (outward g)) (g .vertices) (upTo (g .vertices)) k) ≡ cdlpOf g k
+unfolding cdlpOf
+cdlp-numbers g s k =
+    let near : ℕ → List ℕ = around (inward g) (outward g) in
+    let n = names-length g s in
+    subst (λ (j : ℕ). labelsAt (pos 0) (names g) (rounds eqb ltb 0 near j (upTo j) k) ≡ rounds sameZ ltZ (pos 0) near j (names g) k) n
+    (numbers-named signed-order (pos 0) (names g) (s .idsRise) near
+    (λ v l. subst (λ (j : ℕ). Low j (near v)) (sym n) (near-low (g .vertices) (g .inOffsets) (g .inSources) (g .outOffsets) (g .outTargets) (sound-inside g s) v (omega arith))) k)
 
 module _ {size : Size} {ids : List ℤ} {oo ot io is : List ℕ} {R : List ℤ} {L N C L₁ C₁ : List ℕ} (x : Ready size ids oo ot io is R L N C)
     (e₁ : L₁ ≡ upTo (length L)) (e₂ : C₁ ≡ cleared C) where
@@ -90,8 +106,4 @@ module _ {size : Size} {ids : List ℤ} {oo ot io is : List ℕ} {R : List ℤ} 
 
     pub run-named : {X : List ℤ} → X ≡ labelsAt (pos 0) ids L₂ → X ≡ cdlpOf g k
     unfolding cdlpOf
-    run-named q =
-        q ∙ labels-front (pos 0) n ids L₂ low ∙ ap (labelsAt (pos 0) (names g)) run
-        ∙ subst (λ (j : ℕ). labelsAt (pos 0) (names g) (rounds eqb ltb 0 (near n io is oo ot) j (upTo j) k) ≡ rounds sameZ ltZ (pos 0) (near n io is oo ot) j (names g) k)
-        (names-length g s)
-        (numbers-named signed-order (pos 0) (names g) (s .idsRise) (near n io is oo ot) (λ v l. subst (λ (j : ℕ). Low j (near n io is oo ot v)) (sym (names-length g s)) (nears v (subst (λ (j : ℕ). v < j) (names-length g s) l))) k)
+    run-named q = q ∙ labels-front (pos 0) n ids L₂ low ∙ ap (labelsAt (pos 0) (names g)) run ∙ cdlp-numbers g s k

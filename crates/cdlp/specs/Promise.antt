@@ -12,9 +12,13 @@ use Rattle.graph.specs.Sound.{Graph, soundGraph}
 use Rattle.kernels.specs.Answer.{kernelSays}
 use Rattle.cdlp.specs.Rounds.{cdlpOf}
 
+-- "Library limits: .. 1,000 CDLP iterations"
+abbrev pub mostRounds : ℕ
+mostRounds = 1000
+
 -- "CDLP iterations are negative or above 1,000": these are neither
 unfoldable pub goodRounds : ℤ → Bool
-goodRounds z = not (ltZ z (pos 0)) && not (ltZ (pos 1000) z)
+goodRounds z = not (ltZ z (pos 0)) && not (ltZ (pos mostRounds) z)
 
 -- "each result or working area needs n places"
 unfoldable pub roomFor : ℕ → List ℤ → List ℕ → List ℕ → List ℕ → Bool
