@@ -1,18 +1,18 @@
 -- Laws of the decimal of a coefficient claim: one for each way the code leaves, and that its number is never cut down. Assumes nothing.
-use Prim.Native.Nat.{ℕ, zero, suc, _+_, _-_, _*_, _^_, _≤_, _<_, min}
-use mathlib.Core.Path.{_≡_, refl, sym, ap, ap₂, _∙_, subst}
+use Prim.Native.Nat.{ℕ, suc, _+_, _-_, _*_, _^_, _≤_, _<_}
+use mathlib.Core.Path.{_≡_, refl, sym, ap, ap₂, _∙_}
 use mathlib.Core.List.{List, [], _∷_}
-use mathlib.Core.Bool.{Bool, true, false, cond, not, _&&_, _||_}
+use mathlib.Core.Bool.{Bool, true, false, cond, not, _&&_}
 use mathlib.Core.Logic.{⊎-elim}
 use native.Mathlib.Omega.{arith}
-use native.Mathlib.Nat.{zero-add, one-mul, le-trans, mul-le-mul-right, mul-assoc, pow-succ', pow-le-pow-right, le-mul-of-pos-right, one-le-pow, eq-or-lt-of-le, add-sub-cancel-left}
-use borrow.Author.Tests.{le-leb, lt-leb, leb-true, leb-false, lt-ltb, le-ltb, eq-eqb, ne-eqb, eqb-true, not-true, not-false}
+use native.Mathlib.Nat.{zero-add, one-mul, le-trans, mul-le-mul-right, mul-assoc, pow-succ', pow-le-pow-right, eq-or-lt-of-le}
+use borrow.Author.Tests.{le-leb, lt-leb, leb-true, lt-ltb, le-ltb, eq-eqb, ne-eqb, eqb-true, not-true, not-false}
 use lib.Dec.{leb, ltb, eqb}
 use lib.ListN.{length, getD, drop, length-drop, List·getD-eq-default}
 use lib.Pow.{pow-add}
-use Rattle.basis.proofs.Tests.{bool-cases, and-off, and-both}
-use Rattle.text.specs.Word.{Word, malformed, outside, value, isDigit, stepped, runLen, runVal}
-use Rattle.text.specs.Decimal.{digitLimit, decimal, digitOf, Exponent, up, down, wrong, pastPoint, wholeIsGood, signedPower, powerAt, scaled, partsOf, fractionOf, decimalOf, powerSays, decimalSays}
+use Rattle.basis.proofs.Tests.{bool-cases, and-off}
+use Rattle.text.specs.Word.{malformed, value, isDigit, stepped, runLen, runVal}
+use Rattle.text.specs.Decimal.{digitLimit, decimal, digitOf, up, down, wrong, pastPoint, wholeIsGood, signedPower, powerAt, scaled, partsOf, fractionOf, decimalOf, powerSays, decimalSays}
 use Rattle.text.specs.Scan.{capped, runAt}
 use Rattle.text.specs.declared.count.Run.{Run}
 use Rattle.text.specs.declared.decimal.DecimalWord.{DecimalWord}
@@ -135,24 +135,24 @@ module _ (n f k : ℕ) (p : Power) where
   scaled-down e = rw e
 
 -- ---- the parts of a decimal
-module _ (s : List ℕ) (w p n q : ℕ) (t : Bool) (h : t ≡ wholeIsGood s w) where
-  pub parts-whole : not t ≡ true → malformed ≡ partsOf s w p n q
+module _ (s : List ℕ) (w p f n : ℕ) (t : Bool) (h : t ≡ wholeIsGood s w) where
+  pub parts-whole : not t ≡ true → malformed ≡ partsOf s w p f n
   unfolding partsOf
   parts-whole e = rw (← h, not-true t e)
 
-  pub parts-point : not t ≡ false → w + (q - p) < p → malformed ≡ partsOf s w p n q
+  pub parts-point : not t ≡ false → w + f < p → malformed ≡ partsOf s w p f n
   unfolding partsOf
-  parts-point e k = rw (← h, not-false t e, lt-leb p (w + (q - p)) k)
+  parts-point e k = rw (← h, not-false t e, lt-leb p (w + f) k)
 
-  pub parts-limit : not t ≡ false → p ≤ w + (q - p) → digitLimit < w + (q - p) → malformed ≡ partsOf s w p n q
+  pub parts-limit : not t ≡ false → p ≤ w + f → digitLimit < w + f → malformed ≡ partsOf s w p f n
   unfolding partsOf
-  parts-limit e k l = rw (← h, not-false t e, le-leb p (w + (q - p)) k, lt-leb (w + (q - p)) 15 l)
+  parts-limit e k l = rw (← h, not-false t e, le-leb p (w + f) k, lt-leb (w + f) digitLimit l)
 
-  pub parts-good : not t ≡ false → p ≤ w + (q - p) → w + (q - p) ≤ digitLimit
-      → (y : Power) → powerSays y ≡ powerAt s q → (r : DecimalWord) → decimalSays r ≡ scaled n (q - p) (powerSays y) → decimalSays r ≡ partsOf s w p n q
+  pub parts-good : not t ≡ false → p ≤ w + f → w + f ≤ digitLimit
+      → (y : Power) → powerSays y ≡ powerAt s (p + f) → (r : DecimalWord) → decimalSays r ≡ scaled n f (powerSays y) → decimalSays r ≡ partsOf s w p f n
   unfolding partsOf
-  parts-good e k l y f r g =
-      rw (← h, not-false t e, le-leb p (w + (q - p)) k, le-leb (w + (q - p)) 15 l) (g ∙ ap (scaled n (q - p)) f)
+  parts-good e k l y j r g =
+      rw (← h, not-false t e, le-leb p (w + f) k, le-leb (w + f) digitLimit l) (g ∙ ap (scaled n f) j)
 
 -- ---- digits so few are never cut down
 pub run-small : (a : ℕ) (l : List ℕ) → suc (runVal a l) ≤ suc a * 10 ^ runLen l
@@ -167,23 +167,21 @@ run-small a (b ∷ l) = by (isDigit b) refl (λ k. run-small k l)
         rw (val-digit a b l e, q) (rw pow-succ' (rw (← mul-assoc) (le-trans (f (stepped a b)) (mul-le-mul-right (10 ^ runLen l) m))))
     by false e f = rw (val-stop a b l e, len-stop b l e) (omega arith)
 
-few-digits : (s : List ℕ) (p : ℕ) → runLen s + runLen (drop p s) ≤ 15 → runVal (runVal 0 s) (drop p s) < 10 ^ 15
+few-digits : (s : List ℕ) (p : ℕ) → runLen s + runLen (drop p s) ≤ digitLimit → runVal (runVal 0 s) (drop p s) < 10 ^ digitLimit
 few-digits s p h =
     let a : suc (runVal 0 s) ≤ 10 ^ runLen s = rw one-mul at (run-small 0 s) in
     let b : suc (runVal (runVal 0 s) (drop p s)) ≤ suc (runVal 0 s) * 10 ^ runLen (drop p s) = run-small (runVal 0 s) (drop p s) in
-    let t : 10 ^ (runLen s + runLen (drop p s)) ≤ 10 ^ 15 = pow-le-pow-right (omega arith) h in
+    let t : 10 ^ (runLen s + runLen (drop p s)) ≤ 10 ^ digitLimit = pow-le-pow-right (omega arith) h in
     le-trans b (le-trans (mul-le-mul-right (10 ^ runLen (drop p s)) a) (rw pow-add at t))
 
-parts-cut : (s : List ℕ) (p : ℕ)
-    → partsOf s (runLen s) p (capped (runVal (runVal 0 s) (drop p s))) (p + runLen (drop p s)) ≡ fractionOf s (runLen s) p
+parts-cut : (s : List ℕ) (p : ℕ) → partsOf s (runLen s) p (runLen (drop p s)) (capped (runVal (runVal 0 s) (drop p s))) ≡ fractionOf s (runLen s) p
 unfolding partsOf fractionOf
 parts-cut s p =
-    bool-cases (leb (runLen s + (p + runLen (drop p s) - p)) 15) _
-    (λ e. let f : p + runLen (drop p s) - p ≡ runLen (drop p s) = add-sub-cancel-left p (runLen (drop p s)) in
-    let h : runVal (runVal 0 s) (drop p s) < 10 ^ 15 = few-digits s p (omega (arith, leb-true (runLen s + (p + runLen (drop p s) - p)) 15 e)) in
+    bool-cases (leb (runLen s + runLen (drop p s)) digitLimit) _
+    (λ e. let h : runVal (runVal 0 s) (drop p s) < 10 ^ digitLimit = few-digits s p (leb-true (runLen s + runLen (drop p s)) digitLimit e) in
     let c : capped (runVal (runVal 0 s) (drop p s)) ≡ runVal (runVal 0 s) (drop p s) = omega arith in
     rw c)
-    (λ e. rw (e, and-off (leb p (runLen s + (p + runLen (drop p s) - p))) false refl, and-off (wholeIsGood s (runLen s)) false refl))
+    (λ e. rw (e, and-off (leb p (runLen s + runLen (drop p s))) false refl, and-off (wholeIsGood s (runLen s)) false refl))
 
 -- ---- a whole decimal
 point-from : (s : List ℕ) (w : ℕ) → w ≤ pastPoint s w
@@ -226,16 +224,17 @@ module _ (s : List ℕ) (whole : Run) (p : ℕ) (all : Run) (a : whole ≡ runAt
   pub decimal-on : p ≤ all .next
   decimal-on = omega (arith, all-next)
 
-  pub decimal-within : all .next ≤ length s
+  pub decimal-within : p + (all .next - p) ≤ length s
   decimal-within =
       let h : p ≤ length s = omega (arith, b, point-within s (whole .next) (omega (arith, whole-next, len-le s))) in
       omega (arith, all-next, len-le (drop p s), length-drop p s)
 
-  pub decimal-is : (r : DecimalWord) → decimalSays r ≡ partsOf s (whole .next) p (all .n) (all .next) → decimalSays r ≡ decimalOf s
+  pub decimal-is : (r : DecimalWord) → decimalSays r ≡ partsOf s (whole .next) p (all .next - p) (all .n) → decimalSays r ≡ decimalOf s
   unfolding decimalOf
   decimal-is r h =
+      let f : all .next - p ≡ runLen (drop p s) = omega (arith, all-next) in
       h
-      ∙ ap₂ (λ (x y : ℕ). partsOf s x p y (all .next)) whole-next all-number
-      ∙ ap (partsOf s (runLen s) p (capped (runVal (runVal 0 s) (drop p s)))) all-next
+      ∙ ap₂ (λ (x y : ℕ). partsOf s x p (all .next - p) y) whole-next all-number
+      ∙ ap (λ (k : ℕ). partsOf s (runLen s) p k (capped (runVal (runVal 0 s) (drop p s)))) f
       ∙ parts-cut s p
       ∙ ap (fractionOf s (runLen s)) (b ∙ ap (pastPoint s) whole-next)

@@ -1,13 +1,13 @@
 -- Laws of lines: what is scanned is what the definitions say of a line's bytes; one law for each way the code leaves. Assumes nothing.
-use Prim.Native.Nat.{ℕ, suc, _+_, _-_, _≤_, _<_}
+use Prim.Native.Nat.{ℕ, _+_, _-_, _≤_, _<_}
 use mathlib.Core.Path.{_≡_, refl, sym, ap, _∙_}
 use mathlib.Core.List.{List, [], _∷_, _++_, append-assoc}
-use mathlib.Core.Bool.{Bool, true, false, cond, not}
+use mathlib.Core.Bool.{Bool, true, false, not}
 use native.Mathlib.Omega.{arith}
 use borrow.Author.Tests.{le-leb, lt-leb, not-true, not-false}
-use lib.Dec.{leb, eqb}
+use lib.Dec.{eqb}
 use lib.IntN.{ℤ}
-use lib.ListN.{length, getD, take, drop, length-drop, length-append}
+use lib.ListN.{length, take, drop, length-append}
 use lib.Seq.{getD-append-seam}
 use Rattle.basis.specs.Refusal.{badForm, outOfRange}
 use Rattle.basis.specs.Scan.{mem}
@@ -15,7 +15,7 @@ use Rattle.basis.proofs.Tests.{clash, bool-cases}
 use Rattle.text.specs.Word.{Word, malformed, outside, value, within, identOf}
 use Rattle.text.specs.Decimal.{decimalOf, decimalSays}
 use Rattle.text.specs.Line.{LineSaid, line, none, fault, lf, space, upTo, past, lineSays, lineBy, both, twoOf, vertexLine, edgeLine, coefficientLine, edgeSays, coefficientSays}
-use Rattle.text.specs.Scan.{Scanned, scanned, wellFormed, hasAt, fieldAt, scanSays, endAt, restWord, restAt, restSays, beside, lineOf}
+use Rattle.text.specs.Scan.{Scanned, scanned, wellFormed, hasAt, fieldAt, scanSays, endAt, restWord, restAt, restSays, beside, faultBeside, lineOf}
 use Rattle.text.specs.declared.decimal.Decimal.{Decimal}
 use Rattle.text.specs.declared.decimal.DecimalWord.{DecimalWord}
 use Rattle.text.specs.declared.decimal.DecimalWord.the-variants as DW
@@ -217,29 +217,29 @@ module _ (at : ℕ) (y : Scan) where
   pub beside-value : (u v a b : ℤ) (p : ℕ) → y ≡ S.Value v p → a ≡ u → b ≡ v → line (a, b) p ≡ lineOf at (beside (value u) (scanSays y))
   beside-value u v a b p q h k = rw (q, h, k)
 
-  pub outside-outside : (p : ℕ) → y ≡ S.Outside p → fault outOfRange at ≡ lineOf at (beside {A = ℤ} outside (scanSays y))
-  outside-outside p q = rw q
+module _ (at : ℕ) (y : Rest) where
+  pub beside-none : (w : Word ℤ) (p : ℕ) → y ≡ R.Bad p → fault badForm at ≡ lineOf at (beside w (restSays y))
+  beside-none w p q = rw (q, both-off w)
 
-  pub outside-value : (v : ℤ) (p : ℕ) → y ≡ S.Value v p → fault outOfRange at ≡ lineOf at (beside {A = ℤ} outside (scanSays y))
-  outside-value v p q = rw q
-
-module _ (at from : ℕ) (y : Rest) where
-  pub beside-none : (w : Word ℤ) → y ≡ R.Bad → fault badForm at ≡ lineOf at (beside w (restSays from y))
-  beside-none w q = rw (q, both-off w)
-
-  pub beside-decimal : (u a : ℤ) (d : Decimal) (p : ℕ) → y ≡ R.Value d p → a ≡ u → line (a, d) p ≡ lineOf at (beside (value u) (restSays from y))
+  pub beside-decimal : (u a : ℤ) (d : Decimal) (p : ℕ) → y ≡ R.Value d p → a ≡ u → line (a, d) p ≡ lineOf at (beside (value u) (restSays y))
   beside-decimal u a d p q h = rw (q, h)
 
-  pub outside-decimal : (d : Decimal) (p : ℕ) → y ≡ R.Value d p → fault outOfRange at ≡ lineOf at (beside {A = ℤ} outside (restSays from y))
-  outside-decimal d p q = rw q
+fault-outside : {A : Type 0} (at : ℕ) (y : Scanned A) → fault (faultBeside (y .said)) at ≡ lineOf at (beside {A = ℤ} outside y)
+fault-outside {A} at y = by (y .said)
+  where
+    by : (w : Word A) → _≡_ {A = LineSaid (ℤ × A)} (fault (faultBeside w) at) (lineSays at (y .next) (both outside w))
+    by malformed = refl
+    by outside = refl
+    by (value v) = refl
 
 -- an edge line
 module _ (s : List ℕ) (at : ℕ) (l : at < length s) (x : Scan) (e : scanSays x ≡ fieldAt s at space) where
   pub edge-bad : (p : ℕ) → x ≡ S.Bad p → fault badForm at ≡ edgeLine s at
   edge-bad p q = two-bad identOf lastField last-reads s at l x e p q
 
-  pub edge-outside : (p : ℕ) (y : Scan) (r : EdgeLine) → x ≡ S.Outside p → scanSays y ≡ fieldAt s p lf → edgeSays r ≡ lineOf at (beside outside (scanSays y)) → edgeSays r ≡ edgeLine s at
-  edge-outside p y r q f g = g ∙ two-outside identOf lastField last-reads s at l x e p (scanSays y) q f
+  pub edge-outside : (p n : ℕ) (y : Scan) → x ≡ S.Outside p → scanSays y ≡ fieldAt s p lf → n ≡ faultBeside (scanSays y .said) → fault n at ≡ edgeLine s at
+  edge-outside p n y q f g =
+      ap (λ (k : ℕ). fault k at) g ∙ fault-outside at (scanSays y) ∙ two-outside identOf lastField last-reads s at l x e p (scanSays y) q f
 
   pub edge-value : (z u : ℤ) (p : ℕ) (y : Scan) (r : EdgeLine) → x ≡ S.Value z p → u ≡ z → scanSays y ≡ fieldAt s p lf
       → edgeSays r ≡ lineOf at (beside (value u) (scanSays y)) → edgeSays r ≡ edgeLine s at
@@ -250,10 +250,10 @@ module _ (s : List ℕ) (at : ℕ) (l : at < length s) (x : Scan) (e : scanSays 
   pub coefficient-bad : (p : ℕ) → x ≡ S.Bad p → fault badForm at ≡ coefficientLine s at
   coefficient-bad p q = two-bad decimalOf restAt rest-reads s at l x e p q
 
-  pub coefficient-outside : (p : ℕ) (y : Rest) (r : CoefficientLine) → x ≡ S.Outside p → restSays p y ≡ restAt s p
-      → coefficientSays r ≡ lineOf at (beside outside (restSays p y)) → coefficientSays r ≡ coefficientLine s at
-  coefficient-outside p y r q f g = g ∙ two-outside decimalOf restAt rest-reads s at l x e p (restSays p y) q f
+  pub coefficient-outside : (p n : ℕ) (y : Rest) → x ≡ S.Outside p → restSays y ≡ restAt s p → n ≡ faultBeside (restSays y .said) → fault n at ≡ coefficientLine s at
+  coefficient-outside p n y q f g =
+      ap (λ (k : ℕ). fault k at) g ∙ fault-outside at (restSays y) ∙ two-outside decimalOf restAt rest-reads s at l x e p (restSays y) q f
 
-  pub coefficient-value : (z u : ℤ) (p : ℕ) (y : Rest) (r : CoefficientLine) → x ≡ S.Value z p → u ≡ z → restSays p y ≡ restAt s p
-      → coefficientSays r ≡ lineOf at (beside (value u) (restSays p y)) → coefficientSays r ≡ coefficientLine s at
-  coefficient-value z u p y r q k f g = g ∙ two-value decimalOf restAt rest-reads s at l x e z u p (restSays p y) q k f
+  pub coefficient-value : (z u : ℤ) (p : ℕ) (y : Rest) (r : CoefficientLine) → x ≡ S.Value z p → u ≡ z → restSays y ≡ restAt s p
+      → coefficientSays r ≡ lineOf at (beside (value u) (restSays y)) → coefficientSays r ≡ coefficientLine s at
+  coefficient-value z u p y r q k f g = g ∙ two-value decimalOf restAt rest-reads s at l x e z u p (restSays y) q k f

@@ -1,23 +1,23 @@
 -- What callers' loops stand on: a line that is read moves the place forward and within the file, a fault or the end does not move it, and
 -- the numbers that are read are inside the range of i64. Assumes nothing.
-use Prim.Native.Nat.{ℕ, zero, suc, _+_, _-_, _^_, _≤_, _<_}
-use mathlib.Core.Path.{_≡_, refl, sym, ap, _∙_}
-use mathlib.Core.List.{List, [], _∷_, _++_}
-use mathlib.Core.Bool.{Bool, true, false, cond, _&&_}
+use Prim.Native.Nat.{ℕ, suc, _+_, _-_, _^_, _≤_, _<_}
+use mathlib.Core.Path.{_≡_, refl, ap, _∙_}
+use mathlib.Core.List.{List, [], _∷_}
+use mathlib.Core.Bool.{Bool, true, false, cond}
 use native.Mathlib.Omega.{arith}
-use borrow.Author.Tests.{le-leb, lt-leb, leb-true, leb-false, ltb-true, ltb-false}
+use borrow.Author.Tests.{leb-true, leb-false, ltb-true, ltb-false}
 use lib.Dec.{leb, ltb, eqb}
-use lib.IntN.{ℤ, pos}
+use lib.IntN.{ℤ}
 use lib.Signed.{mag}
 use lib.Seq.{drop-cons}
 use lib.ListN.{length, getD, drop, length-drop, length-append}
-use Rattle.basis.specs.Refusal.{badForm, outOfRange}
-use Rattle.basis.specs.Scan.{each, mem}
+use Rattle.basis.specs.Refusal.{badForm}
+use Rattle.basis.specs.Scan.{mem}
 use Rattle.basis.proofs.Tests.{clash, bool-cases}
-use Rattle.text.specs.Word.{Word, malformed, outside, value, within, isDigit, runLen, runVal, minusOf, rangedOf, zeroOf, countOf, signedOf, afterMinus, identOf}
+use Rattle.text.specs.Word.{Word, malformed, outside, value, within, runLen, rangedOf, countOf, signedOf, afterMinus, identOf}
 use Rattle.text.specs.Decimal.{decimalOf}
 use Rattle.text.specs.Line.{LineSaid, line, none, fault, lf, space, upTo, past, lineSays, lineBy, both, twoOf, vertexLine, edgeLine, coefficientLine}
-use Rattle.text.specs.Scan.{Scanned, scanned, wellFormed, hasAt, countAt, identAt, closed, fieldAt}
+use Rattle.text.specs.Scan.{Scanned, wellFormed, hasAt, countAt, identAt, closed, fieldAt}
 use Rattle.text.specs.declared.decimal.Decimal.{Decimal}
 use Rattle.text.proofs.Bytes.{cut-at, has-below, nothing-past, within-is, first-digit}
 use Rattle.text.proofs.Runs.{len-digit, len-le}

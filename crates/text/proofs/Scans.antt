@@ -1,26 +1,25 @@
 -- Laws of a count, an identifier and a field, scanned from a place: one for each way the code leaves. Assumes nothing.
-use Prim.Native.Nat.{ℕ, zero, suc, _+_, _-_, _^_, _≤_, _<_, min}
+use Prim.Native.Nat.{ℕ, zero, suc, _+_, _-_, _^_, _≤_, _<_}
 use mathlib.Core.Path.{_≡_, refl, sym, ap, _∙_}
-use mathlib.Core.List.{List, [], _∷_}
-use mathlib.Core.Bool.{Bool, true, false, cond}
+use mathlib.Core.List.{List}
+use mathlib.Core.Bool.{Bool, true, false}
 use native.Mathlib.Omega.{arith}
 use borrow.Author.Tests.{le-leb, lt-leb, leb-true, leb-false, eq-eqb}
-use lib.Dec.{leb, eqb}
+use lib.Dec.{leb}
 use lib.IntN.{ℤ, pos, negℤ, _-ℤ_, +ℤ-idl}
 use lib.Signed.{mag}
-use lib.ListN.{length, getD, drop}
+use lib.ListN.{length, getD}
 use mir.Syntax.{w64}
 use mir.Val.{toZ}
 use mir.ValLaws.{toZ-pos}
-use Rattle.basis.proofs.Tests.{bool-cases}
-use Rattle.text.specs.Word.{Word, malformed, outside, value, within, runLen, runVal, minusOf, rangedOf, signedOf}
-use Rattle.text.specs.Scan.{Scanned, scanned, wellFormed, hasAt, capped, runAt, countAt, cutWord, saturated, countSays, rangedAt, signedAt, identAt, closed, fieldAt, scanSays}
+use Rattle.text.specs.Word.{Word, malformed, outside, value, within, minusOf, rangedOf, signedOf}
+use Rattle.text.specs.Scan.{Scanned, scanned, hasAt, capped, runAt, countAt, cutWord, saturated, countSays, rangedAt, signedAt, identAt, closed, fieldAt, scanSays}
 use Rattle.text.specs.declared.count.Run.{Run}
 use Rattle.text.specs.declared.count.Counted.{Counted}
 use Rattle.text.specs.declared.count.Counted.the-variants as C
 use Rattle.text.specs.declared.ident.Scan.{Scan}
 use Rattle.text.specs.declared.ident.Scan.the-variants as S
-use Rattle.text.proofs.Bytes.{within-yes, within-low, within-high, has-yes, has-past, has-no, nothing-past}
+use Rattle.text.proofs.Bytes.{within-yes, within-low, within-high, has-yes, has-no, nothing-past}
 
 -- ---- a count
 module _ (s : List ℕ) (at : ℕ) where

@@ -1,21 +1,21 @@
 -- The scanner's rule is the paper's: a field that the byte c ends means what its bytes mean as a whole word, and stops past that c. Assumes nothing.
-use Prim.Native.Nat.{ℕ, zero, suc, _+_, _-_, _≤_, _<_}
+use Prim.Native.Nat.{ℕ, zero, suc, _+_, _-_, _^_, _≤_, _<_}
 use mathlib.Core.Path.{_≡_, refl, sym, ap, _∙_}
 use mathlib.Core.List.{List, [], _∷_, _++_}
-use mathlib.Core.Bool.{Bool, true, false, cond, _&&_, _||_}
+use mathlib.Core.Bool.{Bool, true, false, cond, _&&_}
 use native.Mathlib.Omega.{arith}
 use native.Mathlib.Nat.{add-zero}
-use borrow.Author.Tests.{eq-eqb, eqb-true, ne-eqb, eqb-false}
-use lib.Dec.{eqb}
+use borrow.Author.Tests.{eq-eqb, eqb-true}
+use lib.Dec.{leb, eqb}
 use lib.ListN.{length, getD, drop, length-drop, length-append}
 use lib.Seq.{getD-drop, getD-append-seam, drop-drop}
 use lib.IntN.{ℤ}
 use Rattle.basis.specs.Scan.{each, mem}
 use Rattle.basis.proofs.Tests.{clash, false-of, bool-cases, and-first, and-second, and-both, and-off}
 use Rattle.basis.proofs.Scans.{each-mem}
-use Rattle.text.specs.Word.{Word, malformed, outside, value, within, isDigit, stepped, runLen, runVal, zeroOf, countOf, signedOf, afterMinus, identOf}
+use Rattle.text.specs.Word.{Word, malformed, outside, value, within, isDigit, stepped, runLen, runVal, zeroOf, countOf, rangedOf, signedOf, afterMinus, identOf}
 use Rattle.text.specs.Scan.{Scanned, scanned, wellFormed, hasAt, countAt, signedAt, identAt, closed, fieldAt}
-use Rattle.text.proofs.Bytes.{within-is, no-first, no-zero, first-digit, has-yes, has-below, mem-head, mem-tail, mem-cut}
+use Rattle.text.proofs.Bytes.{no-first, no-zero, first-digit, has-yes, has-below, mem-head, mem-tail}
 use Rattle.text.proofs.Runs.{val-digit, val-stop, len-digit, len-stop}
 
 -- what was scanned is the word w, and stops at q where it is well formed
@@ -99,55 +99,76 @@ count-by : (s : List ℕ) (at b : ℕ) → at < length s → getD s at 0 ≡ b
 unfolding countAt
 count-by s at b l q = rw (← has-yes s at 48 l, q)
 
--- ---- a count with a sign before it
-module _ (neg : Bool) (s r : List ℕ) (at c : ℕ) (d : isDigit c ≡ false) where
-  abbrev U : Scanned ℕ → Scanned ℤ
-  U x = closed s c (signedAt neg x)
-
+-- ---- a count
+module _ (s r : List ℕ) (at c : ℕ) (d : isDigit c ≡ false) where
   zero-word : (b : ℕ) (bs : List ℕ) → drop at s ≡ (b ∷ bs) ++ c ∷ r → mem c (b ∷ bs) ≡ false
-      → Ends (at + length (b ∷ bs) + 1) (signedOf neg (zeroOf bs)) (U (scanned (value 0) (at + 1)))
+      → Ends (at + length (b ∷ bs) + 1) (zeroOf bs) (closed s c (scanned (value 0) (at + 1)))
   zero-word b [] e n =
-      closed-yes s c (at + 1) (signedOf neg (value 0)) (word-has s (b ∷ []) r at c e 1 c (omega arith) ∙ eq-eqb c c refl)
+      closed-yes s c (at + 1) (value 0) (word-has s (b ∷ []) r at c e 1 c (omega arith) ∙ eq-eqb c c refl)
   zero-word b (x ∷ xs) e n =
-      closed-no s c (at + 1) (at + length (b ∷ x ∷ xs) + 1) (signedOf neg (value 0))
+      closed-no s c (at + 1) (at + length (b ∷ x ∷ xs) + 1) (value 0)
       (word-has s (b ∷ x ∷ xs) r at c e 1 c (omega arith) ∙ mem-head c x xs (mem-tail c b (x ∷ xs) n))
 
   run-word : (b : ℕ) (bs : List ℕ) (t : Bool) → each isDigit bs ≡ t → within 49 57 b ≡ true → drop at s ≡ (b ∷ bs) ++ c ∷ r → mem c (b ∷ bs) ≡ false
-      → Ends (at + length (b ∷ bs) + 1) (signedOf neg (cond t (value (runVal 0 (b ∷ bs))) malformed)) (U (scanned (value (runVal 0 (drop at s))) (at + runLen (drop at s))))
+      → Ends (at + length (b ∷ bs) + 1) (cond t (value (runVal 0 (b ∷ bs))) malformed) (closed s c (scanned (value (runVal 0 (drop at s))) (at + runLen (drop at s))))
   unfolding each
   run-word b bs true a w e n =
       let al : each isDigit (b ∷ bs) ≡ true = and-both (first-digit b w) a in
       let q : runLen (drop at s) ≡ length (b ∷ bs) = ap runLen e ∙ run-len c (b ∷ bs) r d al in
       let v : runVal 0 (drop at s) ≡ runVal 0 (b ∷ bs) = ap (runVal 0) e ∙ run-val 0 c (b ∷ bs) r d al in
       rw (q, v)
-      (closed-yes s c (at + length (b ∷ bs)) (signedOf neg (value (runVal 0 (b ∷ bs))))
+      (closed-yes s c (at + length (b ∷ bs)) (value (runVal 0 (b ∷ bs)))
       (word-has s (b ∷ bs) r at c e (length (b ∷ bs)) c (omega arith) ∙ ap (λ (k : ℕ). eqb k c) (getD-append-seam (b ∷ bs) c r 0) ∙ eq-eqb c c refl))
   run-word b bs false a w e n =
       let al : each isDigit (b ∷ bs) ≡ false = rw (first-digit b w) a in
       let x = breaks c (b ∷ bs) r al n in
       rw e
-      (closed-no s c (at + runLen ((b ∷ bs) ++ c ∷ r)) (at + length (b ∷ bs) + 1) (signedOf neg (value (runVal 0 ((b ∷ bs) ++ c ∷ r))))
+      (closed-no s c (at + runLen ((b ∷ bs) ++ c ∷ r)) (at + length (b ∷ bs) + 1) (value (runVal 0 ((b ∷ bs) ++ c ∷ r)))
       (word-has s (b ∷ bs) r at c e (runLen ((b ∷ bs) ++ c ∷ r)) c (omega (arith, x .before)) ∙ x .other))
 
   by-within : (b : ℕ) (bs : List ℕ) (t : Bool) → within 49 57 b ≡ t → drop at s ≡ (b ∷ bs) ++ c ∷ r → mem c (b ∷ bs) ≡ false
-      → Ends (at + length (b ∷ bs) + 1) (signedOf neg (cond (t && each isDigit bs) (value (runVal 0 (b ∷ bs))) malformed))
-      (U (cond t (scanned (value (runVal 0 (drop at s))) (at + runLen (drop at s))) (scanned malformed at)))
+      → Ends (at + length (b ∷ bs) + 1) (cond (t && each isDigit bs) (value (runVal 0 (b ∷ bs))) malformed)
+      (closed s c (cond t (scanned (value (runVal 0 (drop at s))) (at + runLen (drop at s))) (scanned malformed at)))
   by-within b bs true w e n = run-word b bs (each isDigit bs) refl w e n
   by-within b bs false w e n = bad-ends (at + length (b ∷ bs) + 1) at
 
   by-zero : (b : ℕ) (bs : List ℕ) (t : Bool) → drop at s ≡ (b ∷ bs) ++ c ∷ r → mem c (b ∷ bs) ≡ false
-      → Ends (at + length (b ∷ bs) + 1) (signedOf neg (cond t (zeroOf bs) (cond (within 49 57 b && each isDigit bs) (value (runVal 0 (b ∷ bs))) malformed)))
-      (U (cond t (scanned (value 0) (at + 1)) (cond (within 49 57 b) (scanned (value (runVal 0 (drop at s))) (at + runLen (drop at s))) (scanned malformed at))))
+      → Ends (at + length (b ∷ bs) + 1) (cond t (zeroOf bs) (cond (within 49 57 b && each isDigit bs) (value (runVal 0 (b ∷ bs))) malformed))
+      (closed s c (cond t (scanned (value 0) (at + 1)) (cond (within 49 57 b) (scanned (value (runVal 0 (drop at s))) (at + runLen (drop at s))) (scanned malformed at))))
   by-zero b bs true e n = zero-word b bs e n
   by-zero b bs false e n = by-within b bs (within 49 57 b) refl e n
 
-  pub count-word : (bs : List ℕ) → drop at s ≡ bs ++ c ∷ r → mem c bs ≡ false → Ends (at + length bs + 1) (signedOf neg (countOf bs)) (U (countAt s at))
+  count-word : (bs : List ℕ) → drop at s ≡ bs ++ c ∷ r → mem c bs ≡ false → Ends (at + length bs + 1) (countOf bs) (closed s c (countAt s at))
   count-word [] e n =
       rw (count-by s at c (omega (arith, word-in s [] r at c e 0 (omega arith))) (first-byte s [] r at c e), no-zero c d, no-first c d)
       (bad-ends (at + 0 + 1) at)
   count-word (b ∷ bs) e n =
       rw (count-by s at b (omega (arith, word-in s (b ∷ bs) r at c e 0 (omega arith))) (first-byte s (b ∷ bs) r at c e))
       (by-zero b bs (eqb b 48) e n)
+
+-- with its sign
+ranged-well : (neg : Bool) (n : ℕ) → wellFormed (rangedOf neg n) ≡ true
+ranged-well true n = bool-cases (leb n (2 ^ 63)) _ (λ e. rw e) (λ e. rw e)
+ranged-well false n = bool-cases (leb n (2 ^ 63 - 1)) _ (λ e. rw e) (λ e. rw e)
+
+closed-signed : (neg : Bool) (s : List ℕ) (c q : ℕ) (w : Word ℕ) → closed s c (signedAt neg (scanned w q)) ≡ signedAt neg (closed s c (scanned w q))
+closed-signed neg s c q malformed = refl
+closed-signed neg s c q outside = bool-cases (hasAt s q c) _ (λ e. rw e) (λ e. rw e)
+closed-signed neg s c q (value n) = rw (ranged-well neg n) (bool-cases (hasAt s q c) _ (λ e. rw e) (λ e. rw e))
+
+signed-ends : (neg : Bool) (q : ℕ) (w : Word ℕ) (x : Scanned ℕ) → Ends q w x → Ends q (signedOf neg w) (signedAt neg x)
+signed-ends neg q w x h = record { said = ap (signedOf neg) (h .said); next = λ k. h .next (by w k) }
+  where
+    by : (w : Word ℕ) → wellFormed (signedOf neg w) ≡ true → wellFormed w ≡ true
+    by malformed k = k
+    by outside k = refl
+    by (value n) k = refl
+
+signed-word : (neg : Bool) (s r : List ℕ) (at c : ℕ) → isDigit c ≡ false → (bs : List ℕ) → drop at s ≡ bs ++ c ∷ r → mem c bs ≡ false
+    → Ends (at + length bs + 1) (signedOf neg (countOf bs)) (closed s c (signedAt neg (countAt s at)))
+signed-word neg s r at c d bs e n =
+    rw (closed-signed neg s c (countAt s at .next) (countAt s at .said))
+    (signed-ends neg (at + length bs + 1) (countOf bs) (closed s c (countAt s at)) (count-word s r at c d bs e n))
 
 -- ---- an identifier
 word-next : (s bs r : List ℕ) (at c b : ℕ) → drop at s ≡ (b ∷ bs) ++ c ∷ r → drop (at + 1) s ≡ bs ++ c ∷ r
@@ -161,17 +182,17 @@ module _ (s r : List ℕ) (at c : ℕ) (d : isDigit c ≡ false) (m : eqb c 45 �
   -- after `-`, which stands at `at`
   minus-word : (bs : List ℕ) → drop (at + 1) s ≡ bs ++ c ∷ r → mem c bs ≡ false
       → Ends (at + 1 + length bs + 1) (afterMinus bs) (closed s c (cond (hasAt s (at + 1) 48) (scanned malformed (at + 1)) (signedAt true (countAt s (at + 1)))))
-  minus-word [] e n = rw (first-has s [] r (at + 1) c e 48, no-zero c d) (count-word true s r (at + 1) c d [] e n)
+  minus-word [] e n = rw (first-has s [] r (at + 1) c e 48, no-zero c d) (signed-word true s r (at + 1) c d [] e n)
   minus-word (x ∷ xs) e n = rw (first-has s (x ∷ xs) r (at + 1) c e 48) (by (eqb x 48))
     where
       by : (t : Bool) → Ends (at + 1 + length (x ∷ xs) + 1) (cond t malformed (signedOf true (countOf (x ∷ xs))))
           (closed s c (cond t (scanned malformed (at + 1)) (signedAt true (countAt s (at + 1)))))
       by true = bad-ends (at + 1 + length (x ∷ xs) + 1) (at + 1)
-      by false = count-word true s r (at + 1) c d (x ∷ xs) e n
+      by false = signed-word true s r (at + 1) c d (x ∷ xs) e n
 
   ident-word : (bs : List ℕ) → drop at s ≡ bs ++ c ∷ r → mem c bs ≡ false → Ends (at + length bs + 1) (identOf bs) (fieldAt s at c)
   unfolding fieldAt identAt
-  ident-word [] e n = rw (first-has s [] r at c e 45, m) (count-word false s r at c d [] e n)
+  ident-word [] e n = rw (first-has s [] r at c e 45, m) (signed-word false s r at c d [] e n)
   ident-word (b ∷ bs) e n = rw (first-has s (b ∷ bs) r at c e 45) (by (eqb b 45))
     where
       by : (t : Bool) → Ends (at + length (b ∷ bs) + 1) (cond t (afterMinus bs) (signedOf false (countOf (b ∷ bs))))
@@ -179,7 +200,7 @@ module _ (s r : List ℕ) (at c : ℕ) (d : isDigit c ≡ false) (m : eqb c 45 �
       by true =
           one-on at (length bs) (afterMinus bs) (closed s c (cond (hasAt s (at + 1) 48) (scanned malformed (at + 1)) (signedAt true (countAt s (at + 1)))))
           (minus-word bs (word-next s bs r at c b e) (mem-tail c b bs n))
-      by false = count-word false s r at c d (b ∷ bs) e n
+      by false = signed-word false s r at c d (b ∷ bs) e n
 
 -- ---- a field that no c ends
 by-test {ℓ} : {A : Type 0} (P : A → Type ℓ) (t : Bool) (a b : A) → (t ≡ true → P a) → (t ≡ false → P b) → P (cond t a b)
@@ -219,7 +240,14 @@ field-open : (s : List ℕ) (at c : ℕ) → mem c (drop at s) ≡ false → fie
 unfolding fieldAt
 field-open s at c n = closed-no s c (identAt s at .next) 0 (identAt s at .said) (no-end s at c (identAt s at .next) (ident-from s at) n) .said
 
--- ---- the theorem: the scanner's answer is the readable one
+-- ---- the theorem: the scanner's answer is the readable one, for a count and for an identifier
+pub count-reads : (s : List ℕ) (at c : ℕ) → isDigit c ≡ false → Reads c countOf s at (closed s c (countAt s at))
+count-reads s at c d =
+    record {
+      ended = λ bs r. count-word s r at c d bs;
+      unended = λ n. closed-no s c (countAt s at .next) 0 (countAt s at .said) (no-end s at c (countAt s at .next) (count-from s at) n) .said;
+    }
+
 pub field-reads : (s : List ℕ) (at c : ℕ) → isDigit c ≡ false → eqb c 45 ≡ false → Reads c identOf s at (fieldAt s at c)
 field-reads s at c d m = record { ended = λ bs r. ident-word s r at c d m bs; unended = field-open s at c }
 

@@ -1,11 +1,11 @@
 -- 01 "Claims and verdicts": "a plain or scientific decimal: `0` or digits without a leading zero, optionally `.` and at least one digit,
 -- optionally `e`, a sign and two digits. It has no minus before it". 46 is `.`, 101 `e`, 43 `+`, 45 `-`.
-use Prim.Native.Nat.{ℕ, suc, _+_, _-_, _*_}
-use mathlib.Core.List.{List, [], _∷_}
-use mathlib.Core.Bool.{Bool, true, false, cond, _&&_, _||_}
+use Prim.Native.Nat.{ℕ, _+_, _-_, _*_}
+use mathlib.Core.List.{List}
+use mathlib.Core.Bool.{Bool, cond, _&&_, _||_}
 use lib.ListN.{length, getD, drop}
 use lib.Dec.{ltb, leb, eqb}
-use Rattle.text.specs.Word.{Word, malformed, outside, value, isDigit, runLen, runVal}
+use Rattle.text.specs.Word.{Word, malformed, value, isDigit, runLen, runVal}
 use Rattle.text.specs.declared.decimal.Decimal.{Decimal}
 use Rattle.text.specs.declared.decimal.DecimalWord.{DecimalWord}
 use Rattle.text.specs.declared.decimal.DecimalWord.the-variants as DW
@@ -55,14 +55,13 @@ scaled n f (up k) = value (decimal n k f)
 scaled n f (down k) = value (decimal n 0 (f + k))
 scaled n f wrong = malformed
 
--- w digits before the point; from p to q the digits after it, one at least if there is a point; all of them make the number n
+-- w digits before the point; f digits after it, from p on, one at least if there is a point; all of them make the number n
 unfoldable pub partsOf : List ℕ → ℕ → ℕ → ℕ → ℕ → Word Decimal
-partsOf s w p n q =
-    cond (wholeIsGood s w && (leb p (w + (q - p)) && leb (w + (q - p)) digitLimit)) (scaled n (q - p) (powerAt s q)) malformed
+partsOf s w p f n = cond (wholeIsGood s w && (leb p (w + f) && leb (w + f) digitLimit)) (scaled n f (powerAt s (p + f))) malformed
 
 -- the decimal of a whole word: the digits at its front, a point or none, the digits at the front of what follows
 unfoldable pub fractionOf : List ℕ → ℕ → ℕ → Word Decimal
-fractionOf s w p = partsOf s w p (runVal (runVal 0 s) (drop p s)) (p + runLen (drop p s))
+fractionOf s w p = partsOf s w p (runLen (drop p s)) (runVal (runVal 0 s) (drop p s))
 
 unfoldable pub decimalOf : List ℕ → Word Decimal
 decimalOf s = fractionOf s (runLen s) (pastPoint s (runLen s))

@@ -1,10 +1,11 @@
 -- What the code scans from a place on, without knowing where the word ends. Past the end of a file `getD s at 0` is 0, which begins and continues nothing.
-use Prim.Native.Nat.{ℕ, _+_, _-_, _^_, min}
-use mathlib.Core.List.{List, [], _∷_}
+use Prim.Native.Nat.{ℕ, _+_, min}
+use mathlib.Core.List.{List}
 use mathlib.Core.Bool.{Bool, true, false, cond, _&&_}
 use lib.ListN.{length, getD, drop}
-use lib.Dec.{ltb, leb, eqb}
+use lib.Dec.{ltb, eqb}
 use lib.IntN.{ℤ}
+use Rattle.basis.specs.Refusal.{badForm, outOfRange}
 use Rattle.text.specs.Word.{Word, malformed, outside, value, within, runLen, runVal, rangedOf, signedOf}
 use Rattle.text.specs.Decimal.{decimalOf}
 use Rattle.text.specs.Line.{LineSaid, lf, upTo, lineSays, both}
@@ -97,13 +98,19 @@ restWord s at = cond (hasAt s (endAt s at) lf) (decimalOf (upTo lf (drop at s)))
 unfoldable pub restAt : List ℕ → ℕ → Scanned Decimal
 restAt s at = scanned (restWord s at) (cond (wellFormed (restWord s at)) (endAt s at + 1) at)
 
-abbrev pub restSays : ℕ → Rest → Scanned Decimal
-restSays at R.Bad = scanned malformed at
-restSays at (R.Value d p) = scanned (value d) p
+abbrev pub restSays : Rest → Scanned Decimal
+restSays (R.Bad p) = scanned malformed p
+restSays (R.Value d p) = scanned (value d) p
 
 -- a word and what was scanned after it
 abbrev pub beside : {A B : Type 0} → Word A → Scanned B → Scanned (A × B)
 beside x y = scanned (both x (y .said)) (y .next)
+
+-- the fault of a line whose first word is out of range, by its second word
+abbrev pub faultBeside : {A : Type 0} → Word A → ℕ
+faultBeside malformed = badForm
+faultBeside outside = outOfRange
+faultBeside (value v) = outOfRange
 
 -- the line that began at `at`, by what was scanned
 abbrev pub lineOf : {A : Type 0} → ℕ → Scanned A → LineSaid A

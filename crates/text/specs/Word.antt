@@ -1,5 +1,5 @@
 -- 01 "Lists": what a word, the bytes of a whole field, says. Bytes are numbers: 48 to 57 are the digits, 45 is `-`.
-use Prim.Native.Nat.{ℕ, zero, suc, _+_, _-_, _*_, _^_}
+use Prim.Native.Nat.{ℕ, _+_, _-_, _*_, _^_}
 use mathlib.Core.List.{List, [], _∷_}
 use mathlib.Core.Bool.{Bool, true, false, cond, _&&_}
 use lib.Dec.{leb, eqb}

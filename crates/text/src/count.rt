@@ -1,6 +1,6 @@
 // A byte at a place, a run of digits, and a count.
 ghost use mathlib.Core.Path.{_≡_};
-ghost use Prim.Native.Nat.{ℕ, _+_, _≤_};
+ghost use Prim.Native.Nat.{_+_, _≤_};
 ghost use lib.ListN.{length, drop};
 ghost use Rattle.text.specs.Word.{stepped};
 ghost use Rattle.text.specs.Line.{lf, upTo};

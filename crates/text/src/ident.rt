@@ -3,7 +3,7 @@ use crate::count::Counted;
 use crate::count::count;
 use crate::count::has;
 ghost use mathlib.Core.Path.{_≡_};
-ghost use Prim.Native.Nat.{ℕ, _≤_};
+ghost use Prim.Native.Nat.{_≤_};
 ghost use Rattle.text.specs.Word.{minusOf};
 ghost use Rattle.text.specs.Scan.{countAt, rangedAt, signedAt, identAt, fieldAt, scanSays};
 

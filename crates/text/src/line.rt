@@ -11,9 +11,9 @@ use crate::ident::field;
 use basis::refusal::BAD_FORM;
 use basis::refusal::OUT_OF_RANGE;
 ghost use mathlib.Core.Path.{_≡_};
-ghost use Rattle.text.specs.Word.{outside, value};
+ghost use Rattle.text.specs.Word.{value};
 ghost use Rattle.text.specs.Line.{vertexLine, edgeLine, claimLine, coefficientLine, vertexSays, edgeSays, coefficientSays};
-ghost use Rattle.text.specs.Scan.{scanSays, restAt, restSays, beside, lineOf};
+ghost use Rattle.text.specs.Scan.{scanSays, restAt, restSays, beside, faultBeside, lineOf};
 
 // A reader's place in a file.
 pub struct Cursor {
@@ -40,22 +40,22 @@ pub enum CoefficientLine {
     Line(i64, Decimal, Cursor),
 }
 
-// The decimal from a place to the end of its line, and the place past that line; or that there is none.
+// The decimal that ends its line, and the place past that line; or the place where one should have begun.
 enum Rest {
-    Bad,
+    Bad(usize),
     Value(Decimal, usize),
 }
 
 fn decimal_rest(s: &[u8], at: usize) -> Rest
-    ensures { λ r. ⌜ restSays at r ≡ restAt (now (s .entry)) at ⌝ }
+    ensures { λ r. ⌜ restSays r ≡ restAt (now (s .entry)) at ⌝ }
 {
     let end = line_end(s, at);
     if !has(s, end, LF) {
-        return Rest::Bad;
+        return Rest::Bad(at);
     }
     let x = decimal_of(&s[at..end]);
     match x {
-        DecimalWord::Bad => Rest::Bad,
+        DecimalWord::Bad => Rest::Bad(at),
         DecimalWord::Value(d) => Rest::Value(d, end + 1),
     }
 }
@@ -71,32 +71,33 @@ fn edge_of(c: Cursor, u: i64, second: Scan) -> EdgeLine
     }
 }
 
-// The same where the first number is out of range: a fault of form still comes before it.
-fn edge_outside(c: Cursor, second: Scan) -> EdgeLine
-    ensures { λ r. ⌜ edgeSays r ≡ lineOf (c .at) (beside outside (scanSays second)) ⌝ }
+// The fault of a line whose first number is out of range: one of form in its second field comes before it.
+fn fault_beside(second: Scan) -> usize
+    ensures { λ r. ⌜ r ≡ faultBeside (scanSays second .said) ⌝ }
 {
     match second {
-        Scan::Bad(_) => EdgeLine::Fault(BAD_FORM, c),
-        Scan::Outside(_) => EdgeLine::Fault(OUT_OF_RANGE, c),
-        Scan::Value(_, _) => EdgeLine::Fault(OUT_OF_RANGE, c),
+        Scan::Bad(_) => BAD_FORM,
+        Scan::Outside(_) => OUT_OF_RANGE,
+        Scan::Value(_, _) => OUT_OF_RANGE,
     }
 }
 
-fn coefficient_of(c: Cursor, u: i64, from: usize, second: Rest) -> CoefficientLine
-    ensures { λ r. ⌜ coefficientSays r ≡ lineOf (c .at) (beside (value u) (restSays from second)) ⌝ }
+// A coefficient line, likewise.
+fn coefficient_of(c: Cursor, u: i64, second: Rest) -> CoefficientLine
+    ensures { λ r. ⌜ coefficientSays r ≡ lineOf (c .at) (beside (value u) (restSays second)) ⌝ }
 {
     match second {
-        Rest::Bad => CoefficientLine::Fault(BAD_FORM, c),
+        Rest::Bad(_) => CoefficientLine::Fault(BAD_FORM, c),
         Rest::Value(d, next) => CoefficientLine::Line(u, d, Cursor { at: next }),
     }
 }
 
-fn coefficient_outside(c: Cursor, from: usize, second: Rest) -> CoefficientLine
-    ensures { λ r. ⌜ coefficientSays r ≡ lineOf (c .at) (beside outside (restSays from second)) ⌝ }
+fn fault_beside_rest(second: Rest) -> usize
+    ensures { λ r. ⌜ r ≡ faultBeside (restSays second .said) ⌝ }
 {
     match second {
-        Rest::Bad => CoefficientLine::Fault(BAD_FORM, c),
-        Rest::Value(_, _) => CoefficientLine::Fault(OUT_OF_RANGE, c),
+        Rest::Bad(_) => BAD_FORM,
+        Rest::Value(_, _) => OUT_OF_RANGE,
     }
 }
 
@@ -128,7 +129,7 @@ impl Cursor {
         let x = field(s, at, SPACE);
         match x {
             Scan::Bad(_) => EdgeLine::Fault(BAD_FORM, self),
-            Scan::Outside(p) => edge_outside(self, field(s, p, LF)),
+            Scan::Outside(p) => EdgeLine::Fault(fault_beside(field(s, p, LF)), self),
             Scan::Value(u, p) => edge_of(self, u, field(s, p, LF)),
         }
     }
@@ -151,8 +152,8 @@ impl Cursor {
         let x = field(s, at, SPACE);
         match x {
             Scan::Bad(_) => CoefficientLine::Fault(BAD_FORM, self),
-            Scan::Outside(p) => coefficient_outside(self, p, decimal_rest(s, p)),
-            Scan::Value(u, p) => coefficient_of(self, u, p, decimal_rest(s, p)),
+            Scan::Outside(p) => CoefficientLine::Fault(fault_beside_rest(decimal_rest(s, p)), self),
+            Scan::Value(u, p) => coefficient_of(self, u, decimal_rest(s, p)),
         }
     }
 }

@@ -1,5 +1,5 @@
-use Prim.Native.Nat.{_+_, _-_, _^_, _<_}
-use mathlib.Core.Path.{_≡_, _∙_}
+use Prim.Native.Nat.{_+_, _-_}
+use mathlib.Core.Path.{_≡_}
 use lib.ListN.{length, drop}
 use Rattle.text.specs.Line.{lf, upTo}
 use Rattle.text.proofs.Bytes.{end-out, end-here, end-on}

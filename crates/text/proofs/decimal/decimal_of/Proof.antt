@@ -12,8 +12,11 @@ past-point-requires c κs = search needs
 digits-requires-2 : tie.Need-digits-requires-2
 digits-requires-2 c κs = search needs
 
+sub-parts : tie.Need-sub-parts
+sub-parts c = search decimal-on
+
 parts-requires : tie.Need-parts-requires
-parts-requires c κs = (search decimal-from, search decimal-on, search decimal-within)
+parts-requires c κs = (search decimal-from, search decimal-within)
 
 returns : tie.Need-returns
 returns c = search decimal-is
@@ -21,4 +24,10 @@ returns c = search decimal-is
 pub decimal-of-spec : {M : Type 1} → statement M
 decimal-of-spec =
     tie.close
-    (tie.spec digits-requires past-point-requires digits-requires-2 parts-requires returns)
+    (tie.spec
+    digits-requires
+    past-point-requires
+    digits-requires-2
+    sub-parts
+    parts-requires
+    returns)

@@ -3,9 +3,6 @@ use borrow.Author.Needs.{needs}
 use Rattle.text.proofs.decimal.parts.Statement.{statement}
 use Rattle.text.proofs.decimal.parts.Tie as tie
 
-sub-f : tie.Need-sub-f
-sub-f c = search needs
-
 whole-is-good-requires : tie.Need-whole-is-good-requires
 whole-is-good-requires c κs = search needs
 
@@ -27,6 +24,9 @@ returns-3 c = search parts-limit
 cast-with-power : tie.Need-cast-with-power
 cast-with-power c = search needs
 
+add-power-at : tie.Need-add-power-at
+add-power-at c = search needs
+
 power-at-requires : tie.Need-power-at-requires
 power-at-requires c κs = search needs
 
@@ -40,7 +40,6 @@ pub parts-spec : {M : Type 1} → statement M
 parts-spec =
     tie.close
     (tie.spec
-    sub-f
     whole-is-good-requires
     returns
     add-if2
@@ -48,6 +47,7 @@ parts-spec =
     add-if3
     returns-3
     cast-with-power
+    add-power-at
     power-at-requires
     with-power-requires
     returns-4)

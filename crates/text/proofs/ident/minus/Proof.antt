@@ -1,5 +1,5 @@
 -- `text::ident::minus` meets its contract: 2 ^ 63 by itself, and a smaller number as 0 - n, whose bits read back. Assumes nothing.
-use Prim.Native.Nat.{ℕ, _<_, _≤_, _^_}
+use Prim.Native.Nat.{ℕ, _<_, _^_}
 use mathlib.Core.Path.{_≡_, sym, ap, _∙_}
 use native.Mathlib.Omega.{arith}
 use borrow.Author.Needs.{needs}

@@ -18,8 +18,8 @@ enum-known-x c = search needs
 decimal-rest-requires : tie.Need-decimal-rest-requires
 decimal-rest-requires c κs = search needs
 
-coefficient-outside-requires : tie.Need-coefficient-outside-requires
-coefficient-outside-requires c κs = search needs
+fault-beside-rest-requires : tie.Need-fault-beside-rest-requires
+fault-beside-rest-requires c κs = search needs
 
 enum-known-x-2 : tie.Need-enum-known-x-2
 enum-known-x-2 c = search needs
@@ -48,7 +48,7 @@ coefficient-claim-spec =
     enum-told
     enum-known-x
     decimal-rest-requires
-    coefficient-outside-requires
+    fault-beside-rest-requires
     enum-known-x-2
     decimal-rest-requires-2
     coefficient-of-requires

@@ -18,8 +18,8 @@ enum-known-x c = search needs
 field-requires-2 : tie.Need-field-requires-2
 field-requires-2 c κs = search needs
 
-edge-outside-requires : tie.Need-edge-outside-requires
-edge-outside-requires c κs = search needs
+fault-beside-requires : tie.Need-fault-beside-requires
+fault-beside-requires c κs = search needs
 
 enum-known-x-2 : tie.Need-enum-known-x-2
 enum-known-x-2 c = search needs
@@ -48,7 +48,7 @@ edge-spec =
     enum-told
     enum-known-x
     field-requires-2
-    edge-outside-requires
+    fault-beside-requires
     enum-known-x-2
     field-requires-3
     edge-of-requires
