@@ -1,3 +1,6 @@
+use Rattle.verdicts.proofs.Settling.{numbers-refused, numbers-short, known-ids, numbers-done}
+use mathlib.Core.Path.{sym}
+use lib.Seq.{length-take-le}
 use borrow.Author.Needs.{needs}
 use Rattle.verdicts.proofs.claims.numbers_on.Statement.{statement}
 use Rattle.verdicts.proofs.claims.numbers_on.Tie as tie
@@ -38,11 +41,11 @@ same-length-2 c = search needs
 
 -- src/claims.rt:89:17
 returns : tie.Need-returns
-returns c = ?
+returns c = search numbers-short
 
 -- src/claims.rt:91:52
 slice-aggregate-judge-numbers : tie.Need-slice-aggregate-judge-numbers
-slice-aggregate-judge-numbers c = ?
+slice-aggregate-judge-numbers c = sym (length-take-le _ _ (search known-ids))
 
 -- src/claims.rt:91:17
 judge-numbers-requires : tie.Need-judge-numbers-requires
@@ -62,7 +65,7 @@ same-length-4 c = search needs
 
 -- src/claims.rt:70:1
 returns-2 : tie.Need-returns-2
-returns-2 c = ?
+returns-2 c = search numbers-refused
 
 -- src/claims.rt:70:1
 same-length-5 : tie.Need-same-length-5
@@ -74,7 +77,7 @@ same-length-6 c = search needs
 
 -- src/claims.rt:70:1
 returns-3 : tie.Need-returns-3
-returns-3 c = ?
+returns-3 c = search numbers-done
 
 pub numbers-on-spec : {M : Type 1} → statement M
 numbers-on-spec =

@@ -1,3 +1,4 @@
+use Rattle.verdicts.proofs.Settling.{both-numbers}
 use borrow.Author.Needs.{needs}
 use Rattle.verdicts.proofs.claims.refuse_numbers.Statement.{statement}
 use Rattle.verdicts.proofs.claims.refuse_numbers.Tie as tie
@@ -23,7 +24,7 @@ same-length-2 c = search needs
 
 -- src/claims.rt:53:1
 returns : tie.Need-returns
-returns c = ?
+returns c = search both-numbers
 
 pub refuse-numbers-spec : {M : Type 1} → statement M
 refuse-numbers-spec =

@@ -1,3 +1,4 @@
+use Rattle.verdicts.proofs.Settling.{both-terms}
 use borrow.Author.Needs.{needs}
 use Rattle.verdicts.proofs.claims.refuse_terms.Statement.{statement}
 use Rattle.verdicts.proofs.claims.refuse_terms.Tie as tie
@@ -23,7 +24,7 @@ same-length-2 c = search needs
 
 -- src/claims.rt:61:1
 returns : tie.Need-returns
-returns c = ?
+returns c = search both-terms
 
 pub refuse-terms-spec : {M : Type 1} → statement M
 refuse-terms-spec =

@@ -1,3 +1,5 @@
+use Rattle.verdicts.proofs.Settling.{kept-stays, kept-goes}
+use mathlib.Core.Path.{refl}
 use borrow.Author.Needs.{needs}
 use Rattle.verdicts.proofs.claims.settle_numbers.Statement.{statement}
 use Rattle.verdicts.proofs.claims.settle_numbers.Tie as tie
@@ -12,7 +14,7 @@ is-refused-requires c κs = search needs
 
 -- src/claims.rt:36:9
 returns : tie.Need-returns
-returns c = ?
+returns c = (refl, search kept-stays)
 
 -- src/claims.rt:38:5
 clear-signed-requires : tie.Need-clear-signed-requires
@@ -24,7 +26,7 @@ same-length c = search needs
 
 -- src/claims.rt:32:1
 returns-2 : tie.Need-returns-2
-returns-2 c = ?
+returns-2 c = (refl, search kept-goes)
 
 pub settle-numbers-spec : {M : Type 1} → statement M
 settle-numbers-spec =

@@ -1,3 +1,4 @@
+use Rattle.verdicts.proofs.Settling.{both-terms, kept-stays, kept-goes}
 use borrow.Author.Needs.{needs}
 use Rattle.verdicts.proofs.claims.settle_terms.Statement.{statement}
 use Rattle.verdicts.proofs.claims.settle_terms.Tie as tie
@@ -12,7 +13,7 @@ is-refused-requires c κs = search needs
 
 -- src/claims.rt:46:9
 returns : tie.Need-returns
-returns c = ?
+returns c = search (both-terms, kept-stays)
 
 -- src/claims.rt:48:5
 clear-requires : tie.Need-clear-requires
@@ -32,7 +33,7 @@ same-length-2 c = search needs
 
 -- src/claims.rt:42:1
 returns-2 : tie.Need-returns-2
-returns-2 c = ?
+returns-2 c = search (both-terms, kept-goes)
 
 pub settle-terms-spec : {M : Type 1} → statement M
 settle-terms-spec =

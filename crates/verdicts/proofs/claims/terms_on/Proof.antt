@@ -1,3 +1,6 @@
+use Rattle.verdicts.proofs.Settling.{terms-refused, terms-short, terms-done, known-ids}
+use mathlib.Core.Path.{sym}
+use lib.Seq.{length-take-le}
 use borrow.Author.Needs.{needs}
 use Rattle.verdicts.proofs.claims.terms_on.Statement.{statement}
 use Rattle.verdicts.proofs.claims.terms_on.Tie as tie
@@ -38,11 +41,11 @@ same-length-2 c = search needs
 
 -- src/claims.rt:116:17
 returns : tie.Need-returns
-returns c = ?
+returns c = search terms-short
 
 -- src/claims.rt:118:51
 slice-aggregate-judge-coefficients : tie.Need-slice-aggregate-judge-coefficients
-slice-aggregate-judge-coefficients c = ?
+slice-aggregate-judge-coefficients c = sym (length-take-le _ _ (search known-ids))
 
 -- src/claims.rt:118:17
 judge-coefficients-requires : tie.Need-judge-coefficients-requires
@@ -62,7 +65,7 @@ same-length-4 c = search needs
 
 -- src/claims.rt:98:1
 returns-2 : tie.Need-returns-2
-returns-2 c = ?
+returns-2 c = search terms-refused
 
 -- src/claims.rt:98:1
 same-length-5 : tie.Need-same-length-5
@@ -74,7 +77,7 @@ same-length-6 c = search needs
 
 -- src/claims.rt:98:1
 returns-3 : tie.Need-returns-3
-returns-3 c = ?
+returns-3 c = search terms-done
 
 pub terms-on-spec : {M : Type 1} → statement M
 terms-on-spec =

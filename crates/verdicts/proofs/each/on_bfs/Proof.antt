@@ -1,3 +1,5 @@
+use mir.Facts.{toZ-ofZ}
+use Rattle.verdicts.proofs.Kernels.{bfs-known, bfs-roomy, bfs-cleared, bfs-verdict}
 use borrow.Author.Needs.{needs}
 use Rattle.verdicts.proofs.each.on_bfs.Statement.{statement}
 use Rattle.verdicts.proofs.each.on_bfs.Tie as tie
@@ -12,7 +14,7 @@ bfs-requires c κs = search needs
 
 -- src/each.rt:50:5
 numbers-on-requires : tie.Need-numbers-on-requires
-numbers-on-requires c κs = ?
+numbers-on-requires c κs = (search (bfs-known, toZ-ofZ), (search (bfs-roomy, toZ-ofZ), search needs))
 
 -- src/each.rt:19:1
 same-length : tie.Need-same-length
@@ -28,7 +30,7 @@ same-length-3 c = search needs
 
 -- src/each.rt:19:1
 returns : tie.Need-returns
-returns c = ?
+returns c = (search (bfs-verdict, toZ-ofZ), search (bfs-cleared, toZ-ofZ))
 
 pub on-bfs-spec : {M : Type 1} → statement M
 on-bfs-spec =

@@ -1,0 +1,4 @@
+-- Laws of verdicts.
+pub mod Settling
+pub mod Running
+pub mod Kernels
