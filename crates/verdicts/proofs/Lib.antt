@@ -2,3 +2,4 @@
 pub mod Settling
 pub mod Running
 pub mod Kernels
+pub mod Fractions
