@@ -1,3 +1,5 @@
+use mir.Facts.{toZ-ofZ}
+use Rattle.verdicts.proofs.Kernels.{cdlp-known, cdlp-roomy, cdlp-cleared, cdlp-verdict}
 use borrow.Author.Needs.{needs}
 use Rattle.verdicts.proofs.each.on_cdlp.Statement.{statement}
 use Rattle.verdicts.proofs.each.on_cdlp.Tie as tie
@@ -12,7 +14,8 @@ cdlp-requires c κs = search needs
 
 -- src/each.rt:143:5
 numbers-on-requires : tie.Need-numbers-on-requires
-numbers-on-requires c κs = ?
+numbers-on-requires c κs =
+    let a = c .before .before .before .before .before .before .before .before .before .before .before .before .before .before .before .before .before .before .before .before .before .before in let e = c .before .before .before .before .before .before .before .before .before .cdlp .ensures in let p = toZ-ofZ (a .fits .iterations) in (cdlp-known _ _ p _ _ _ _ e, (cdlp-roomy _ _ p _ _ _ _ e (a .pre .0 .0), a .pre .0 .1))
 
 -- src/each.rt:108:1
 same-length : tie.Need-same-length
@@ -36,7 +39,8 @@ same-length-5 c = search needs
 
 -- src/each.rt:108:1
 returns : tie.Need-returns
-returns c = ?
+returns c =
+    let a = c .before .before .before .before .before .before .before .before .before .before .before .before .before .before .before .before .before .before .before .before .before .before .before .before .before in let e = c .before .before .before .before .before .before .before .before .before .before .before .before .cdlp .ensures in let p = toZ-ofZ (a .fits .iterations) in (cdlp-verdict _ _ p _ _ _ _ e (a .pre .0 .0) (a .pre .1) _ _ _ (c .before .before .numbers-on .ensures), cdlp-cleared _ _ p _ _ _ _ e)
 
 pub on-cdlp-spec : {M : Type 1} → statement M
 on-cdlp-spec =

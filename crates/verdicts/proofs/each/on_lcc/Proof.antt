@@ -1,3 +1,4 @@
+use Rattle.verdicts.proofs.Fractions.{lcc-known, lcc-roomy, lcc-cleared, lcc-verdict}
 use borrow.Author.Needs.{needs}
 use Rattle.verdicts.proofs.each.on_lcc.Statement.{statement}
 use Rattle.verdicts.proofs.each.on_lcc.Tie as tie
@@ -12,7 +13,8 @@ lcc-requires c κs = search needs
 
 -- src/each.rt:187:5
 terms-on-requires : tie.Need-terms-on-requires
-terms-on-requires c κs = ?
+terms-on-requires c κs =
+    let a = c .before .before .before .before .before .before .before .before .before .before .before .before .before .before .before .before .before .before .before .before in let e = c .before .before .before .before .before .before .before .before .lcc .ensures in (lcc-known _ _ _ _ e, lcc-roomy _ _ _ _ e (a .pre .0))
 
 -- src/each.rt:156:1
 same-length : tie.Need-same-length
@@ -28,7 +30,7 @@ same-length-3 c = search needs
 
 -- src/each.rt:156:1
 returns : tie.Need-returns
-returns c = ?
+returns c = (search lcc-verdict, search lcc-cleared)
 
 pub on-lcc-spec : {M : Type 1} → statement M
 on-lcc-spec =

@@ -1,3 +1,4 @@
+use Rattle.verdicts.proofs.Kernels.{wcc-known, wcc-roomy, wcc-cleared, wcc-cleared-too, wcc-verdict}
 use borrow.Author.Needs.{needs}
 use Rattle.verdicts.proofs.each.on_wcc.Statement.{statement}
 use Rattle.verdicts.proofs.each.on_wcc.Tie as tie
@@ -12,7 +13,8 @@ wcc-requires c κs = search needs
 
 -- src/each.rt:95:5
 numbers-on-requires : tie.Need-numbers-on-requires
-numbers-on-requires c κs = ?
+numbers-on-requires c κs =
+    let a = c .before .before .before .before .before .before .before .before .before .before .before .before .before .before .before .before .before .before in let e = c .before .before .before .before .before .before .before .wcc .ensures in (wcc-known _ _ _ _ e, (wcc-roomy _ _ _ _ e (a .pre .0 .0), a .pre .0 .1))
 
 -- src/each.rt:63:1
 same-length : tie.Need-same-length
@@ -32,7 +34,7 @@ same-length-4 c = search needs
 
 -- src/each.rt:63:1
 returns : tie.Need-returns
-returns c = ?
+returns c = (search wcc-verdict, (search wcc-cleared, search wcc-cleared-too))
 
 pub on-wcc-spec : {M : Type 1} → statement M
 on-wcc-spec =
