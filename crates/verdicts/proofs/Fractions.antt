@@ -103,8 +103,8 @@ module _ (g : Graph) (F S W : List ℕ) {a : Said (Unit {0})} {F′ S′ W′ : 
   unfolding lcc.lccCall
   lcc-cleared = ap (λ (o : lcc.Outcome). o .work) e
 
-  module _ {room : Bool} (f : Roomy room (g .vertices) (length F)) (h : Roomy room (g .vertices) (length S)) (i : Roomy room (g .vertices) (length W)) (most : ℕ) (parameter : ℤ) (s : List ℕ) where
-    says-same : termsSays a room most (g .vertices) (g .ids) s F′ S′ ≡ verdictSays (lccReference most g parameter s) (soundGraph g) room
+  module _ {room : Bool} (f : Roomy room (g .vertices) (length F)) (h : Roomy room (g .vertices) (length S)) (i : Roomy room (g .vertices) (length W)) (most : ℕ) (s : List ℕ) where
+    says-same : termsSays a room most (g .vertices) (g .ids) s F′ S′ ≡ verdictSays (lccReference most g s) (soundGraph g) room
     unfolding termsSays verdictSays lcc.room
     says-same =
         onward-same a
@@ -112,10 +112,10 @@ module _ (g : Graph) (F S W : List ℕ) {a : Said (Unit {0})} {F′ S′ W′ : 
         (ap (λ (l : List Fraction). judgedBy (take (g .vertices) (g .ids)) (farWithin l) (coefficientLines most s)) (fractions-are g F′ S′ (ran-front upper-ran d) (ran-front lower-ran d))
         ∙ judged-same (take (g .vertices) (g .ids)) (farWithin (coefficients g)) (farLine (coefficients g)) (coefficientLines most s) (far-coefficients g (ran-fine upper-ran d .isSound))))
         ∙ rw (upper-ran .said)
-        (says-rooms (soundGraph g) true 0 (lcc.room (g .vertices) F S W) room (lccReference most g parameter s .judged)
+        (says-rooms (soundGraph g) true 0 (lcc.room (g .vertices) F S W) room (lccReference most g s .judged)
         (λ t. and-both (and-both (le-leb (g .vertices) (length F) (f t)) (le-leb (g .vertices) (length S) (h t))) (le-leb (g .vertices) (length W) (i t))))
 
-    pub lcc-verdict : {x : Terms} → x ≡ termsOn a room most (g .vertices) (g .ids) s F′ S′ → x ≡ termsCall (lccReference most g parameter s) (soundGraph g) room F S
+    pub lcc-verdict : {x : Terms} → x ≡ termsOn a room most (g .vertices) (g .ids) s F′ S′ → x ≡ termsCall (lccReference most g s) (soundGraph g) room F S
     unfolding termsOn termsCall termsSays
     lcc-verdict p =
         let x = cond room (judgedBy (take (g .vertices) (g .ids)) (farWithin (fractions (g .vertices) F′ S′)) (coefficientLines most s)) (refuses (plain noRoom)) in

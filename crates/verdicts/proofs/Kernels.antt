@@ -60,9 +60,9 @@ module _ (g : Graph) (root : ℤ) {root′ : ℤ} (p : root′ ≡ root) (R : Li
 
   pub bfs-verdict : {room : Bool} → Roomy room (g .vertices) (length R) → Roomy room (g .vertices) (length F)
       → (most : ℕ) (s : List ℕ) (C : List ℤ) {x : Numbers} → x ≡ numbersOn a room Exact most (g .vertices) (g .ids) s R′ C
-      → x ≡ numbersCall (bfsReference most g root s) (soundGraph g) room R C
+      → x ≡ numbersCall (bfsReference most g s root) (soundGraph g) room R C
   bfs-verdict f h most s =
-      numbers-verdict (bfsReference most g root s) (g .ids) R bfs-ran
+      numbers-verdict (bfsReference most g s root) (g .ids) R bfs-ran
       (λ t. and-both (le-leb (g .vertices) (length R) (f t)) (le-leb (g .vertices) (length F) (h t)))
       Exact most s refl
 
@@ -95,11 +95,11 @@ module _ (g : Graph) (R : List ℤ) (P S : List ℕ) {a : Said (Unit {0})} {R′
   wcc-cleared-too = ap (λ (o : wcc.Outcome). o .sizes) e
 
   pub wcc-verdict : {room : Bool} → Roomy room (g .vertices) (length R) → Roomy room (g .vertices) (length P) → Roomy room (g .vertices) (length S)
-      → (most : ℕ) (parameter : ℤ) (s : List ℕ) (C : List ℤ) {x : Numbers} → x ≡ numbersOn a room Equivalence most (g .vertices) (g .ids) s R′ C
-      → x ≡ numbersCall (wccReference most g parameter s) (soundGraph g) room R C
+      → (most : ℕ) (s : List ℕ) (C : List ℤ) {x : Numbers} → x ≡ numbersOn a room Equivalence most (g .vertices) (g .ids) s R′ C
+      → x ≡ numbersCall (wccReference most g s) (soundGraph g) room R C
   unfolding wcc.roomFor
-  wcc-verdict f h i most parameter s =
-      numbers-verdict (wccReference most g parameter s) (g .ids) R wcc-ran
+  wcc-verdict f h i most s =
+      numbers-verdict (wccReference most g s) (g .ids) R wcc-ran
       (λ t. and-both (and-both (le-leb (g .vertices) (length R) (f t)) (le-leb (g .vertices) (length P) (h t))) (le-leb (g .vertices) (length S) (i t)))
       Equivalence most s refl
 
@@ -132,10 +132,10 @@ module _ (g : Graph) (z : ℤ) {z′ : ℤ} (p : z′ ≡ z) (R : List ℤ) (L N
 
   pub cdlp-verdict : {room : Bool} → Roomy room (g .vertices) (length R) → Roomy room (g .vertices) (length L) × Roomy room (g .vertices) (length N) × Roomy room (g .vertices) (length C)
       → (most : ℕ) (s : List ℕ) (D : List ℤ) {x : Numbers} → x ≡ numbersOn a room Exact most (g .vertices) (g .ids) s R′ D
-      → x ≡ numbersCall (cdlpReference most g z s) (soundGraph g) room R D
+      → x ≡ numbersCall (cdlpReference most g s z) (soundGraph g) room R D
   unfolding cdlp.roomFor
   cdlp-verdict f h most s =
-      numbers-verdict (cdlpReference most g z s) (g .ids) R cdlp-ran
+      numbers-verdict (cdlpReference most g s z) (g .ids) R cdlp-ran
       (λ t. and-both
       (and-both (and-both (le-leb (g .vertices) (length R) (f t)) (le-leb (g .vertices) (length L) (h .0 t))) (le-leb (g .vertices) (length N) (h .1 t)))
       (le-leb (g .vertices) (length C) (h .2 t)))

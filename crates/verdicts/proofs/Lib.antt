@@ -3,3 +3,4 @@ pub mod Settling
 pub mod Running
 pub mod Kernels
 pub mod Fractions
+pub mod Calls

@@ -56,7 +56,7 @@ unknownCall R C F S T = outcome (refuses (plain unknownNumber)) (clearedZ R) (cl
 -- "A verdict checks 12, then as its kernel does, then the claim."
 unfoldable pub verdictCall : ℕ → Graph → ℕ → ℤ → List ℕ → List ℤ → List ℤ → List ℕ → List ℕ → List ℕ → Outcome
 verdictCall most g kernel parameter s R C F S T =
-    cond (eqb kernel bfsNumber) (callOn (bfsReference most g parameter s) g R C F S T)
-    (cond (eqb kernel wccNumber) (callOn (wccReference most g parameter s) g R C F S T)
-    (cond (eqb kernel cdlpNumber) (callOn (cdlpReference most g parameter s) g R C F S T)
-    (cond (eqb kernel lccNumber) (callOn (lccReference most g parameter s) g R C F S T) (unknownCall R C F S T))))
+    cond (eqb kernel bfsNumber) (callOn (bfsReference most g s parameter) g R C F S T)
+    (cond (eqb kernel wccNumber) (callOn (wccReference most g s) g R C F S T)
+    (cond (eqb kernel cdlpNumber) (callOn (cdlpReference most g s parameter) g R C F S T)
+    (cond (eqb kernel lccNumber) (callOn (lccReference most g s) g R C F S T) (unknownCall R C F S T))))

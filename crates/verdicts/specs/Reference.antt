@@ -31,18 +31,18 @@ coefficientAt g v = (numerator (g .vertices) (outward g) (inward g) v, denominat
 abbrev pub coefficients : Graph → List Fraction
 coefficients g = column (coefficientAt g) 0 (g .vertices)
 
--- a claim of at most so many lines, on a graph, with a parameter ("root or iterations, else ignored")
-module _ (most : ℕ) (g : Graph) (parameter : ℤ) (s : List ℕ) where
+-- a claim of at most so many lines on a graph, "parameter (root or iterations, else ignored)"
+module _ (most : ℕ) (g : Graph) (s : List ℕ) where
   -- "BFS and CDLP: equal numbers."
-  abbrev pub bfsReference : Reference
-  bfsReference =
+  abbrev pub bfsReference : ℤ → Reference
+  bfsReference root =
       record {
-        given = isThere (placeIn (names g) parameter);
+        given = isThere (placeIn (names g) root);
         number = notThere;
-        values = depthsFrom g (placeIn (names g) parameter);
+        values = depthsFrom g (placeIn (names g) root);
         numerators = [];
         denominators = [];
-        judged = judgedBy (names g) (unequalLine (depthsFrom g (placeIn (names g) parameter))) (numberLines most s);
+        judged = judgedBy (names g) (unequalLine (depthsFrom g (placeIn (names g) root))) (numberLines most s);
       }
 
   -- "WCC: equal claims exactly where components are equal."
@@ -57,15 +57,15 @@ module _ (most : ℕ) (g : Graph) (parameter : ℤ) (s : List ℕ) where
         judged = judgedBy (names g) (unlikeLine (wccOf g)) (numberLines most s);
       }
 
-  abbrev pub cdlpReference : Reference
-  cdlpReference =
+  abbrev pub cdlpReference : ℤ → Reference
+  cdlpReference iterations =
       record {
-        given = goodRounds parameter;
+        given = goodRounds iterations;
         number = badRounds;
-        values = cdlpOf g (natAbs parameter);
+        values = cdlpOf g (natAbs iterations);
         numerators = [];
         denominators = [];
-        judged = judgedBy (names g) (unequalLine (cdlpOf g (natAbs parameter))) (numberLines most s);
+        judged = judgedBy (names g) (unequalLine (cdlpOf g (natAbs iterations))) (numberLines most s);
       }
 
   -- "LCC: 10,000 times |r-s| at most r"

@@ -33,7 +33,7 @@ pub(crate) fn on_bfs(
 ) -> Judged
     requires { ⌜ (Roomy room (size .vertices) (length (now result))) × (Roomy room (size .vertices) (length (now claimed))) ⌝ }
     requires { ⌜ Roomy room (size .vertices) (length (now queue)) ⌝ }
-    ensures { λ r. ⌜ numbers (says r) (now (result .exit)) (now (claimed .exit)) ≡ numbersCall (bfsReference most (lent size (now (ids .entry)) (now («out_offsets» .entry)) (now («out_targets» .entry)) (now («in_offsets» .entry)) (now («in_sources» .entry))) root (now (claim .entry))) (soundGraph (lent size (now (ids .entry)) (now («out_offsets» .entry)) (now («out_targets» .entry)) (now («in_offsets» .entry)) (now («in_sources» .entry)))) room (now (result .entry)) (now (claimed .entry)) ⌝ }
+    ensures { λ r. ⌜ numbers (says r) (now (result .exit)) (now (claimed .exit)) ≡ numbersCall (bfsReference most (lent size (now (ids .entry)) (now («out_offsets» .entry)) (now («out_targets» .entry)) (now («in_offsets» .entry)) (now («in_sources» .entry))) (now (claim .entry)) root) (soundGraph (lent size (now (ids .entry)) (now («out_offsets» .entry)) (now («out_targets» .entry)) (now («in_offsets» .entry)) (now («in_sources» .entry)))) room (now (result .entry)) (now (claimed .entry)) ⌝ }
     ensures { λ r. ⌜ now (queue .exit) ≡ cleared (now (queue .entry)) ⌝ }
 {
     let answer = bfs(
@@ -69,7 +69,6 @@ pub(crate) fn on_wcc(
     out_targets: &[usize],
     in_offsets: &[usize],
     in_sources: &[usize],
-    parameter: i64,
     claim: &[u8],
     result: &mut [i64],
     claimed: &mut [i64],
@@ -78,7 +77,7 @@ pub(crate) fn on_wcc(
 ) -> Judged
     requires { ⌜ (Roomy room (size .vertices) (length (now result))) × (Roomy room (size .vertices) (length (now claimed))) ⌝ }
     requires { ⌜ (Roomy room (size .vertices) (length (now parents))) × (Roomy room (size .vertices) (length (now sizes))) ⌝ }
-    ensures { λ r. ⌜ numbers (says r) (now (result .exit)) (now (claimed .exit)) ≡ numbersCall (wccReference most (lent size (now (ids .entry)) (now («out_offsets» .entry)) (now («out_targets» .entry)) (now («in_offsets» .entry)) (now («in_sources» .entry))) parameter (now (claim .entry))) (soundGraph (lent size (now (ids .entry)) (now («out_offsets» .entry)) (now («out_targets» .entry)) (now («in_offsets» .entry)) (now («in_sources» .entry)))) room (now (result .entry)) (now (claimed .entry)) ⌝ }
+    ensures { λ r. ⌜ numbers (says r) (now (result .exit)) (now (claimed .exit)) ≡ numbersCall (wccReference most (lent size (now (ids .entry)) (now («out_offsets» .entry)) (now («out_targets» .entry)) (now («in_offsets» .entry)) (now («in_sources» .entry))) (now (claim .entry))) (soundGraph (lent size (now (ids .entry)) (now («out_offsets» .entry)) (now («out_targets» .entry)) (now («in_offsets» .entry)) (now («in_sources» .entry)))) room (now (result .entry)) (now (claimed .entry)) ⌝ }
     ensures { λ r. ⌜ (now (parents .exit) ≡ cleared (now (parents .entry))) × (now (sizes .exit) ≡ cleared (now (sizes .entry))) ⌝ }
 {
     let answer = wcc(
@@ -124,7 +123,7 @@ pub(crate) fn on_cdlp(
 ) -> Judged
     requires { ⌜ (Roomy room (size .vertices) (length (now result))) × (Roomy room (size .vertices) (length (now claimed))) ⌝ }
     requires { ⌜ (Roomy room (size .vertices) (length (now labels))) × (Roomy room (size .vertices) (length (now next))) × (Roomy room (size .vertices) (length (now counts))) ⌝ }
-    ensures { λ r. ⌜ numbers (says r) (now (result .exit)) (now (claimed .exit)) ≡ numbersCall (cdlpReference most (lent size (now (ids .entry)) (now («out_offsets» .entry)) (now («out_targets» .entry)) (now («in_offsets» .entry)) (now («in_sources» .entry))) iterations (now (claim .entry))) (soundGraph (lent size (now (ids .entry)) (now («out_offsets» .entry)) (now («out_targets» .entry)) (now («in_offsets» .entry)) (now («in_sources» .entry)))) room (now (result .entry)) (now (claimed .entry)) ⌝ }
+    ensures { λ r. ⌜ numbers (says r) (now (result .exit)) (now (claimed .exit)) ≡ numbersCall (cdlpReference most (lent size (now (ids .entry)) (now («out_offsets» .entry)) (now («out_targets» .entry)) (now («in_offsets» .entry)) (now («in_sources» .entry))) (now (claim .entry)) iterations) (soundGraph (lent size (now (ids .entry)) (now («out_offsets» .entry)) (now («out_targets» .entry)) (now («in_offsets» .entry)) (now («in_sources» .entry)))) room (now (result .entry)) (now (claimed .entry)) ⌝ }
     ensures { λ r. ⌜ (now (labels .exit) ≡ cleared (now (labels .entry))) × (now (next .exit) ≡ cleared (now (next .entry))) × (now (counts .exit) ≡ cleared (now (counts .entry))) ⌝ }
 {
     let answer = cdlp(
@@ -162,7 +161,6 @@ pub(crate) fn on_lcc(
     out_targets: &[usize],
     in_offsets: &[usize],
     in_sources: &[usize],
-    parameter: i64,
     claim: &[u8],
     numerators: &mut [usize],
     denominators: &mut [usize],
@@ -170,7 +168,7 @@ pub(crate) fn on_lcc(
 ) -> Judged
     requires { ⌜ (Roomy room (size .vertices) (length (now numerators))) × (Roomy room (size .vertices) (length (now denominators))) ⌝ }
     requires { ⌜ Roomy room (size .vertices) (length (now work)) ⌝ }
-    ensures { λ r. ⌜ terms (says r) (now (numerators .exit)) (now (denominators .exit)) ≡ termsCall (lccReference most (lent size (now (ids .entry)) (now («out_offsets» .entry)) (now («out_targets» .entry)) (now («in_offsets» .entry)) (now («in_sources» .entry))) parameter (now (claim .entry))) (soundGraph (lent size (now (ids .entry)) (now («out_offsets» .entry)) (now («out_targets» .entry)) (now («in_offsets» .entry)) (now («in_sources» .entry)))) room (now (numerators .entry)) (now (denominators .entry)) ⌝ }
+    ensures { λ r. ⌜ terms (says r) (now (numerators .exit)) (now (denominators .exit)) ≡ termsCall (lccReference most (lent size (now (ids .entry)) (now («out_offsets» .entry)) (now («out_targets» .entry)) (now («in_offsets» .entry)) (now («in_sources» .entry))) (now (claim .entry))) (soundGraph (lent size (now (ids .entry)) (now («out_offsets» .entry)) (now («out_targets» .entry)) (now («in_offsets» .entry)) (now («in_sources» .entry)))) room (now (numerators .entry)) (now (denominators .entry)) ⌝ }
     ensures { λ r. ⌜ now (work .exit) ≡ cleared (now (work .entry)) ⌝ }
 {
     let answer = lcc(

@@ -1,3 +1,4 @@
+use Rattle.verdicts.proofs.Calls.{unknown-all}
 use borrow.Author.Needs.{needs}
 use Rattle.verdicts.proofs.verdict.refuse_unknown.Statement.{statement}
 use Rattle.verdicts.proofs.verdict.refuse_unknown.Tie as tie
@@ -53,7 +54,7 @@ same-length-5 c = search needs
 
 -- src/verdict.rt:49:1
 returns : tie.Need-returns
-returns c = ?
+returns c = search unknown-all
 
 pub refuse-unknown-spec : {M : Type 1} → statement M
 refuse-unknown-spec =

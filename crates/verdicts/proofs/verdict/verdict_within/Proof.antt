@@ -1,3 +1,5 @@
+use mir.Facts.{toZ-ofZ}
+use Rattle.verdicts.proofs.Calls.{roomy, verdict-unknown, verdict-bfs, verdict-wcc, verdict-cdlp, verdict-lcc}
 use borrow.Author.Needs.{needs}
 use Rattle.verdicts.proofs.verdict.verdict_within.Statement.{statement}
 use Rattle.verdicts.proofs.verdict.verdict_within.Tie as tie
@@ -26,7 +28,7 @@ clear-requires-2 c κs = search needs
 
 -- src/verdict.rt:91:9
 on-bfs-requires : tie.Need-on-bfs-requires
-on-bfs-requires c κs = ?
+on-bfs-requires c κs = let h = roomy _ _ _ _ _ _ (c .before .before .before .before .before .before .before .before .before .before .before .before .has-room .ensures) in (h .0, h .1 .0)
 
 -- src/verdict.rt:91:9
 same-length : tie.Need-same-length
@@ -50,7 +52,7 @@ same-length-5 c = search needs
 
 -- src/verdict.rt:91:9
 returns : tie.Need-returns
-returns c = ?
+returns c = verdict-bfs _ _ _ _ _ _ _ _ _ _ (c .before .before .before .before .before .before .before .before .before .before .before .before .before .before .before .before .before .has-room .ensures) (toZ-ofZ (c .before .before .before .before .before .before .before .before .before .before .before .before .before .before .before .before .before .before .before .before .before .before .before .before .before .before .fits .parameter)) (c .before .before .before .before .before .before .before .before .before .before .before .before .before .before .before .before .if1 .taken) (c .before .before .before .before .on-bfs .ensures .0) (c .before .before .before .before .on-bfs .ensures .1) (c .before .before .before .before .before .before .before .before .before .before .before .before .before .before .clear .ensures) (c .before .before .before .before .before .before .before .before .before .before .clear2 .ensures)
 
 -- src/verdict.rt:108:9
 clear-requires-3 : tie.Need-clear-requires-3
@@ -58,7 +60,7 @@ clear-requires-3 c κs = search needs
 
 -- src/verdict.rt:109:9
 on-wcc-requires : tie.Need-on-wcc-requires
-on-wcc-requires c κs = ?
+on-wcc-requires c κs = let h = roomy _ _ _ _ _ _ (c .before .before .before .before .before .before .before .before .before .before .has-room .ensures) in (h .0, (h .1 .0, h .1 .1))
 
 -- src/verdict.rt:109:9
 same-length-6 : tie.Need-same-length-6
@@ -82,11 +84,11 @@ same-length-10 c = search needs
 
 -- src/verdict.rt:109:9
 returns-2 : tie.Need-returns-2
-returns-2 c = ?
+returns-2 c = verdict-wcc _ _ _ _ _ _ _ _ _ _ (c .before .before .before .before .before .before .before .before .before .before .before .before .before .before .before .before .before .has-room .ensures) (c .before .before .before .before .before .before .before .before .before .before .before .before .before .before .before .before .if1 .left) (c .before .before .before .before .before .before .before .before .before .before .before .before .before .before .before .if2 .taken) (c .before .before .before .before .before .before .on-wcc .ensures .0) (c .before .before .before .before .before .before .on-wcc .ensures .1) (c .before .before .before .before .before .before .before .before .before .before .before .before .before .clear3 .ensures)
 
 -- src/verdict.rt:127:9
 on-cdlp-requires : tie.Need-on-cdlp-requires
-on-cdlp-requires c κs = ?
+on-cdlp-requires c κs = let h = roomy _ _ _ _ _ _ (c .before .before .before .before .before .before .before .before .has-room .ensures) in (h .0, h .1)
 
 -- src/verdict.rt:127:9
 same-length-11 : tie.Need-same-length-11
@@ -110,7 +112,7 @@ same-length-15 c = search needs
 
 -- src/verdict.rt:127:9
 returns-3 : tie.Need-returns-3
-returns-3 c = ?
+returns-3 c = verdict-cdlp _ _ _ _ _ _ _ _ _ _ (c .before .before .before .before .before .before .before .before .before .before .before .before .before .before .before .before .before .has-room .ensures) (toZ-ofZ (c .before .before .before .before .before .before .before .before .before .before .before .before .before .before .before .before .before .before .before .before .before .before .before .before .before .before .fits .parameter)) (c .before .before .before .before .before .before .before .before .before .before .before .before .before .before .before .before .if1 .left) (c .before .before .before .before .before .before .before .before .before .before .before .before .before .before .before .if2 .left) (c .before .before .before .before .before .before .before .before .before .before .before .before .before .before .if3 .taken) (c .before .before .before .before .before .before .before .before .on-cdlp .ensures .0) (c .before .before .before .before .before .before .before .before .on-cdlp .ensures .1)
 
 -- src/verdict.rt:146:9
 clear-signed-requires : tie.Need-clear-signed-requires
@@ -122,7 +124,7 @@ clear-signed-requires-2 c κs = search needs
 
 -- src/verdict.rt:148:9
 on-lcc-requires : tie.Need-on-lcc-requires
-on-lcc-requires c κs = ?
+on-lcc-requires c κs = let h = roomy _ _ _ _ _ _ (c .before .before .before .before .before .before .before .before .before .before .before .before .before .has-room .ensures) in ((h .1 .0, h .1 .1), h .1 .2)
 
 -- src/verdict.rt:148:9
 same-length-16 : tie.Need-same-length-16
@@ -146,7 +148,7 @@ same-length-20 c = search needs
 
 -- src/verdict.rt:148:9
 returns-4 : tie.Need-returns-4
-returns-4 c = ?
+returns-4 c = verdict-lcc _ _ _ _ _ _ _ _ _ _ (c .before .before .before .before .before .before .before .before .before .before .before .before .before .before .before .before .before .before .before .before .has-room .ensures) (c .before .before .before .before .before .before .before .before .before .before .before .before .before .before .before .before .before .before .before .if1 .left) (c .before .before .before .before .before .before .before .before .before .before .before .before .before .before .before .before .before .before .if2 .left) (c .before .before .before .before .before .before .before .before .before .before .before .before .before .before .before .before .before .if3 .left) (c .before .before .before .before .before .before .before .before .before .before .before .before .before .before .before .before .if4 .taken) (c .before .before .before .before .before .before .on-lcc .ensures .0) (c .before .before .before .before .before .before .before .before .before .before .before .before .before .before .clear-signed .ensures) (c .before .before .before .before .before .before .before .before .before .before .before .clear-signed2 .ensures) (c .before .before .before .before .before .before .on-lcc .ensures .1)
 
 -- src/verdict.rt:164:5
 refuse-unknown-requires : tie.Need-refuse-unknown-requires
@@ -174,7 +176,7 @@ same-length-25 c = search needs
 
 -- src/verdict.rt:61:1
 returns-5 : tie.Need-returns-5
-returns-5 c = ?
+returns-5 c = verdict-unknown _ _ _ _ _ _ _ _ _ _ (c .before .before .before .before .before .before .before .before .before .before .before .before .before .before .before .before .before .if1 .left) (c .before .before .before .before .before .before .before .before .before .before .before .before .before .before .before .before .if2 .left) (c .before .before .before .before .before .before .before .before .before .before .before .before .before .before .before .if3 .left) (c .before .before .before .before .before .before .before .before .before .before .before .before .before .before .if4 .left) (c .before .before .before .before .before .before .before .before .refuse-unknown .ensures)
 
 pub verdict-within-spec : {M : Type 1} → statement M
 verdict-within-spec =
