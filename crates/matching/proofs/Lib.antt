@@ -6,3 +6,5 @@ pub mod Readings
 pub mod NumberLines
 pub mod DecimalLines
 pub mod Judging
+pub mod Meaning
+pub mod Examples
