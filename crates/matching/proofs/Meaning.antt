@@ -99,9 +99,9 @@ pub exact-match : (ids reference : List ℤ) (l : List (ℤ × ℤ)) → idsOf l
 exact-match ids reference l = by-match ids (unequalLine reference) l (same-list reference (valuesOf l))
 
 -- ---- "Epsilon match": every decimal is close to the fraction of its vertex
-pub epsilon-match : (none : Decimal) (ids : List ℤ) (reference : List Fraction) (l : List (ℤ × Decimal)) → idsOf l ≡ ids
-    → Exactly (judgedBy ids (farLine reference) (gives l) ≡ accepted) (Alike near (0, 1) none reference (valuesOf l))
-epsilon-match none ids reference l = by-match ids (farLine reference) l (line-exactly near (0, 1) none reference (valuesOf l))
+pub epsilon-match : (any : Decimal) (ids : List ℤ) (reference : List Fraction) (l : List (ℤ × Decimal)) → idsOf l ≡ ids
+    → Exactly (judgedBy ids (farLine reference) (gives l) ≡ accepted) (Alike near (0, 1) any reference (valuesOf l))
+epsilon-match any ids reference l = by-match ids (farLine reference) l (line-exactly near (0, 1) any reference (valuesOf l))
 
 -- ---- "Equivalence match": "a two-way mapping should exists that maps the system's output to be identical to reference output and the inverse of this mapping
 -- maps the reference output to be identical to the system's output"
@@ -219,7 +219,7 @@ map-at f [] i h = absurd (not-suc-le-zero h)
 map-at f (x ∷ l) zero h = refl
 map-at f (x ∷ l) (suc i) h = map-at f l i (omega arith)
 
-map-length : (f : ℤ → ℤ) (l : List ℤ) → length (map f l) ≡ length l
+pub map-length : (f : ℤ → ℤ) (l : List ℤ) → length (map f l) ≡ length l
 map-length f [] = refl
 map-length f (x ∷ l) = ap suc (map-length f l)
 
