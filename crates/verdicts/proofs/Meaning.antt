@@ -1,6 +1,7 @@
 -- What a verdict means, kernel by kernel. Assumes nothing.
 use mathlib.Core.Path.{_≡_, refl, sym, ap, _∙_}
 use mathlib.Core.Bool.{Bool, true, false, cond}
+use mathlib.Core.Logic.{_↔_}
 use mathlib.Core.List.{List, [], map}
 use Prim.Native.Nat.{ℕ, _≤_}
 use lib.Dec.{eqb}
@@ -22,7 +23,7 @@ use Rattle.cdlp.specs.Rounds.{cdlpOf}
 use Rattle.cdlp.proofs.Runs.{cdlp-length}
 use Rattle.matching.specs.Claim.{numberLines, coefficientLines, idsOf, valuesOf}
 use Rattle.matching.specs.Verdict.{Verdict, near}
-use Rattle.matching.proofs.Meaning.{Exactly, accepted, Alike, TwoWay, map-length, exact-match, equivalence-match, epsilon-match}
+use Rattle.matching.proofs.Meaning.{accepted, Alike, TwoWay, map-length, exact-match, equivalence-match, epsilon-match}
 use Rattle.matching.proofs.Listing.{Line, claimText, linesOf, listed, AllFit, AllSpelled, exact-own, equivalence-own, epsilon-own}
 use Rattle.verdicts.specs.Reference.{Reference, coefficients, bfsReference, wccReference, cdlpReference, lccReference}
 use Rattle.verdicts.specs.Call.{Outcome, roomFor, verdictSays, leftBy, callOn, unknownCall, verdictCall}
@@ -37,20 +38,20 @@ says-judged k e = rw e
 module _ (most : ℕ) (g : Graph) (s : List ℕ) where
   module _ (l : List (ℤ × ℤ)) (read : numberLines most s ≡ gives l) (complete : idsOf l ≡ names g) where
     pub bfs-accepted : (root : ℤ) → isThere (placeIn (names g) root) ≡ true
-        → Exactly (verdictSays (bfsReference most g s root) true true ≡ accepted) (valuesOf l ≡ depthsFrom g (placeIn (names g) root))
+        → (verdictSays (bfsReference most g s root) true true ≡ accepted) ↔ (valuesOf l ≡ depthsFrom g (placeIn (names g) root))
     bfs-accepted root e = rw (says-judged (bfsReference most g s root) e, read) (exact-match (names g) (depthsFrom g (placeIn (names g) root)) l complete)
 
     pub cdlp-accepted : (iterations : ℤ) → goodRounds iterations ≡ true
-        → Exactly (verdictSays (cdlpReference most g s iterations) true true ≡ accepted) (valuesOf l ≡ cdlpOf g (natAbs iterations))
+        → (verdictSays (cdlpReference most g s iterations) true true ≡ accepted) ↔ (valuesOf l ≡ cdlpOf g (natAbs iterations))
     cdlp-accepted iterations e = rw (says-judged (cdlpReference most g s iterations) e, read) (exact-match (names g) (cdlpOf g (natAbs iterations)) l complete)
 
-    pub wcc-accepted : Sound g → Exactly (verdictSays (wccReference most g s) true true ≡ accepted) (TwoWay (wccOf g) (valuesOf l))
+    pub wcc-accepted : Sound g → (verdictSays (wccReference most g s) true true ≡ accepted) ↔ (TwoWay (wccOf g) (valuesOf l))
     wcc-accepted sound =
         rw (says-judged (wccReference most g s) refl, read)
         (equivalence-match (names g) (wccOf g) l (wcc-length g sound ∙ sym (names-length g sound)) complete)
 
   pub lcc-accepted : (any : Decimal) (l : List (ℤ × Decimal)) → coefficientLines most s ≡ gives l → idsOf l ≡ names g
-      → Exactly (verdictSays (lccReference most g s) true true ≡ accepted) (Alike near (0, 1) any (coefficients g) (valuesOf l))
+      → (verdictSays (lccReference most g s) true true ≡ accepted) ↔ (Alike near (0, 1) any (coefficients g) (valuesOf l))
   lcc-accepted any l read complete = rw (says-judged (lccReference most g s) refl, read) (epsilon-match any (names g) (coefficients g) l complete)
 
 -- ---- the claim that lists the kernel's own result is accepted
