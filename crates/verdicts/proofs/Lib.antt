@@ -4,4 +4,5 @@ pub mod Running
 pub mod Kernels
 pub mod Fractions
 pub mod Calls
+pub mod Ranges
 pub mod Meaning

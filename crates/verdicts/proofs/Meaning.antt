@@ -28,11 +28,30 @@ use Rattle.matching.proofs.Listing.{Line, claimText, linesOf, listed, AllFit, A
 use Rattle.verdicts.specs.Reference.{Reference, coefficients, bfsReference, wccReference, cdlpReference, lccReference}
 use Rattle.verdicts.specs.Call.{Outcome, roomFor, verdictSays, leftBy, callOn, unknownCall, verdictCall}
 use Rattle.verdicts.proofs.Kernels.{bfs-length}
+use Rattle.verdicts.proofs.Ranges.{bfs-fits, cdlp-fits}
 
 -- a graph that is sound, a parameter that is good and room enough: what is said is the claim's verdict
 says-judged : (k : Reference) → k .given ≡ true → verdictSays k true true ≡ k .judged
 unfolding verdictSays kernelSays
 says-judged k e = rw e
+
+-- what a call on a sound graph with room in its areas says, by the kernel's number
+module _ (most : ℕ) (g : Graph) (parameter : ℤ) (s : List ℕ) (R C : List ℤ) (F S T : List ℕ) (sound : soundGraph g ≡ true) (room : roomFor (g .vertices) R C F S T ≡ true) where
+  pub bfs-says : verdictCall most g 1 parameter s R C F S T .said ≡ verdictSays (bfsReference most g s parameter) true true
+  unfolding verdictCall callOn leftBy
+  bfs-says = rw (sound, room)
+
+  pub wcc-says : verdictCall most g 2 parameter s R C F S T .said ≡ verdictSays (wccReference most g s) true true
+  unfolding verdictCall callOn leftBy
+  wcc-says = rw (sound, room)
+
+  pub cdlp-says : verdictCall most g 3 parameter s R C F S T .said ≡ verdictSays (cdlpReference most g s parameter) true true
+  unfolding verdictCall callOn leftBy
+  cdlp-says = rw (sound, room)
+
+  pub lcc-says : verdictCall most g 4 parameter s R C F S T .said ≡ verdictSays (lccReference most g s) true true
+  unfolding verdictCall callOn leftBy
+  lcc-says = rw (sound, room)
 
 -- ---- a complete claim, of lines l, is accepted exactly when it matches at every vertex
 module _ (most : ℕ) (g : Graph) (s : List ℕ) where
@@ -59,21 +78,21 @@ module _ (most : ℕ) (g : Graph) (sound : Sound g) (few : g .vertices ≤ most)
   names-few : length (names g) ≤ most
   names-few = rw (names-length g sound) few
 
-  pub bfs-own : (root : ℤ) → isThere (placeIn (names g) root) ≡ true → AllFit (depthsFrom g (placeIn (names g) root))
+  pub bfs-own : (root : ℤ) → isThere (placeIn (names g) root) ≡ true
       → verdictSays (bfsReference most g (claimText (listed (names g) (depthsFrom g (placeIn (names g) root)))) root) true true ≡ accepted
-  bfs-own root e f =
+  bfs-own root e =
       let values = depthsFrom g (placeIn (names g) root) in
       says-judged (bfsReference most g (claimText (listed (names g) values)) root) e
-      ∙ exact-own most (names g) names-few fits values (names-length g sound ∙ sym (bfs-length g (placeIn (names g) root) e)) f
+      ∙ exact-own most (names g) names-few fits values (names-length g sound ∙ sym (bfs-length g (placeIn (names g) root) e)) (bfs-fits g (sound .fewVertices) (placeIn (names g) root))
 
-  pub cdlp-own : (iterations : ℤ) → goodRounds iterations ≡ true → AllFit (cdlpOf g (natAbs iterations))
+  pub cdlp-own : (iterations : ℤ) → goodRounds iterations ≡ true
       → verdictSays (cdlpReference most g (claimText (listed (names g) (cdlpOf g (natAbs iterations)))) iterations) true true ≡ accepted
-  cdlp-own iterations e f =
+  cdlp-own iterations e =
       let values = cdlpOf g (natAbs iterations) in
       says-judged (cdlpReference most g (claimText (listed (names g) values)) iterations) e
-      ∙ exact-own most (names g) names-few fits values (names-length g sound ∙ sym (cdlp-length g sound (natAbs iterations))) f
+      ∙ exact-own most (names g) names-few fits values (names-length g sound ∙ sym (cdlp-length g sound (natAbs iterations))) (cdlp-fits g fits (natAbs iterations))
 
-  -- under any renaming that keeps labels apart
+  -- under any renaming that keeps labels apart and in range, as that of no label (`wcc-fits`)
   pub wcc-own : (f : ℤ → ℤ) → ((x y : ℤ) → f x ≡ f y → x ≡ y) → AllFit (map f (wccOf g))
       → verdictSays (wccReference most g (claimText (listed (names g) (map f (wccOf g))))) true true ≡ accepted
   wcc-own f apart fit =
