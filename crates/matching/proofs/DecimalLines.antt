@@ -1,8 +1,8 @@
 -- What the loop over a claim's decimals keeps, and how it ends. Assumes nothing.
-use mathlib.Core.Path.{_≡_, refl, sym, ap, ap₂, _∙_}
+use mathlib.Core.Path.{_≡_, refl, sym, ap, _∙_}
 use mathlib.Core.Bool.{Bool, true, false, not, cond, _&&_}
 use mathlib.Core.List.{List, [], _∷_, _++_}
-use Prim.Native.Nat.{ℕ, zero, suc, _+_, _-_, _^_, _≤_, _<_}
+use Prim.Native.Nat.{ℕ, zero, suc, _+_, _^_, _≤_, _<_}
 use native.Mathlib.Omega.{arith}
 use lib.Dec.{ltb, leb}
 use lib.IntN.{ℤ, pos}
@@ -17,7 +17,7 @@ use Rattle.basis.proofs.Tests.{bool-cases, failed, held, and-off}
 use Rattle.basis.proofs.Areas.{column-at, column-length}
 use Rattle.text.specs.Word.{identOf}
 use Rattle.text.specs.Decimal.{decimalOf}
-use Rattle.text.specs.Line.{line, none, fault, twoOf, coefficientLine, coefficientSays}
+use Rattle.text.specs.Line.{line, twoOf, coefficientLine, coefficientSays}
 use Rattle.text.specs.declared.decimal.Decimal.{Decimal}
 use Rattle.text.specs.declared.line.Cursor.{Cursor}
 use Rattle.text.specs.declared.line.CoefficientLine.{CoefficientLine}
@@ -26,7 +26,7 @@ use Rattle.text.proofs.Places.{line-moves, coefficient-range}
 use Rattle.matching.specs.declared.judged.Judged.{Judged}
 use Rattle.matching.specs.Close.{isClose}
 use Rattle.matching.specs.Claim.{coefficientLines, idsOf, valuesOf}
-use Rattle.matching.specs.Verdict.{Verdict, Fraction, firstLine, incompleteLine, verdictOf, says, judgedBy}
+use Rattle.matching.specs.Verdict.{Verdict, Fraction, incompleteLine, verdictOf, says, judgedBy}
 use Rattle.matching.specs.Calls.{nearWithin, farWithin, fractionAt, fractions, coefficientsSays}
 use Rattle.matching.specs.Steps.{orElse, placeLine, coverStep, nearStep, endLine}
 use Rattle.matching.proofs.FirstLines.{bits-back, or-kept, Against, against-none, against-next, against-end}

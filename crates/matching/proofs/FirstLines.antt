@@ -157,9 +157,6 @@ module _ (n first second : ℕ) where
     pub room-second : n ≤ second
     room-second = leb-true n second (and-second (leb n first) (leb n second) (held t _ e f))
 
--- two signed numbers that went through the machine's bits
-pub same-read : {x y x′ y′ : ℤ} {t : Bool} → x′ ≡ x → y′ ≡ y → t ≡ sameZ x′ y′ → t ≡ sameZ x y
-same-read p q s = s ∙ ap₂ sameZ p q
-
+-- a signed number that went through the machine's bits
 pub bits-back : (z : ℤ) → mag z < 2 ^ hbits w64 → toZ w64 (ofZ w64 z) ≡ z
 bits-back z h = toZ-ofZ {w = w64} {z = z} (record { sfits = h })

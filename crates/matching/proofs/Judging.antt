@@ -4,7 +4,7 @@ use mathlib.Core.Bool.{Bool, true, false, not, cond, _&&_}
 use mathlib.Core.List.{List}
 use Prim.Native.Nat.{ℕ, zero, suc, _≤_}
 use native.Mathlib.Omega.{arith}
-use lib.Dec.{leb}
+use lib.Dec.{eqb, leb}
 use lib.IntN.{ℤ, pos}
 use lib.ListN.{length, take, replicate}
 use lib.Seq.{length-take-le}
@@ -14,25 +14,41 @@ use Rattle.basis.specs.Area.{clearedZ}
 use Rattle.basis.proofs.Tests.{failed, held}
 use Rattle.matching.proofs.FirstLines.{room-first, room-second}
 use Rattle.matching.specs.declared.judged.Judged.{Judged}
+use Rattle.matching.specs.declared.judged.Judged.the-variants as J
 use Rattle.matching.specs.declared.numbers.Rule.{Rule}
 use Rattle.matching.specs.declared.numbers.Rule.the-variants.{Exact, Equivalence}
 use Rattle.matching.specs.declared.reading.Read.{Read}
 use Rattle.matching.specs.declared.reading.Read.the-variants.{Lines, Fault}
 use Rattle.matching.specs.Claim.{numberLines, idsOf, valuesOf}
-use Rattle.matching.specs.Verdict.{Verdict, verdict, says, unequalLine, unlikeLine, mismatchLine, verdictOf, incompleteLine, judgedBy}
+use Rattle.matching.specs.Verdict.{Verdict, matched, incompleteAt, mismatchAt, says, unequalLine, unlikeLine, mismatchLine, verdictOf, incompleteLine, judgedBy}
 use Rattle.matching.specs.Calls.{outcome, numbersCall}
 use Rattle.matching.specs.Steps.{ReadAs, ReadOf, readJudged}
 
+-- ---- what is said tells the answers apart
+heard : Said Verdict → Judged
+heard (gives v) = cond (eqb (v .number) 0) J.Match (cond (eqb (v .number) 20) (J.Incomplete (v .line)) (J.Mismatch (v .line)))
+heard (refuses r) = J.Refused r
+
+heard-back : (j : Judged) → heard (says j) ≡ j
+unfolding heard
+heard-back J.Match = refl
+heard-back (J.Incomplete l) = refl
+heard-back (J.Mismatch l) = refl
+heard-back (J.Refused r) = refl
+
+pub says-apart : (i j : Judged) → says i ≡ says j → i ≡ j
+says-apart i j e = sym (heard-back i) ∙ ap heard e ∙ heard-back j
+
 -- ---- by the first incomplete line and the first mismatch
-pub verdict-incomplete : (incomplete mismatch : ℕ) → (incomplete ≡ 0 → ⊥) → gives (verdict 20 incomplete) ≡ gives (verdictOf incomplete mismatch)
+pub verdict-incomplete : (incomplete mismatch : ℕ) → (incomplete ≡ 0 → ⊥) → gives (incompleteAt incomplete) ≡ gives (verdictOf incomplete mismatch)
 verdict-incomplete zero mismatch h = absurd (h refl)
 verdict-incomplete (suc i) mismatch h = refl
 
-pub verdict-mismatch : (incomplete mismatch : ℕ) → incomplete ≡ 0 → (mismatch ≡ 0 → ⊥) → gives (verdict 21 mismatch) ≡ gives (verdictOf incomplete mismatch)
+pub verdict-mismatch : (incomplete mismatch : ℕ) → incomplete ≡ 0 → (mismatch ≡ 0 → ⊥) → gives (mismatchAt mismatch) ≡ gives (verdictOf incomplete mismatch)
 verdict-mismatch incomplete zero e h = absurd (h refl)
 verdict-mismatch incomplete (suc m) e h = rw e
 
-pub verdict-match : (incomplete mismatch : ℕ) → incomplete ≡ 0 → mismatch ≡ 0 → gives (verdict 0 0) ≡ gives (verdictOf incomplete mismatch)
+pub verdict-match : (incomplete mismatch : ℕ) → incomplete ≡ 0 → mismatch ≡ 0 → gives matched ≡ gives (verdictOf incomplete mismatch)
 verdict-match incomplete mismatch e h = rw (e, h)
 
 -- ---- by the rule
@@ -49,7 +65,7 @@ module _ (rule : Rule) (a b : List ℤ) (read : Read) where
   read-fault r e = sym (ap (readJudged rule a b) e)
 
   module _ (i : ℕ) (e : read ≡ Lines i) where
-    pub read-incomplete : (i ≡ 0 → ⊥) → gives (verdict 20 i) ≡ readJudged rule a b read
+    pub read-incomplete : (i ≡ 0 → ⊥) → gives (incompleteAt i) ≡ readJudged rule a b read
     read-incomplete h = verdict-incomplete i (mismatchLine rule a b) h ∙ sym (ap (readJudged rule a b) e)
 
     pub read-complete : i ≡ 0 → (m : ℕ) → m ≡ mismatchLine rule a b → (j : Judged) → says j ≡ gives (verdictOf 0 m) → says j ≡ readJudged rule a b read

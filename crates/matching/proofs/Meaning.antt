@@ -1,11 +1,10 @@
 -- What the verdicts mean: a complete claim is accepted exactly when it matches, by 000's rule, at every vertex. Assumes nothing.
-use mathlib.Core.Path.{_≡_, refl, sym, ap, ap₂, _∙_, subst}
+use mathlib.Core.Path.{_≡_, refl, sym, ap, _∙_, subst}
 use mathlib.Core.Bool.{Bool, true, false, cond, Bool·beq}
 use mathlib.Core.Logic.{_↔_}
 use mathlib.Core.List.{List, [], _∷_, map}
-use Prim.Native.Nat.{ℕ, zero, suc, _+_, _-_, _≤_, _<_}
+use Prim.Native.Nat.{ℕ, zero, suc, _+_, _≤_, _<_}
 use native.Mathlib.Nat.{not-suc-le-zero}
-use native.Mathlib.Numerals.{add-one}
 use native.Mathlib.Omega.{arith}
 use native.Mathlib.Decide.{ℕ-discrete, decLt}
 use lib.Dec.{eqb}
@@ -13,18 +12,17 @@ use borrow.Author.Tests.{eqb-true, eqb-false}
 use lib.IntN.{ℤ, pos}
 use lib.ListN.{length, getD}
 use lib.Seq.{ext-getD}
-use Rattle.basis.specs.Refusal.{Said, gives, refuses}
+use Rattle.basis.specs.Refusal.{Said, gives}
 use Rattle.basis.specs.Order.{sameZ}
-use Rattle.basis.specs.Scan.{every}
 use Rattle.basis.proofs.Tests.{clash, bool-cases, same-test}
 use Rattle.basis.proofs.Scans.{every-at, every-of}
 use Rattle.basis.proofs.Orders.{signed-order}
 use Rattle.text.specs.declared.decimal.Decimal.{Decimal}
 use Rattle.matching.specs.Claim.{idsOf, valuesOf}
-use Rattle.matching.specs.Verdict.{Verdict, verdict, Fraction, near, firstLine, incompleteLine, unequalLine, sameKind, agrees, failingLine, unlikeLine, farLine, verdictOf, judgedBy}
+use Rattle.matching.specs.Verdict.{Verdict, matched, incompleteAt, mismatchAt, Fraction, near, firstLine, incompleteLine, unequalLine, sameKind, agrees, failingLine, unlikeLine, farLine, verdictOf, judgedBy}
 
 abbrev pub accepted : Said Verdict
-accepted = gives (verdict 0 0)
+accepted = gives matched
 
 -- ---- two lists that are alike at every place
 pub record Alike {A B : Type 0} (alike : A → B → Bool) (x : A) (y : B) (xs : List A) (ys : List B) : Type 0 where
@@ -73,8 +71,8 @@ same-list xs ys = (
 -- ---- a complete claim is accepted exactly where no line mismatches
 zero-of : (n m : ℕ) → _≡_ {A = Said Verdict} (gives (verdictOf n m)) accepted → (n ≡ 0) × (m ≡ 0)
 zero-of zero zero e = (refl, refl)
-zero-of zero (suc m) e = absurd (let f : verdict 21 (suc m) ≡ verdict 0 0 = cc in let z : 21 ≡ 0 = ap (λ (v : Verdict). v .number) f in omega arith)
-zero-of (suc n) m e = absurd (let f : verdict 20 (suc n) ≡ verdict 0 0 = cc in let z : 20 ≡ 0 = ap (λ (v : Verdict). v .number) f in omega arith)
+zero-of zero (suc m) e = absurd (let f : mismatchAt (suc m) ≡ matched = cc in let z : 21 ≡ 0 = ap (λ (v : Verdict). v .number) f in omega arith)
+zero-of (suc n) m e = absurd (let f : incompleteAt (suc n) ≡ matched = cc in let z : 20 ≡ 0 = ap (λ (v : Verdict). v .number) f in omega arith)
 
 module _ {A : Type 0} (ids : List ℤ) (mismatch : List A → ℕ) (l : List (ℤ × A)) where
   -- "incomplete": every line names the graph's identifier at its place, and none is missing or surplus

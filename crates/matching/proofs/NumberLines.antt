@@ -1,22 +1,22 @@
 -- What the loop over a claim's numbers keeps, and how it ends. Assumes nothing.
 use mathlib.Core.Path.{_≡_, refl, sym, ap, ap₂, _∙_}
-use mathlib.Core.Bool.{Bool, true, false, cond}
+use mathlib.Core.Bool.{cond}
 use mathlib.Core.List.{List, [], _∷_, _++_}
-use Prim.Native.Nat.{ℕ, zero, suc, _+_, _-_, _≤_, _<_}
+use Prim.Native.Nat.{ℕ, zero, suc, _+_, _≤_, _<_}
 use native.Mathlib.Numerals.{add-one}
 use native.Mathlib.Omega.{arith}
 use lib.Dec.{ltb}
 use lib.IntN.{ℤ, pos}
-use lib.ListN.{length, getD, take, set, length-set}
+use lib.ListN.{length, take, set, length-set}
 use lib.Seq.{take-suc-set}
 use mir.Syntax.{w64}
 use mir.Val.{toZ, ofZ}
-use borrow.Author.Tests.{lt-ltb, le-ltb, ltb-true, ltb-false}
+use borrow.Author.Tests.{lt-ltb, ltb-true, ltb-false}
 use Rattle.basis.specs.Refusal.{gives, refuses, at, tooMany, claimFile}
 use Rattle.basis.specs.declared.refusal.Refusal.{Refusal}
 use Rattle.basis.specs.Order.{sameZ}
 use Rattle.basis.proofs.Tests.{bool-cases}
-use Rattle.text.specs.Line.{line, none, fault, claimLine, edgeSays}
+use Rattle.text.specs.Line.{line, claimLine, edgeSays}
 use Rattle.text.specs.Word.{identOf}
 use Rattle.text.specs.Line.{twoOf}
 use Rattle.text.specs.declared.line.Cursor.{Cursor}
@@ -25,7 +25,7 @@ use Rattle.text.specs.declared.line.EdgeLine.the-variants as EL
 use Rattle.text.proofs.Places.{line-moves, edge-range}
 use Rattle.matching.specs.declared.reading.Read.the-variants.{Lines, Fault}
 use Rattle.matching.specs.Claim.{numberLines, idsOf, valuesOf}
-use Rattle.matching.specs.Steps.{orElse, coverStep, endLine, WholeOf, ReadOf}
+use Rattle.matching.specs.Steps.{coverStep, endLine, ReadOf}
 use Rattle.matching.proofs.FirstLines.{bits-back, Against, against-none, against-next, against-end}
 use Rattle.matching.proofs.Readings.{Passed, passed-none, passed-next, passed-end, passed-fault, passed-full, passed-over, ids-more, values-more}
 

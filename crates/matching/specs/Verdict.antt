@@ -15,19 +15,33 @@ use Rattle.matching.specs.declared.numbers.Rule.the-variants.{Exact, Equ
 use Rattle.matching.specs.Close.{isClose}
 use Rattle.matching.specs.Claim.{idsOf, valuesOf}
 
--- "Verdict 20 is incomplete", "Verdict 21 .. is a mismatch", "Verdict 0 matches, with line 0. All three carry file 3."
+-- a verdict's number, its file and its line
 pub record Verdict : Type 0 where
   pub number : ℕ
   pub file : ℕ
   pub line : ℕ
 
+-- "All three carry file 3."
 abbrev pub verdict : ℕ → ℕ → Verdict
 verdict number line = record { number = number; file = claimFile; line = line }
 
+-- "Verdict 0 matches, with line 0."
+abbrev pub matched : Verdict
+matched = verdict 0 0
+
+-- "Verdict 20 is incomplete", at a line
+abbrev pub incompleteAt : ℕ → Verdict
+incompleteAt line = verdict 20 line
+
+-- "Verdict 21 .. is a mismatch at its first line"
+abbrev pub mismatchAt : ℕ → Verdict
+mismatchAt line = verdict 21 line
+
+-- "a definition that gives this paper's number and values for each of its cases"
 abbrev pub says : Judged → Said Verdict
-says J.Match = gives (verdict 0 0)
-says (J.Incomplete line) = gives (verdict 20 line)
-says (J.Mismatch line) = gives (verdict 21 line)
+says J.Match = gives matched
+says (J.Incomplete line) = gives (incompleteAt line)
+says (J.Mismatch line) = gives (mismatchAt line)
 says (J.Refused r) = refuses r
 
 -- two lists side by side, the next line being k: the first line at which they aren't alike by a test, or at which one of them has ended; 0 where there is none
@@ -78,11 +92,11 @@ abbrev pub mismatchLine : Rule → List ℤ → List ℤ → ℕ
 mismatchLine Exact reference claimed = unequalLine reference claimed
 mismatchLine Equivalence reference claimed = unlikeLine reference claimed
 
--- "Verdict 20 is incomplete .. Verdict 21, only for a complete claim, is a mismatch at its first line. Verdict 0 matches"
+-- "Verdict 21, only for a complete claim": by the first incomplete line and the first mismatch
 abbrev pub verdictOf : ℕ → ℕ → Verdict
-verdictOf (suc k) mismatch = verdict 20 (suc k)
-verdictOf zero (suc k) = verdict 21 (suc k)
-verdictOf zero zero = verdict 0 0
+verdictOf (suc k) mismatch = incompleteAt (suc k)
+verdictOf zero (suc k) = mismatchAt (suc k)
+verdictOf zero zero = matched
 
 -- "All lines are read for 1, 2 and 3 first": a claim on vertices with these identifiers, by the line of its first mismatch
 unfoldable pub judgedBy : {A : Type 0} → List ℤ → (List A → ℕ) → Said (List (ℤ × A)) → Said Verdict

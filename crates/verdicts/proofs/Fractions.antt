@@ -1,16 +1,16 @@
 -- The verdict on coefficients, from LCC's promise. Assumes nothing.
 use mathlib.Core.Path.{_≡_, refl, sym, ap, ap₂, _∙_, subst}
-use mathlib.Core.Bool.{Bool, true, false, cond, _&&_}
+use mathlib.Core.Bool.{Bool, true, cond}
 use mathlib.Core.List.{List, [], _∷_}
-use Prim.Native.Nat.{ℕ, zero, suc, _+_, _^_, _≤_, _<_}
+use Prim.Native.Nat.{ℕ, suc, _+_, _^_, _<_}
 use native.Mathlib.Omega.{arith}
 use lib.Dec.{leb}
-use lib.IntN.{ℤ, pos}
+use lib.IntN.{ℤ}
 use lib.ListN.{length, getD, take}
 use lib.Seq.{getD-take}
 use borrow.Author.Tests.{le-leb, leb-true, lt-ltb}
 use Rattle.basis.specs.Refusal.{Said, gives, refuses, plain, noRoom}
-use Rattle.basis.specs.Area.{column, cleared}
+use Rattle.basis.specs.Area.{cleared}
 use Rattle.basis.proofs.Tests.{and-first, and-second, and-both}
 use Rattle.basis.proofs.Areas.{column-at, column-is, column-length}
 use Rattle.graph.specs.Sound.{Graph, outward, inward, soundGraph}
@@ -24,7 +24,7 @@ use Rattle.matching.specs.Verdict.{Verdict, Fraction, firstLine, near, farLine,
 use Rattle.matching.specs.Calls.{nearWithin, farWithin, fractionAt, fractions}
 use Rattle.verdicts.specs.Reference.{coefficientAt, coefficients, lccReference}
 use Rattle.verdicts.specs.Call.{verdictSays}
-use Rattle.verdicts.specs.Steps.{Known, Roomy, Terms, terms, termsSays, termsOn, termsCall}
+use Rattle.verdicts.specs.Steps.{Known, Roomy, Terms, termsSays, termsOn, termsCall}
 use Rattle.verdicts.proofs.Settling.{both-terms}
 use Rattle.verdicts.proofs.Running.{Ran, ran-fine, ran-known, ran-roomy, ran-front, ran-kept, onward-same, says-rooms}
 

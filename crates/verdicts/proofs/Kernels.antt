@@ -1,13 +1,13 @@
 -- Each kernel's run, from its promise. Assumes nothing.
-use mathlib.Core.Path.{_≡_, refl, sym, ap, ap₂, _∙_}
-use mathlib.Core.Bool.{Bool, true, false, _&&_}
+use mathlib.Core.Path.{_≡_, refl, ap, _∙_}
+use mathlib.Core.Bool.{Bool, true, _&&_}
 use mathlib.Core.List.{List}
-use Prim.Native.Nat.{ℕ, _≤_}
+use Prim.Native.Nat.{ℕ}
 use lib.Dec.{leb}
 use lib.IntN.{ℤ, pos, natAbs}
 use lib.ListN.{length}
 use borrow.Author.Tests.{le-leb, leb-true}
-use Rattle.basis.specs.Refusal.{Said, gives}
+use Rattle.basis.specs.Refusal.{Said}
 use Rattle.basis.specs.Area.{cleared}
 use Rattle.basis.proofs.Tests.{clash, and-first, and-both}
 use Rattle.basis.proofs.Areas.{column-length}
@@ -15,7 +15,7 @@ use Rattle.graph.specs.declared.find.Found.{Found}
 use Rattle.graph.specs.declared.find.Found.the-variants.{At, Missing}
 use Rattle.graph.specs.Find.{placeIn}
 use Rattle.graph.specs.Sound.{Graph, outward, names, soundGraph}
-use Rattle.graph.proofs.Sounds.{Sound, sound-of}
+use Rattle.graph.proofs.Sounds.{sound-of}
 use Rattle.bfs.specs.Depth.{depthOf}
 use Rattle.bfs.specs.Call as bfs
 use Rattle.wcc.specs.Component.{wccOf}

@@ -2,13 +2,12 @@
 use mathlib.Core.Path.{_≡_, refl, sym, ap, _∙_}
 use mathlib.Core.Bool.{Bool, true, false, cond}
 use mathlib.Core.Logic.{_↔_}
-use mathlib.Core.List.{List, [], map}
+use mathlib.Core.List.{List, map}
 use Prim.Native.Nat.{ℕ, _≤_}
 use lib.Dec.{eqb}
-use lib.IntN.{ℤ, pos, natAbs}
+use lib.IntN.{ℤ, natAbs}
 use lib.ListN.{length}
-use Rattle.basis.specs.Refusal.{Said, gives}
-use Rattle.basis.proofs.Tests.{bool-cases}
+use Rattle.basis.specs.Refusal.{gives}
 use Rattle.text.specs.Decimal.{decimalOf}
 use Rattle.text.specs.declared.decimal.Decimal.{Decimal}
 use Rattle.graph.specs.Find.{placeIn}
@@ -22,11 +21,11 @@ use Rattle.cdlp.specs.Promise.{goodRounds}
 use Rattle.cdlp.specs.Rounds.{cdlpOf}
 use Rattle.cdlp.proofs.Runs.{cdlp-length}
 use Rattle.matching.specs.Claim.{numberLines, coefficientLines, idsOf, valuesOf}
-use Rattle.matching.specs.Verdict.{Verdict, near}
+use Rattle.matching.specs.Verdict.{near}
 use Rattle.matching.proofs.Meaning.{accepted, Alike, TwoWay, map-length, exact-match, equivalence-match, epsilon-match}
 use Rattle.matching.proofs.Listing.{Line, claimText, linesOf, listed, AllFit, AllSpelled, exact-own, equivalence-own, epsilon-own}
 use Rattle.verdicts.specs.Reference.{Reference, coefficients, bfsReference, wccReference, cdlpReference, lccReference}
-use Rattle.verdicts.specs.Call.{Outcome, roomFor, verdictSays, leftBy, callOn, unknownCall, verdictCall}
+use Rattle.verdicts.specs.Call.{roomFor, verdictSays, leftBy, callOn, unknownCall, verdictCall}
 use Rattle.verdicts.proofs.Kernels.{bfs-length}
 use Rattle.verdicts.proofs.Ranges.{bfs-fits, cdlp-fits}
 

@@ -1,11 +1,10 @@
 -- Each kernel's results are in the range of an identifier, if the identifiers are. Assumes nothing.
-use mathlib.Core.Path.{_≡_, refl, sym, ap, _∙_}
 use mathlib.Core.Bool.{Bool, true, false, cond}
 use mathlib.Core.List.{List, [], _∷_}
 use Prim.Native.Nat.{ℕ, zero, suc, _+_, _≤_, _<_}
 use native.Mathlib.Omega.{arith}
 use lib.Dec.{eqb}
-use lib.IntN.{ℤ, pos, natAbs}
+use lib.IntN.{ℤ, pos}
 use lib.Signed.{ltZ}
 use lib.ListN.{getD}
 use mir.Syntax.{w64}
@@ -15,10 +14,10 @@ use Rattle.basis.specs.Order.{sameZ}
 use Rattle.graph.specs.declared.find.Found.{Found}
 use Rattle.graph.specs.declared.find.Found.the-variants.{At, Missing}
 use Rattle.graph.specs.Sound.{Graph, outward, inward, names}
-use Rattle.bfs.specs.Depth.{leastFrom, ring, depthOf}
+use Rattle.bfs.specs.Depth.{leastFrom, depthOf}
 use Rattle.bfs.specs.Call.{depthsFrom}
 use Rattle.wcc.specs.Component.{labelOf, wccOf}
-use Rattle.cdlp.specs.Label.{times, mostTimes, standing, mostCommon, smallest, smallestOr, nextLabel}
+use Rattle.cdlp.specs.Label.{times, standing, mostCommon, smallest, smallestOr, nextLabel}
 use Rattle.cdlp.specs.Rounds.{around, labelsAt, nextAt, oneRound, rounds, cdlpOf}
 use Rattle.matching.proofs.Listing.{AllFit}
 

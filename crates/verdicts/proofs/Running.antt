@@ -1,15 +1,15 @@
 -- What a kernel's run leaves for the verdict, for any kernel; and that the verdict then is the definition's. Assumes nothing.
-use mathlib.Core.Path.{_≡_, refl, sym, ap, ap₂, _∙_, subst}
-use mathlib.Core.Bool.{Bool, true, false, cond, _&&_}
-use mathlib.Core.List.{List, [], _∷_, _++_}
+use mathlib.Core.Path.{_≡_, refl, sym, ap, _∙_}
+use mathlib.Core.Bool.{Bool, true, false, cond}
+use mathlib.Core.List.{List}
 use Prim.Native.Nat.{ℕ, _-_, _≤_}
 use native.Mathlib.Omega.{arith}
 use lib.IntN.{ℤ, pos}
 use lib.ListN.{length, take, replicate, length-replicate}
 use lib.Seq.{take-at}
-use Rattle.basis.specs.Refusal.{Said, gives, refuses, plain, noRoom, unsound}
+use Rattle.basis.specs.Refusal.{Said, gives, refuses, plain, noRoom}
 use Rattle.basis.specs.declared.refusal.Refusal.{Refusal}
-use Rattle.basis.specs.Area.{padWith, leaves, cleared, clearedZ}
+use Rattle.basis.specs.Area.{leaves}
 use Rattle.basis.proofs.Tests.{clash}
 use Rattle.basis.proofs.Areas.{pad-length}
 use Rattle.kernels.specs.Answer.{kernelSays}
@@ -18,7 +18,7 @@ use Rattle.matching.specs.Claim.{numberLines}
 use Rattle.matching.specs.Verdict.{Verdict, mismatchLine, judgedBy}
 use Rattle.verdicts.specs.Reference.{Reference}
 use Rattle.verdicts.specs.Call.{onward, verdictSays}
-use Rattle.verdicts.specs.Steps.{kept, Known, Roomy, Numbers, numbers, numbersSays, numbersOn, numbersCall}
+use Rattle.verdicts.specs.Steps.{kept, Known, Roomy, Numbers, numbersSays, numbersOn, numbersCall}
 use Rattle.verdicts.proofs.Settling.{both-numbers}
 
 -- ---- what a kernel says

@@ -1,9 +1,8 @@
 -- Laws of a claim on a kernel's results: one for each way out of the code. Assumes nothing.
-use mathlib.Core.Path.{_≡_, refl, sym, ap, ap₂, _∙_, subst}
-use mathlib.Core.Bool.{Bool, true, false, not, cond, _&&_}
+use mathlib.Core.Path.{_≡_, refl, ap, _∙_}
+use mathlib.Core.Bool.{Bool, true, false, not}
 use mathlib.Core.List.{List}
 use Prim.Native.Nat.{ℕ, _≤_}
-use lib.Dec.{leb}
 use lib.IntN.{ℤ, pos}
 use lib.ListN.{length, take, replicate}
 use lib.Seq.{length-take-le}
@@ -20,7 +19,6 @@ use Rattle.matching.specs.declared.numbers.Rule.{Rule}
 use Rattle.matching.specs.Claim.{numberLines, coefficientLines}
 use Rattle.matching.specs.Verdict.{Verdict, says, mismatchLine, judgedBy}
 use Rattle.matching.specs.Calls as calls
-use Rattle.verdicts.specs.Call.{onward}
 use Rattle.verdicts.specs.Steps.{isRefused, kept, Known, Roomy, Numbers, numbers, numbersSays, numbersOn, Terms, terms, termsSays, termsOn}
 
 -- ---- an area after a verdict, and after a refusal, by the test t

@@ -6,7 +6,7 @@ use mathlib.Core.List.{List}
 use lib.IntN.{ℤ, pos}
 use lib.ListN.{length, take, replicate}
 use Rattle.basis.specs.Refusal.{Said, gives, refuses, plain, noRoom}
-use Rattle.basis.specs.Area.{leaves, cleared, clearedZ}
+use Rattle.basis.specs.Area.{leaves, clearedZ}
 use Rattle.matching.specs.declared.numbers.Rule.{Rule}
 use Rattle.matching.specs.Claim.{numberLines, coefficientLines}
 use Rattle.matching.specs.Verdict.{Verdict, mismatchLine, judgedBy}

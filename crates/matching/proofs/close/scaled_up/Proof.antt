@@ -1,10 +1,8 @@
 -- `matching::close::scaled_up` meets its contract: m is d * 10^j up to the cap. Assumes nothing.
-use mathlib.Core.Path.{_≡_, refl, sym, ap, _∙_}
-use Prim.Native.Nat.{ℕ, _+_, _-_, _*_, _^_, _≤_, _<_, min}
+use mathlib.Core.Path.{_≡_, ap, _∙_}
+use Prim.Native.Nat.{ℕ, _-_, _*_, _^_, _≤_, min}
 use borrow.Author.Needs.{needs}
 use native.Mathlib.Omega.{arith}
-use native.Mathlib.Nat.{pow-succ', mul-one}
-use native.Mathlib.Numerals.{add-one}
 use Rattle.matching.proofs.Closeness.{cap-next, ten-more}
 use Rattle.matching.proofs.close.scaled_up.Statement.{statement}
 use Rattle.matching.proofs.close.scaled_up.Tie as tie

@@ -1,6 +1,6 @@
 use borrow.Author.Needs.{needs}
-use Prim.Native.Nat.{_+_, _-_, _≤_}
-use mathlib.Core.Path.{_≡_, refl}
+use Prim.Native.Nat.{_-_, _≤_}
+use mathlib.Core.Path.{_≡_}
 use mathlib.Core.Bool.{true}
 use Rattle.basis.specs.Scan.{every}
 use Rattle.basis.proofs.Scans.{every-none}

@@ -1,7 +1,6 @@
 use borrow.Author.Needs.{needs}
 use Prim.Native.Nat.{_+_, _-_, _≤_}
 use mathlib.Core.Path.{_≡_, refl}
-use mathlib.Core.Bool.{true}
 use lib.ListN.{length, drop}
 use Rattle.basis.specs.Order.{sameZ}
 use Rattle.matching.specs.Verdict.{firstLine, unequalLine}

@@ -1,6 +1,6 @@
 use Rattle.matching.proofs.FirstLines.{room-first, room-second}
 use lib.Seq.{length-take-le}
-use mathlib.Core.Path.{sym, _∙_}
+use mathlib.Core.Path.{sym}
 use Rattle.matching.proofs.Judging.{judge-short, judge-kept, judge-lengths, judge-done}
 use borrow.Author.Needs.{needs}
 use Rattle.matching.proofs.numbers.judge_numbers.Statement.{statement}

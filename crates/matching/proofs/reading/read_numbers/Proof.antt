@@ -1,9 +1,7 @@
 use borrow.Author.Needs.{needs}
 use Prim.Native.Nat.{_-_}
 use lib.ListN.{length}
-use mir.Facts.{toZ-ofZ}
 use Rattle.matching.proofs.NumberLines.{Numbers, numbers-none, numbers-next, numbers-end, numbers-fault, numbers-over, numbers-full}
-use Rattle.matching.proofs.FirstLines.{bits-back}
 use Rattle.matching.proofs.reading.read_numbers.Statement.{statement}
 use Rattle.matching.proofs.reading.read_numbers.Tie as tie
 
