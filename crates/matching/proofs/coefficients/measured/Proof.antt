@@ -1,0 +1,53 @@
+use Rattle.matching.proofs.DecimalLines.{near-kept, near-surplus, near-yes, near-no}
+use borrow.Author.Needs.{needs}
+use Rattle.matching.proofs.coefficients.measured.Statement.{statement}
+use Rattle.matching.proofs.coefficients.measured.Tie as tie
+
+returns : tie.Need-returns
+returns c = search near-kept
+
+add-result : tie.Need-add-result
+add-result c = search needs
+
+returns-2 : tie.Need-returns-2
+returns-2 c = search near-surplus
+
+mul-near : tie.Need-mul-near
+mul-near c = search needs
+
+shared-slice-read-near : tie.Need-shared-slice-read-near
+shared-slice-read-near c = search needs
+
+mul-near-2 : tie.Need-mul-near-2
+mul-near-2 c = search needs
+
+shared-slice-read-near-2 : tie.Need-shared-slice-read-near-2
+shared-slice-read-near-2 c = search needs
+
+near-requires : tie.Need-near-requires
+near-requires c κs = search needs
+
+returns-3 : tie.Need-returns-3
+returns-3 c = search near-yes
+
+add-result-2 : tie.Need-add-result-2
+add-result-2 c = search needs
+
+returns-4 : tie.Need-returns-4
+returns-4 c = search near-no
+
+pub measured-spec : {M : Type 1} → statement M
+measured-spec =
+    tie.close
+    (tie.spec
+    returns
+    add-result
+    returns-2
+    mul-near
+    shared-slice-read-near
+    mul-near-2
+    shared-slice-read-near-2
+    near-requires
+    returns-3
+    add-result-2
+    returns-4)

@@ -1,0 +1,24 @@
+use Rattle.verdicts.proofs.Settling.{both-numbers}
+use borrow.Author.Needs.{needs}
+use Rattle.verdicts.proofs.claims.refuse_numbers.Statement.{statement}
+use Rattle.verdicts.proofs.claims.refuse_numbers.Tie as tie
+
+clear-signed-requires : tie.Need-clear-signed-requires
+clear-signed-requires c κs = search needs
+
+clear-signed-requires-2 : tie.Need-clear-signed-requires-2
+clear-signed-requires-2 c κs = search needs
+
+same-length : tie.Need-same-length
+same-length c = search needs
+
+same-length-2 : tie.Need-same-length-2
+same-length-2 c = search needs
+
+returns : tie.Need-returns
+returns c = search both-numbers
+
+pub refuse-numbers-spec : {M : Type 1} → statement M
+refuse-numbers-spec =
+    tie.close
+    (tie.spec clear-signed-requires clear-signed-requires-2 same-length same-length-2 returns)
