@@ -1,61 +1,71 @@
 -- Whole outputs, computed on the definition. Each sheet stands above its output, its lines separated by /. Assumes nothing.
+use Prim.Native.Nat.{ℕ}
 use mathlib.Core.Path.{_≡_, refl}
-use mathlib.Core.List.{[], _∷_}
+use mathlib.Core.List.{List, [], _∷_}
 use Rattle.basis.specs.Area.{column}
 use Rattle.basis.specs.Scan.{every, each, mem}
-use Rattle.text.specs.Decimal.{digitOf, pastPoint, wholeIsGood, signedPower, powerAt, partsOf, fractionOf, decimalOf}
 use Rattle.text.specs.Line.{lineBy, twoOf}
 use Rattle.text.specs.Scan.{hasAt, runAt, countAt, identAt, fieldAt, restAt}
 use Rattle.text.specs.Word.{within}
 use Rattle.write.specs.Decimal.{digits, decimal, signedText}
-use Rattle.write.specs.Put.{putAt}
 use Rattle.graph.specs.Find.{placeFrom, bisect}
 use Rattle.graph.specs.Part.{between, partOf}
 use Rattle.graph.specs.Sound.{soundIds, soundOffsets, soundSide, mirrored, soundGraph}
 use Rattle.load.specs.Files.{edgeTest}
 use Rattle.load.specs.Lines.{linesFrom, valuesFrom}
 use Rattle.load.specs.Load.{arcsRead, listsRead, loaded, outcomeOf, loadCall}
-use Rattle.load.specs.Steps.{vertexStep, orderFault, edgeStep, edgesRead}
 use Rattle.kernels.specs.Answer.{kernelSays}
 use Rattle.bfs.specs.Call.{bfsSays, bfsCall}
 use Rattle.bfs.specs.Depth.{leastFrom, ends, ring, depthOf}
-use Rattle.bfs.specs.Steps.{fromRoot, relaxed, walked, seen, advanced}
 use Rattle.wcc.specs.Component.{beside, chain, firstFrom, first, labelOf}
 use Rattle.wcc.specs.Promise.{roomFor as wcc-roomFor, leftBy as wcc-leftBy, wccCall}
-use Rattle.wcc.specs.Steps.{headHere, joinPart, joinArcs, marked, copied}
 use Rattle.cdlp.specs.Label.{times, mostTimes, standing, mostCommon, smallest, smallestOr, nextLabel}
 use Rattle.cdlp.specs.Promise.{goodRounds, roomFor as cdlp-roomFor, leftBy as cdlp-leftBy, cdlpCall}
 use Rattle.cdlp.specs.Rounds.{around, labelsAt, nextAt, oneRound, rounds, cdlpOf}
-use Rattle.cdlp.specs.Steps.{leading, counted, countedAll, forgotten, upTo}
 use Rattle.lcc.specs.Common.{commonCount}
 use Rattle.lcc.specs.Lcc.{those, neighbours, arcsFrom, coefficientAmong, numerator, denominator}
 use Rattle.lcc.specs.Promise.{room, lccSays, lccCall}
 use Rattle.lcc.specs.Ratio.{euclid, gcdOf, lowest}
-use Rattle.lcc.specs.Steps.{sideOf, firstAfter, secondAfter, emit, mergeN, mergeOf, refusedAll, filledAll}
 use Rattle.plan.specs.Jobs.{jobOf}
 use Rattle.plan.specs.Lines.{lfs, sheetLine, begins, isWord}
 use Rattle.plan.specs.Sheet.{modeOf, countLine, linesPast, section, sections, checked}
-use Rattle.plan.specs.Steps.{numberedAt}
 use Rattle.listing.specs.Listing.{spacedText, numbersText, refusedText, headText, namedText, pairText, fractionText, ratioText, pairLines, ratioLines}
 use Rattle.sheet.specs.Desk.{planText, deskOutput}
 use Rattle.sheet.specs.Jobs.{bfsText, wccText, cdlpText, lccText, jobsText}
 
 -- 01's sheet: directed/5/-3/2/5/9/20/5/2 5/2 9/5 2/5 9/9 20/4/bfs 2/wcc/cdlp 2/lcc/
-pub paper : deskOutput (100 ∷ 105 ∷ 114 ∷ 101 ∷ 99 ∷ 116 ∷ 101 ∷ 100 ∷ 10 ∷ 53 ∷ 10 ∷ 45 ∷ 51 ∷ 10 ∷ 50 ∷ 10 ∷ 53 ∷ 10 ∷ 57 ∷ 10 ∷ 50 ∷ 48 ∷ 10 ∷ 53 ∷ 10 ∷ 50 ∷ 32 ∷ 53 ∷ 10 ∷ 50 ∷ 32 ∷ 57 ∷ 10 ∷ 53 ∷ 32 ∷ 50 ∷ 10 ∷ 53 ∷ 32 ∷ 57 ∷ 10 ∷ 57 ∷ 32 ∷ 50 ∷ 48 ∷ 10 ∷ 52 ∷ 10 ∷ 98 ∷ 102 ∷ 115 ∷ 32 ∷ 50 ∷ 10 ∷ 119 ∷ 99 ∷ 99 ∷ 10 ∷ 99 ∷ 100 ∷ 108 ∷ 112 ∷ 32 ∷ 50 ∷ 10 ∷ 108 ∷ 99 ∷ 99 ∷ 10 ∷ []) ≡ 98 ∷ 102 ∷ 115 ∷ 32 ∷ 50 ∷ 10 ∷ 53 ∷ 10 ∷ 45 ∷ 51 ∷ 32 ∷ 57 ∷ 50 ∷ 50 ∷ 51 ∷ 51 ∷ 55 ∷ 50 ∷ 48 ∷ 51 ∷ 54 ∷ 56 ∷ 53 ∷ 52 ∷ 55 ∷ 55 ∷ 53 ∷ 56 ∷ 48 ∷ 55 ∷ 10 ∷ 50 ∷ 32 ∷ 48 ∷ 10 ∷ 53 ∷ 32 ∷ 49 ∷ 10 ∷ 57 ∷ 32 ∷ 49 ∷ 10 ∷ 50 ∷ 48 ∷ 32 ∷ 50 ∷ 10 ∷ 119 ∷ 99 ∷ 99 ∷ 10 ∷ 53 ∷ 10 ∷ 45 ∷ 51 ∷ 32 ∷ 45 ∷ 51 ∷ 10 ∷ 50 ∷ 32 ∷ 50 ∷ 10 ∷ 53 ∷ 32 ∷ 50 ∷ 10 ∷ 57 ∷ 32 ∷ 50 ∷ 10 ∷ 50 ∷ 48 ∷ 32 ∷ 50 ∷ 10 ∷ 99 ∷ 100 ∷ 108 ∷ 112 ∷ 32 ∷ 50 ∷ 10 ∷ 53 ∷ 10 ∷ 45 ∷ 51 ∷ 32 ∷ 45 ∷ 51 ∷ 10 ∷ 50 ∷ 32 ∷ 50 ∷ 10 ∷ 53 ∷ 32 ∷ 53 ∷ 10 ∷ 57 ∷ 32 ∷ 50 ∷ 10 ∷ 50 ∷ 48 ∷ 32 ∷ 50 ∷ 10 ∷ 108 ∷ 99 ∷ 99 ∷ 10 ∷ 53 ∷ 10 ∷ 45 ∷ 51 ∷ 32 ∷ 48 ∷ 47 ∷ 49 ∷ 10 ∷ 50 ∷ 32 ∷ 49 ∷ 47 ∷ 50 ∷ 10 ∷ 53 ∷ 32 ∷ 49 ∷ 47 ∷ 50 ∷ 10 ∷ 57 ∷ 32 ∷ 49 ∷ 47 ∷ 51 ∷ 10 ∷ 50 ∷ 48 ∷ 32 ∷ 48 ∷ 47 ∷ 49 ∷ 10 ∷ []
-unfolding column every each mem digitOf pastPoint wholeIsGood signedPower powerAt partsOf fractionOf decimalOf lineBy twoOf hasAt runAt countAt identAt fieldAt restAt within digits decimal signedText putAt placeFrom bisect between partOf soundIds soundOffsets soundSide mirrored soundGraph edgeTest linesFrom valuesFrom arcsRead listsRead loaded outcomeOf loadCall vertexStep orderFault edgeStep edgesRead kernelSays bfsSays bfsCall leastFrom ends ring depthOf fromRoot relaxed walked seen advanced beside chain firstFrom first labelOf wcc-roomFor wcc-leftBy wccCall headHere joinPart joinArcs marked copied times mostTimes standing mostCommon smallest smallestOr nextLabel goodRounds cdlp-roomFor cdlp-leftBy cdlpCall around labelsAt nextAt oneRound rounds cdlpOf leading counted countedAll forgotten upTo commonCount those neighbours arcsFrom coefficientAmong numerator denominator room lccSays lccCall euclid gcdOf lowest sideOf firstAfter secondAfter emit mergeN mergeOf refusedAll filledAll jobOf lfs sheetLine begins isWord modeOf countLine linesPast section sections checked numberedAt spacedText numbersText refusedText headText namedText pairText fractionText ratioText pairLines ratioLines planText deskOutput bfsText wccText cdlpText lccText jobsText
-paper = refl
+abbrev paperSheet : List ℕ
+paperSheet = 100 ∷ 105 ∷ 114 ∷ 101 ∷ 99 ∷ 116 ∷ 101 ∷ 100 ∷ 10 ∷ 53 ∷ 10 ∷ 45 ∷ 51 ∷ 10 ∷ 50 ∷ 10 ∷ 53 ∷ 10 ∷ 57 ∷ 10 ∷ 50 ∷ 48 ∷ 10 ∷ 53 ∷ 10 ∷ 50 ∷ 32 ∷ 53 ∷ 10 ∷ 50 ∷ 32 ∷ 57 ∷ 10 ∷ 53 ∷ 32 ∷ 50 ∷ 10 ∷ 53 ∷ 32 ∷ 57 ∷ 10 ∷ 57 ∷ 32 ∷ 50 ∷ 48 ∷ 10 ∷ 52 ∷ 10 ∷ 98 ∷ 102 ∷ 115 ∷ 32 ∷ 50 ∷ 10 ∷ 119 ∷ 99 ∷ 99 ∷ 10 ∷ 99 ∷ 100 ∷ 108 ∷ 112 ∷ 32 ∷ 50 ∷ 10 ∷ 108 ∷ 99 ∷ 99 ∷ 10 ∷ []
+
+abbrev paperOutput : List ℕ
+paperOutput = 98 ∷ 102 ∷ 115 ∷ 32 ∷ 50 ∷ 10 ∷ 53 ∷ 10 ∷ 45 ∷ 51 ∷ 32 ∷ 57 ∷ 50 ∷ 50 ∷ 51 ∷ 51 ∷ 55 ∷ 50 ∷ 48 ∷ 51 ∷ 54 ∷ 56 ∷ 53 ∷ 52 ∷ 55 ∷ 55 ∷ 53 ∷ 56 ∷ 48 ∷ 55 ∷ 10 ∷ 50 ∷ 32 ∷ 48 ∷ 10 ∷ 53 ∷ 32 ∷ 49 ∷ 10 ∷ 57 ∷ 32 ∷ 49 ∷ 10 ∷ 50 ∷ 48 ∷ 32 ∷ 50 ∷ 10 ∷ 119 ∷ 99 ∷ 99 ∷ 10 ∷ 53 ∷ 10 ∷ 45 ∷ 51 ∷ 32 ∷ 45 ∷ 51 ∷ 10 ∷ 50 ∷ 32 ∷ 50 ∷ 10 ∷ 53 ∷ 32 ∷ 50 ∷ 10 ∷ 57 ∷ 32 ∷ 50 ∷ 10 ∷ 50 ∷ 48 ∷ 32 ∷ 50 ∷ 10 ∷ 99 ∷ 100 ∷ 108 ∷ 112 ∷ 32 ∷ 50 ∷ 10 ∷ 53 ∷ 10 ∷ 45 ∷ 51 ∷ 32 ∷ 45 ∷ 51 ∷ 10 ∷ 50 ∷ 32 ∷ 50 ∷ 10 ∷ 53 ∷ 32 ∷ 53 ∷ 10 ∷ 57 ∷ 32 ∷ 50 ∷ 10 ∷ 50 ∷ 48 ∷ 32 ∷ 50 ∷ 10 ∷ 108 ∷ 99 ∷ 99 ∷ 10 ∷ 53 ∷ 10 ∷ 45 ∷ 51 ∷ 32 ∷ 48 ∷ 47 ∷ 49 ∷ 10 ∷ 50 ∷ 32 ∷ 49 ∷ 47 ∷ 50 ∷ 10 ∷ 53 ∷ 32 ∷ 49 ∷ 47 ∷ 50 ∷ 10 ∷ 57 ∷ 32 ∷ 49 ∷ 47 ∷ 51 ∷ 10 ∷ 50 ∷ 48 ∷ 32 ∷ 48 ∷ 47 ∷ 49 ∷ 10 ∷ []
 
 -- a refused job prints its line alone, and the others go on: undirected/2/-3/2/1/-3 2/3/bfs 7/cdlp -1/lcc/
-pub refused-job : deskOutput (117 ∷ 110 ∷ 100 ∷ 105 ∷ 114 ∷ 101 ∷ 99 ∷ 116 ∷ 101 ∷ 100 ∷ 10 ∷ 50 ∷ 10 ∷ 45 ∷ 51 ∷ 10 ∷ 50 ∷ 10 ∷ 49 ∷ 10 ∷ 45 ∷ 51 ∷ 32 ∷ 50 ∷ 10 ∷ 51 ∷ 10 ∷ 98 ∷ 102 ∷ 115 ∷ 32 ∷ 55 ∷ 10 ∷ 99 ∷ 100 ∷ 108 ∷ 112 ∷ 32 ∷ 45 ∷ 49 ∷ 10 ∷ 108 ∷ 99 ∷ 99 ∷ 10 ∷ []) ≡ 114 ∷ 101 ∷ 102 ∷ 117 ∷ 115 ∷ 101 ∷ 100 ∷ 32 ∷ 49 ∷ 48 ∷ 32 ∷ 48 ∷ 32 ∷ 48 ∷ 10 ∷ 114 ∷ 101 ∷ 102 ∷ 117 ∷ 115 ∷ 101 ∷ 100 ∷ 32 ∷ 49 ∷ 49 ∷ 32 ∷ 48 ∷ 32 ∷ 48 ∷ 10 ∷ 108 ∷ 99 ∷ 99 ∷ 10 ∷ 50 ∷ 10 ∷ 45 ∷ 51 ∷ 32 ∷ 48 ∷ 47 ∷ 49 ∷ 10 ∷ 50 ∷ 32 ∷ 48 ∷ 47 ∷ 49 ∷ 10 ∷ []
-unfolding column every each mem digitOf pastPoint wholeIsGood signedPower powerAt partsOf fractionOf decimalOf lineBy twoOf hasAt runAt countAt identAt fieldAt restAt within digits decimal signedText putAt placeFrom bisect between partOf soundIds soundOffsets soundSide mirrored soundGraph edgeTest linesFrom valuesFrom arcsRead listsRead loaded outcomeOf loadCall vertexStep orderFault edgeStep edgesRead kernelSays bfsSays bfsCall leastFrom ends ring depthOf fromRoot relaxed walked seen advanced beside chain firstFrom first labelOf wcc-roomFor wcc-leftBy wccCall headHere joinPart joinArcs marked copied times mostTimes standing mostCommon smallest smallestOr nextLabel goodRounds cdlp-roomFor cdlp-leftBy cdlpCall around labelsAt nextAt oneRound rounds cdlpOf leading counted countedAll forgotten upTo commonCount those neighbours arcsFrom coefficientAmong numerator denominator room lccSays lccCall euclid gcdOf lowest sideOf firstAfter secondAfter emit mergeN mergeOf refusedAll filledAll jobOf lfs sheetLine begins isWord modeOf countLine linesPast section sections checked numberedAt spacedText numbersText refusedText headText namedText pairText fractionText ratioText pairLines ratioLines planText deskOutput bfsText wccText cdlpText lccText jobsText
-refused-job = refl
+abbrev refusedJobSheet : List ℕ
+refusedJobSheet = 117 ∷ 110 ∷ 100 ∷ 105 ∷ 114 ∷ 101 ∷ 99 ∷ 116 ∷ 101 ∷ 100 ∷ 10 ∷ 50 ∷ 10 ∷ 45 ∷ 51 ∷ 10 ∷ 50 ∷ 10 ∷ 49 ∷ 10 ∷ 45 ∷ 51 ∷ 32 ∷ 50 ∷ 10 ∷ 51 ∷ 10 ∷ 98 ∷ 102 ∷ 115 ∷ 32 ∷ 55 ∷ 10 ∷ 99 ∷ 100 ∷ 108 ∷ 112 ∷ 32 ∷ 45 ∷ 49 ∷ 10 ∷ 108 ∷ 99 ∷ 99 ∷ 10 ∷ []
+
+abbrev refusedJobOutput : List ℕ
+refusedJobOutput = 114 ∷ 101 ∷ 102 ∷ 117 ∷ 115 ∷ 101 ∷ 100 ∷ 32 ∷ 49 ∷ 48 ∷ 32 ∷ 48 ∷ 32 ∷ 48 ∷ 10 ∷ 114 ∷ 101 ∷ 102 ∷ 117 ∷ 115 ∷ 101 ∷ 100 ∷ 32 ∷ 49 ∷ 49 ∷ 32 ∷ 48 ∷ 32 ∷ 48 ∷ 10 ∷ 108 ∷ 99 ∷ 99 ∷ 10 ∷ 50 ∷ 10 ∷ 45 ∷ 51 ∷ 32 ∷ 48 ∷ 47 ∷ 49 ∷ 10 ∷ 50 ∷ 32 ∷ 48 ∷ 47 ∷ 49 ∷ 10 ∷ []
 
 -- a refused load prints one line: directed/1/4/1/4 4/1/wcc/
-pub refused-load : deskOutput (100 ∷ 105 ∷ 114 ∷ 101 ∷ 99 ∷ 116 ∷ 101 ∷ 100 ∷ 10 ∷ 49 ∷ 10 ∷ 52 ∷ 10 ∷ 49 ∷ 10 ∷ 52 ∷ 32 ∷ 52 ∷ 10 ∷ 49 ∷ 10 ∷ 119 ∷ 99 ∷ 99 ∷ 10 ∷ []) ≡ 114 ∷ 101 ∷ 102 ∷ 117 ∷ 115 ∷ 101 ∷ 100 ∷ 32 ∷ 53 ∷ 32 ∷ 50 ∷ 32 ∷ 49 ∷ 10 ∷ []
-unfolding column every each mem digitOf pastPoint wholeIsGood signedPower powerAt partsOf fractionOf decimalOf lineBy twoOf hasAt runAt countAt identAt fieldAt restAt within digits decimal signedText putAt placeFrom bisect between partOf soundIds soundOffsets soundSide mirrored soundGraph edgeTest linesFrom valuesFrom arcsRead listsRead loaded outcomeOf loadCall vertexStep orderFault edgeStep edgesRead kernelSays bfsSays bfsCall leastFrom ends ring depthOf fromRoot relaxed walked seen advanced beside chain firstFrom first labelOf wcc-roomFor wcc-leftBy wccCall headHere joinPart joinArcs marked copied times mostTimes standing mostCommon smallest smallestOr nextLabel goodRounds cdlp-roomFor cdlp-leftBy cdlpCall around labelsAt nextAt oneRound rounds cdlpOf leading counted countedAll forgotten upTo commonCount those neighbours arcsFrom coefficientAmong numerator denominator room lccSays lccCall euclid gcdOf lowest sideOf firstAfter secondAfter emit mergeN mergeOf refusedAll filledAll jobOf lfs sheetLine begins isWord modeOf countLine linesPast section sections checked numberedAt spacedText numbersText refusedText headText namedText pairText fractionText ratioText pairLines ratioLines planText deskOutput bfsText wccText cdlpText lccText jobsText
-refused-load = refl
+abbrev refusedLoadSheet : List ℕ
+refusedLoadSheet = 100 ∷ 105 ∷ 114 ∷ 101 ∷ 99 ∷ 116 ∷ 101 ∷ 100 ∷ 10 ∷ 49 ∷ 10 ∷ 52 ∷ 10 ∷ 49 ∷ 10 ∷ 52 ∷ 32 ∷ 52 ∷ 10 ∷ 49 ∷ 10 ∷ 119 ∷ 99 ∷ 99 ∷ 10 ∷ []
+
+abbrev refusedLoadOutput : List ℕ
+refusedLoadOutput = 114 ∷ 101 ∷ 102 ∷ 117 ∷ 115 ∷ 101 ∷ 100 ∷ 32 ∷ 53 ∷ 32 ∷ 50 ∷ 32 ∷ 49 ∷ 10 ∷ []
 
 -- a refused sheet prints one line: directed/1/4/1/4 4/1/wcd/
-pub refused-sheet : deskOutput (100 ∷ 105 ∷ 114 ∷ 101 ∷ 99 ∷ 116 ∷ 101 ∷ 100 ∷ 10 ∷ 49 ∷ 10 ∷ 52 ∷ 10 ∷ 49 ∷ 10 ∷ 52 ∷ 32 ∷ 52 ∷ 10 ∷ 49 ∷ 10 ∷ 119 ∷ 99 ∷ 100 ∷ 10 ∷ []) ≡ 114 ∷ 101 ∷ 102 ∷ 117 ∷ 115 ∷ 101 ∷ 100 ∷ 32 ∷ 50 ∷ 32 ∷ 52 ∷ 32 ∷ 55 ∷ 10 ∷ []
-unfolding column every each mem digitOf pastPoint wholeIsGood signedPower powerAt partsOf fractionOf decimalOf lineBy twoOf hasAt runAt countAt identAt fieldAt restAt within digits decimal signedText putAt placeFrom bisect between partOf soundIds soundOffsets soundSide mirrored soundGraph edgeTest linesFrom valuesFrom arcsRead listsRead loaded outcomeOf loadCall vertexStep orderFault edgeStep edgesRead kernelSays bfsSays bfsCall leastFrom ends ring depthOf fromRoot relaxed walked seen advanced beside chain firstFrom first labelOf wcc-roomFor wcc-leftBy wccCall headHere joinPart joinArcs marked copied times mostTimes standing mostCommon smallest smallestOr nextLabel goodRounds cdlp-roomFor cdlp-leftBy cdlpCall around labelsAt nextAt oneRound rounds cdlpOf leading counted countedAll forgotten upTo commonCount those neighbours arcsFrom coefficientAmong numerator denominator room lccSays lccCall euclid gcdOf lowest sideOf firstAfter secondAfter emit mergeN mergeOf refusedAll filledAll jobOf lfs sheetLine begins isWord modeOf countLine linesPast section sections checked numberedAt spacedText numbersText refusedText headText namedText pairText fractionText ratioText pairLines ratioLines planText deskOutput bfsText wccText cdlpText lccText jobsText
-refused-sheet = refl
+abbrev refusedSheetSheet : List ℕ
+refusedSheetSheet = 100 ∷ 105 ∷ 114 ∷ 101 ∷ 99 ∷ 116 ∷ 101 ∷ 100 ∷ 10 ∷ 49 ∷ 10 ∷ 52 ∷ 10 ∷ 49 ∷ 10 ∷ 52 ∷ 32 ∷ 52 ∷ 10 ∷ 49 ∷ 10 ∷ 119 ∷ 99 ∷ 100 ∷ 10 ∷ []
+
+abbrev refusedSheetOutput : List ℕ
+refusedSheetOutput = 114 ∷ 101 ∷ 102 ∷ 117 ∷ 115 ∷ 101 ∷ 100 ∷ 32 ∷ 50 ∷ 32 ∷ 52 ∷ 32 ∷ 55 ∷ 10 ∷ []
+
+-- what the desk program prints for each
+pub outputs :
+    (deskOutput paperSheet ≡ paperOutput)
+    × (deskOutput refusedJobSheet ≡ refusedJobOutput)
+    × (deskOutput refusedLoadSheet ≡ refusedLoadOutput)
+    × (deskOutput refusedSheetSheet ≡ refusedSheetOutput)
+unfolding column every each mem lineBy twoOf hasAt runAt countAt identAt fieldAt restAt within digits decimal signedText placeFrom bisect between partOf soundIds soundOffsets soundSide mirrored soundGraph edgeTest linesFrom valuesFrom arcsRead listsRead loaded outcomeOf loadCall kernelSays bfsSays bfsCall leastFrom ends ring depthOf beside chain firstFrom first labelOf wcc-roomFor wcc-leftBy wccCall times mostTimes standing mostCommon smallest smallestOr nextLabel goodRounds cdlp-roomFor cdlp-leftBy cdlpCall around labelsAt nextAt oneRound rounds cdlpOf commonCount those neighbours arcsFrom coefficientAmong numerator denominator room lccSays lccCall euclid gcdOf lowest jobOf lfs sheetLine begins isWord modeOf countLine linesPast section sections checked spacedText numbersText refusedText headText namedText pairText fractionText ratioText pairLines ratioLines planText deskOutput bfsText wccText cdlpText lccText jobsText
+outputs = (refl, refl, refl, refl)

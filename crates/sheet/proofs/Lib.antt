@@ -4,4 +4,5 @@ pub mod Whole
 pub mod Lists
 pub mod Lengths
 pub mod Room
+pub mod Meaning
 pub mod Examples
