@@ -1,0 +1,4 @@
+-- Laws of the numbers that a host is given: they can be taken apart again, and each call's answer fits one.
+pub mod Codes
+pub mod Books
+pub mod Runs

@@ -1,0 +1,38 @@
+-- What a call answers its host, as one number.
+use Prim.Native.Nat.{ℕ, _+_, _*_, _/_, _%_, _≤_, _<_}
+use Rattle.basis.specs.declared.refusal.Refusal.{Refusal}
+use Rattle.basis.specs.Refusal.{Said, gives, refuses}
+
+-- "A refusal returns its number, a file number .. and a line", at library limits: number × 10^15 + file × 10^14 + line
+abbrev pub placed : Refusal → ℕ
+placed r = r .number * 1000000000000000 + r .file * 100000000000000 + r .line
+
+-- a call's values as a number, or its refusal
+abbrev pub coded : {A : Type 0} → Said A → (A → ℕ) → ℕ
+coded (gives x) value = value x
+coded (refuses r) value = placed r
+
+-- the three numbers as a host takes them out again; below 10^14 stands the line, or the values
+abbrev pub numberIn : ℕ → ℕ
+numberIn code = code / 1000000000000000
+
+abbrev pub fileIn : ℕ → ℕ
+fileIn code = code / 100000000000000 % 10
+
+abbrev pub lineIn : ℕ → ℕ
+lineIn code = code % 100000000000000
+
+-- what can be taken out of a number again: 01 has numbers up to 21, files up to 4, and no line near 10^14
+pub record Small (r : Refusal) : Type 0 where
+  pub number : r .number ≤ 21
+  pub file : r .file ≤ 4
+  pub line : r .line < 100000000000000
+
+-- values stay below 10^14, and a refusal has a number of its own
+unfoldable pub Readable : {A : Type 0} → Said A → (A → ℕ) → Type 0
+Readable (gives x) value = value x < 100000000000000
+Readable (refuses r) value = (0 < r .number) × Small r
+
+-- a call that has no value beside its areas
+abbrev pub nothing : Unit {0} → ℕ
+nothing x = 0

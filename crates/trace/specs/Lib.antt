@@ -1,0 +1,4 @@
+-- What the calls for a C or Rust host promise, in reading order.
+pub mod Code
+pub mod Book
+pub mod Kernels

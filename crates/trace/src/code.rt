@@ -1,0 +1,86 @@
+// An answer as one number, by its cases.
+use basis::Refusal;
+use book::Compared;
+use book::Headed;
+use book::Joined;
+use book::Opened;
+use book::Reading;
+use kernels::Answer;
+ghost use mathlib.Core.Path.{_≡_};
+ghost use Rattle.kernels.specs.Answer.{says};
+ghost use Rattle.book.specs.Says.{saysOpened, saysJoined, saysHeaded, saysCompared, saysReading};
+ghost use Rattle.trace.specs.Code.{placed, coded, Small, Readable, nothing};
+ghost use Rattle.trace.specs.Book.{joinValue, headValue, sameValue, itself};
+
+const NUMBER: u64 = 1000000000000000;
+
+const FILE: u64 = 100000000000000;
+
+pub(crate) fn refusal_code(r: Refusal) -> u64
+    requires { ⌜ Small r ⌝ }
+    ensures { λ k. ⌜ k ≡ placed r ⌝ }
+{
+    r.number as u64 * NUMBER + r.file as u64 * FILE + r.line as u64
+}
+
+pub(crate) fn opened_code(a: Opened) -> u64
+    requires { ⌜ Readable (saysOpened a) nothing ⌝ }
+    ensures { λ k. ⌜ k ≡ coded (saysOpened a) nothing ⌝ }
+{
+    match a {
+        Opened::Ready => 0,
+        Opened::Refused(r) => refusal_code(r),
+    }
+}
+
+pub(crate) fn joined_code(a: Joined) -> u64
+    requires { ⌜ Readable (saysJoined a) joinValue ⌝ }
+    ensures { λ k. ⌜ k ≡ coded (saysJoined a) joinValue ⌝ }
+{
+    match a {
+        Joined::Merged => 1,
+        Joined::Already => 0,
+        Joined::Refused(r) => refusal_code(r),
+    }
+}
+
+pub(crate) fn headed_code(a: Headed) -> u64
+    requires { ⌜ Readable (saysHeaded a) headValue ⌝ }
+    ensures { λ k. ⌜ k ≡ coded (saysHeaded a) headValue ⌝ }
+{
+    match a {
+        Headed::Head(head, moves) => head as u64 * 100 + moves as u64,
+        Headed::Refused(r) => refusal_code(r),
+    }
+}
+
+pub(crate) fn compared_code(a: Compared) -> u64
+    requires { ⌜ Readable (saysCompared a) sameValue ⌝ }
+    ensures { λ k. ⌜ k ≡ coded (saysCompared a) sameValue ⌝ }
+{
+    match a {
+        Compared::Together => 1,
+        Compared::Apart => 0,
+        Compared::Refused(r) => refusal_code(r),
+    }
+}
+
+pub(crate) fn reading_code(a: Reading) -> u64
+    requires { ⌜ Readable (saysReading a) itself ⌝ }
+    ensures { λ k. ⌜ k ≡ coded (saysReading a) itself ⌝ }
+{
+    match a {
+        Reading::Value(k) => k as u64,
+        Reading::Refused(r) => refusal_code(r),
+    }
+}
+
+pub(crate) fn kernel_code(a: Answer) -> u64
+    requires { ⌜ Readable (says a) nothing ⌝ }
+    ensures { λ k. ⌜ k ≡ coded (says a) nothing ⌝ }
+{
+    match a {
+        Answer::Done => 0,
+        Answer::Refused(r) => refusal_code(r),
+    }
+}
