@@ -1,0 +1,203 @@
+-- Laws of the four areas of a graph: a directed file's edges as they were arranged, an undirected file's arcs the same both ways. Assumes nothing.
+use Prim.Native.Nat.{ℕ, zero, suc, _+_, _-_, _≤_, _<_}
+use mathlib.Core.Path.{_≡_, refl, sym, ap, ap₂, subst, _∙_}
+use mathlib.Core.Bool.{Bool, true, false, cond, _&&_}
+use mathlib.Core.List.{List, [], _∷_, _++_}
+use native.Mathlib.Omega.{arith}
+use native.Mathlib.Numerals.{add-one}
+use borrow.Author.Tests.{leb-true}
+use lib.ListN.{length, take, drop, replicate}
+use lib.Seq.{take-at, drop-append-add}
+use lib.Dec.{leb}
+use lib.IntN.{ℤ}
+use Rattle.basis.specs.Refusal.{Said, gives, refuses, plain, noRoom, edgeFile}
+use Rattle.basis.specs.declared.refusal.Refusal.{Refusal}
+use Rattle.basis.specs.Area.{pad}
+use Rattle.basis.specs.Order.{risingZ}
+use Rattle.basis.proofs.Tests.{and-first, and-second}
+use Rattle.text.specs.Line.{edgeLine}
+use Rattle.graph.specs.Arcs.{Arc, arcs, backward, parts, start, offsets}
+use Rattle.store.specs.Held.{inArcs}
+use Rattle.store.proofs.Columns.{column-ext}
+use Rattle.store.proofs.Arcs.{start-length}
+use Rattle.store.proofs.Passes.{below-in, length-backward}
+use Rattle.store.proofs.Order.{Valid, valid-ends}
+use Rattle.store.proofs.Built.{offsets-length, both-parts, parts-seconds}
+use Rattle.load.specs.declared.lines.Listed.{Listed}
+use Rattle.load.specs.declared.lines.Listed.the-variants.{Lines, Refused}
+use Rattle.load.specs.Lines.{linesOf, first, onward, said}
+use Rattle.load.specs.Files.{edgeTest, edgesOf, allNumbered}
+use Rattle.load.specs.Load.{arcRoom, withRoom, arcsRead}
+use Rattle.load.specs.Steps.{arcCount, edgesRead, Arranged, arranged, arrangedBy, arrangedLeft, Filled, filled, filledBy}
+use Rattle.load.proofs.Values.{values-accepted}
+use Rattle.load.proofs.Valids.{valid-edges}
+use Rattle.load.proofs.Arranges.{drop-same, length-seconds, arc-count, said-gives, said-refuses}
+
+-- ---- the arcs of a file are those of its edges, and the order of the two rooms does not matter
+said-room : {A B : Type 0} (f : A → B) (t : Bool) (x : A) → withRoom t (f x) ≡ said f (withRoom t x)
+said-room f true x = refl
+said-room f false x = refl
+
+room-true : {A : Type 0} (t : Bool) (x y : A) → withRoom t x ≡ gives y → (t ≡ true) × (x ≡ y)
+room-true true x y h = (refl, (cc))
+room-true false x y h = let z : _≡_ {A = ℕ} 0 1 = cc in absurd (let o : ⊥ = omega arith in o)
+
+and-swap : (p q : Bool) → (p && q) ≡ (q && p)
+and-swap true true = refl
+and-swap true false = refl
+and-swap false true = refl
+and-swap false false = refl
+
+module _ (both : Bool) (most : ℕ) (ids : List ℤ) (s : List ℕ) where
+  pub arcs-edges : (t t′ : ℕ) → arcsRead both most ids s t t′ ≡ said (arcs both) (edgesRead both most ids s t t′)
+  unfolding arcsRead edgesRead
+  arcs-edges t t′ = go (edgesOf both most ids s)
+    where
+      go : (x : Said (List (ℤ × ℤ))) → onward x (λ es. withRoom (arcRoom t t′ (length (arcs both (allNumbered ids es)))) (arcs both (allNumbered ids es)))
+          ≡ said (arcs both) (onward x (λ es. withRoom (arcRoom t t′ (length (arcs both (allNumbered ids es)))) (allNumbered ids es)))
+      go (gives es) = said-room (arcs both) (arcRoom t t′ (length (arcs both (allNumbered ids es)))) (allNumbered ids es)
+      go (refuses r) = refl
+
+  pub edges-swap : (t t′ : ℕ) → edgesRead both most ids s t t′ ≡ edgesRead both most ids s t′ t
+  unfolding edgesRead
+  edges-swap t t′ = go (edgesOf both most ids s)
+    where
+      go : (x : Said (List (ℤ × ℤ))) → onward x (λ es. withRoom (arcRoom t t′ (length (arcs both (allNumbered ids es)))) (allNumbered ids es))
+          ≡ onward x (λ es. withRoom (arcRoom t′ t (length (arcs both (allNumbered ids es)))) (allNumbered ids es))
+      go (gives es) =
+          ap (λ (b : Bool). withRoom b (allNumbered ids es)) (and-swap (leb (length (arcs both (allNumbered ids es))) t) (leb (length (arcs both (allNumbered ids es))) t′))
+      go (refuses r) = refl
+
+  -- edges that were read with room are valid
+  module _ (rise : risingZ ids ≡ true) (t t′ : ℕ) (es : List Arc) (e : edgesRead both most ids s t t′ ≡ gives es) where
+    taken : (l : List (ℤ × ℤ)) × (edgesOf both most ids s ≡ gives l) × (allNumbered ids l ≡ es) × (arcRoom t t′ (length (arcs both es)) ≡ true)
+    unfolding edgesRead
+    taken = go (edgesOf both most ids s) refl e
+      where
+        go : (x : Said (List (ℤ × ℤ))) → edgesOf both most ids s ≡ x
+            → onward x (λ es. withRoom (arcRoom t t′ (length (arcs both (allNumbered ids es)))) (allNumbered ids es)) ≡ gives es
+            → (l : List (ℤ × ℤ)) × (edgesOf both most ids s ≡ gives l) × (allNumbered ids l ≡ es) × (arcRoom t t′ (length (arcs both es)) ≡ true)
+        go (gives l) q h =
+            let r = room-true (arcRoom t t′ (length (arcs both (allNumbered ids l)))) (allNumbered ids l) es h in
+            (l, q, r .1, subst (λ (x : List Arc). arcRoom t t′ (length (arcs both x)) ≡ true) (r .1) (r .0))
+        go (refuses r) q h = let z : _≡_ {A = ℕ} 0 1 = cc in absurd (let o : ⊥ = omega arith in o)
+
+    pub read-valid : Valid both (length ids) es
+    read-valid =
+        subst (Valid both (length ids)) (taken .2)
+        (valid-edges ids rise both first (taken .0) (values-accepted edgeFile most (edgeTest both ids) 0 first (linesOf edgeLine s) (taken .0) (taken .1) (omega arith) .passes))
+
+    pub read-fits : arcCount both (length es) ≤ t
+    read-fits = let l = leb-true (length (arcs both es)) t (and-first (leb (length (arcs both es)) t) (leb (length (arcs both es)) t′) (taken .3)) in omega (arith, arc-count both es)
+
+    pub read-fits-back : arcCount both (length es) ≤ t′
+    read-fits-back = let l = leb-true (length (arcs both es)) t′ (and-second (leb (length (arcs both es)) t) (leb (length (arcs both es)) t′) (taken .3)) in omega (arith, arc-count both es)
+
+-- ---- areas, by each
+filled-of : (n : ℕ) {m k : ℕ} {a b c d a′ b′ c′ d′ : List ℕ} → m ≡ k → a ≡ a′ → b ≡ b′ → c ≡ c′ → d ≡ d′
+    → filled (record { vertices = n; arcs = m }) a b c d ≡ filled (record { vertices = n; arcs = k }) a′ b′ c′ d′
+filled-of n e p q r s = cc
+
+-- ---- a directed file
+arcs-one : (es : List Arc) → arcs false es ≡ es
+arcs-one [] = refl
+arcs-one (e ∷ es) = ap (λ (l : List Arc). e ∷ l) (arcs-one es)
+
+module _ (most : ℕ) (ids : List ℤ) (s : List ℕ) (lo lt li ls : ℕ) (x : Listed) (o t b u : List ℕ)
+    (told : arrangedLeft x o t b u ≡ said (arrangedBy false (length ids) lo lt li ls) (edgesRead false most ids s lt ls)) where
+  pub directed-refused : (r : Refusal) → x ≡ Refused r → refuses r ≡ said (filledBy (length ids) lo lt li ls) (arcsRead false most ids s lt ls)
+  directed-refused r q =
+      rw (arcs-edges false most ids s lt ls, said-refuses (arrangedBy false (length ids) lo lt li ls) (edgesRead false most ids s lt ls) r (ap (λ y. arrangedLeft y o t b u) (sym q) ∙ told))
+
+  pub directed-lines : (m : ℕ) → x ≡ Lines m → gives (filled (record { vertices = length ids; arcs = m }) o t b u) ≡ said (filledBy (length ids) lo lt li ls) (arcsRead false most ids s lt ls)
+  directed-lines m q =
+      let g = said-gives (arrangedBy false (length ids) lo lt li ls) (edgesRead false most ids s lt ls) (arranged m o t b u) (ap (λ y. arrangedLeft y o t b u) (sym q) ∙ told) in
+      let a = sym (arcs-one (g .0)) in
+      rw (arcs-edges false most ids s lt ls, g .1)
+      (ap gives
+      (filled-of (length ids) (ap (λ (y : Arranged). y .edges) (g .2) ∙ ap length a)
+      (ap (λ (y : Arranged). y .offsets) (g .2) ∙ ap (λ (l : List Arc). pad lo (offsets l (length ids))) a)
+      (ap (λ (y : Arranged). y .targets) (g .2) ∙ ap (λ (l : List Arc). pad lt (parts l (length ids))) a)
+      (ap (λ (y : Arranged). y .backOffsets) (g .2)) (ap (λ (y : Arranged). y .backTargets) (g .2))))
+
+-- ---- a list copied from one area to another
+copy-pad : (xs ys : List ℕ) (a b k : ℕ) → length xs ≡ k → length ys ≤ k → take k (pad a xs) ++ drop k (pad b ys) ≡ pad b xs
+copy-pad xs ys a b k e h =
+    let j : length ys + (k - length ys) ≡ k = omega arith in
+    let m : b - length ys - (k - length ys) ≡ b - length xs = omega arith in
+    rw (take-at xs (replicate (a - length xs) 0) k e)
+    (ap (λ (r : List ℕ). xs ++ r)
+    (ap (λ (n : ℕ). drop n (ys ++ replicate (b - length ys) 0)) (sym j) ∙ drop-append-add ys (replicate (b - length ys) 0) (k - length ys) ∙ drop-same 0 (k - length ys) (b - length ys)
+    ∙ ap (λ (n : ℕ). replicate {A = ℕ} n 0) m))
+
+-- ---- an undirected file, arranged in the inward areas i, j and the outward areas o, t
+module _ (most : ℕ) (ids : List ℤ) (s : List ℕ) (lo lt li ls : ℕ) (rise : risingZ ids ≡ true) (x : Listed) (i j o t : List ℕ)
+    (told : arrangedLeft x i j o t ≡ said (arrangedBy true (length ids) li ls lo lt) (edgesRead true most ids s ls lt)) where
+  abbrev n : ℕ
+  n = length ids
+
+  swapped : arcsRead true most ids s lt ls ≡ said (arcs true) (edgesRead true most ids s ls lt)
+  swapped = arcs-edges true most ids s lt ls ∙ ap (said (arcs true)) (edges-swap true most ids s lt ls)
+
+  pub undirected-refused : (r : Refusal) → x ≡ Refused r → refuses r ≡ said (filledBy n lo lt li ls) (arcsRead true most ids s lt ls)
+  undirected-refused r q =
+      rw (swapped, said-refuses (arrangedBy true n li ls lo lt) (edgesRead true most ids s ls lt) r (ap (λ y. arrangedLeft y i j o t) (sym q) ∙ told))
+
+  module _ (m : ℕ) (q : x ≡ Lines m) where
+    given : (es : List Arc) × (edgesRead true most ids s ls lt ≡ gives es) × (arranged m i j o t ≡ arrangedBy true n li ls lo lt es)
+    given = said-gives (arrangedBy true n li ls lo lt) (edgesRead true most ids s ls lt) (arranged m i j o t) (ap (λ y. arrangedLeft y i j o t) (sym q) ∙ told)
+
+    abbrev es : List Arc
+    es = given .0
+
+    abbrev inward : List Arc
+    inward = inArcs true es
+
+    edges-are : m ≡ length es
+    edges-are = ap (λ (y : Arranged). y .edges) (given .2)
+
+    valid : Valid true n es
+    valid = read-valid true most ids s rise ls lt es (given .1)
+
+    pub undirected-fits : m + m ≤ ls
+    undirected-fits = omega (arith, read-fits true most ids s rise ls lt es (given .1), edges-are)
+
+    pub undirected-fits-out : m + m ≤ lt
+    undirected-fits-out = omega (arith, read-fits-back true most ids s rise ls lt es (given .1), edges-are)
+
+    arcs-long : length (arcs true es) ≡ m + m
+    arcs-long = arc-count true es ∙ (let e = edges-are in omega arith)
+
+    parts-long : length (parts inward n) ≡ m + m
+    parts-long = start-length inward n (below-in true n es (valid-ends n es (valid .fine))) ∙ length-backward (arcs true es) ∙ arcs-long
+
+    edges-long : length (parts es n) ≤ m + m
+    edges-long = rw (parts-seconds es n (valid .pairs) (valid-ends n es (valid .fine)), length-seconds es) (let e = edges-are in omega arith)
+
+    out-offsets : offsets inward n ≡ offsets (arcs true es) n
+    out-offsets = column-ext (start inward) (start (arcs true es)) (suc n) (λ v l. ap length (both-parts es v n (valid .fine)))
+
+    pub undirected-lines : (i′ j′ : List ℕ) → i′ ≡ take (n + 1) o ++ drop (n + 1) i → j′ ≡ take (m + m) t ++ drop (m + m) j
+        → gives (filled (record { vertices = n; arcs = m + m }) o t i′ j′) ≡ said (filledBy n lo lt li ls) (arcsRead true most ids s lt ls)
+    undirected-lines i′ j′ ei ej =
+        let a : i ≡ pad li (offsets es n) = ap (λ (y : Arranged). y .offsets) (given .2) in
+        let b : j ≡ pad ls (parts es n) = ap (λ (y : Arranged). y .targets) (given .2) in
+        let c : o ≡ pad lo (offsets inward n) = ap (λ (y : Arranged). y .backOffsets) (given .2) in
+        let d : t ≡ pad lt (parts inward n) = ap (λ (y : Arranged). y .backTargets) (given .2) in
+        let ko = offsets-length inward n in
+        let ke = offsets-length es n in
+        let h₁ : i′ ≡ pad li (offsets inward n) =
+        ei ∙ ap₂ (λ (p q : List ℕ). take (n + 1) p ++ drop (n + 1) q) c a ∙ copy-pad (offsets inward n) (offsets es n) lo li (n + 1) (omega arith) (omega arith) in
+        let h₂ : j′ ≡ pad ls (parts inward n) =
+        ej ∙ ap₂ (λ (p q : List ℕ). take (m + m) p ++ drop (m + m) q) d b ∙ copy-pad (parts inward n) (parts es n) lt ls (m + m) parts-long edges-long in
+        let h₃ : o ≡ pad lo (offsets (arcs true es) n) = c ∙ ap (pad lo) out-offsets in
+        let h₄ : t ≡ pad lt (parts (arcs true es) n) = d ∙ ap (pad lt) (both-parts es n n (valid .fine)) in
+        rw (swapped, given .1) (ap gives (filled-of n (sym arcs-long) h₃ h₄ h₁ h₂))
+
+-- ---- by the mode
+module _ (both : Bool) (most : ℕ) (ids : List ℤ) (s : List ℕ) (t u : ℕ) (f : List Arc → Filled) (x : Said Filled) where
+  pub edges-both : both ≡ true → x ≡ said f (arcsRead true most ids s t u) → x ≡ said f (arcsRead both most ids s t u)
+  edges-both e h = rw e h
+
+  pub edges-one : both ≡ false → x ≡ said f (arcsRead false most ids s t u) → x ≡ said f (arcsRead both most ids s t u)
+  edges-one e h = rw e h

@@ -1,0 +1,213 @@
+-- Laws of a whole load: from the vertex file and the edge file to the five areas. Assumes nothing.
+use Prim.Native.Nat.{ℕ, zero, suc, _+_, _-_, _≤_, _<_}
+use mathlib.Core.Path.{_≡_, refl, sym, ap, ap₂, subst, _∙_}
+use mathlib.Core.Bool.{Bool, true, false, cond, _&&_}
+use mathlib.Core.List.{List, [], _∷_, _++_}
+use native.Mathlib.Omega.{arith}
+use native.Mathlib.Nat.{zero-add}
+use borrow.Author.Tests.{le-leb, lt-leb, lt-ltb, le-ltb, leb-true, ltb-true}
+use lib.ListN.{length, take, drop, replicate, length-replicate}
+use lib.Seq.{sets, length-sets, take-at, length-take-le}
+use lib.Dec.{eqb, leb, ltb}
+use lib.IntN.{ℤ, pos}
+use lib.Signed.{ltZ}
+use Rattle.basis.specs.Refusal.{Said, gives, refuses, plain, noRoom, unknownNumber, vertexFile}
+use Rattle.basis.specs.declared.refusal.Refusal.{Refusal}
+use Rattle.basis.specs.Area.{pad, padZ, padWith}
+use Rattle.basis.specs.Order.{aboveBy, risingZ}
+use Rattle.basis.proofs.Tests.{and-first, and-second, and-both, and-off, bool-cases, clash}
+use Rattle.text.specs.Line.{vertexLine}
+use Rattle.graph.specs.declared.Size.{Size}
+use Rattle.graph.specs.Arcs.{Arc, arcs, backward, parts, offsets}
+use Rattle.load.specs.declared.Limits.{Limits}
+use Rattle.load.specs.declared.Loaded.{Loaded}
+use Rattle.load.specs.declared.Loaded.the-variants as L
+use Rattle.load.specs.declared.lines.Listed.{Listed}
+use Rattle.load.specs.declared.lines.Listed.the-variants.{Lines, Refused}
+use Rattle.load.specs.Lines.{linesOf, Before, first, after, onward, said}
+use Rattle.load.specs.Files.{vertexTest, identifiers}
+use Rattle.load.specs.Load.{says, Lists, Room, roomOf, isUndirected, vertexRoom, withRoom, arcsRead, listsRead, loaded, Outcome, outcome, outcomeOf, loadCall}
+use Rattle.load.specs.Steps.{idsInto, idsLeft, Blank, Filled, filled, filledBy, filledLeft, outcomeBy, outcomeLeft, Zeros, Emptied}
+use Rattle.load.proofs.Values.{Passes, values-accepted}
+use Rattle.load.proofs.Arranges.{put-front, said-gives, said-refuses}
+
+-- ---- places for identifiers and offsets
+module _ (n ids oo io : ℕ) where
+  pub places-ids : ids < n → false ≡ vertexRoom ids oo io n
+  places-ids h = rw (lt-leb n ids h)
+
+  pub places-out : oo ≤ n → false ≡ vertexRoom ids oo io n
+  places-out h = rw (le-ltb n oo h) (sym (and-off (leb n ids) false refl))
+
+  pub places-in : io ≤ n → false ≡ vertexRoom ids oo io n
+  places-in h = rw (le-ltb n io h, and-off (ltb n oo) false refl) (sym (and-off (leb n ids) false refl))
+
+  pub places-all : n ≤ ids → n < oo → n < io → true ≡ vertexRoom ids oo io n
+  places-all h g k = rw (le-leb n ids h, lt-ltb n oo g, lt-ltb n io k)
+
+-- ---- identifiers that were accepted rise
+test-rises : (y z : ℤ) → vertexTest (after y) z ≡ 0 → ltZ y z ≡ true
+test-rises y z h = go (ltZ y z) refl h
+  where
+    go : (t : Bool) → ltZ y z ≡ t → _≡_ {A = ℕ} (cond t 0 4) 0 → ltZ y z ≡ true
+    go true q h = q
+    go false q h = absurd (let o : ⊥ = omega arith in o)
+
+above-after : (y : ℤ) (l : List ℤ) → Passes vertexTest (after y) l → aboveBy ltZ y l ≡ true
+above-after y [] p = refl
+above-after y (z ∷ l) p = and-both (test-rises y z (p .0)) (above-after z l (p .1))
+
+pub ids-rise : (l : List ℤ) → Passes vertexTest first l → risingZ l ≡ true
+ids-rise [] p = refl
+ids-rise (z ∷ l) p = above-after z l (p .1)
+
+-- ---- from the areas of the arcs to all five
+module _ (room : Room) (ids : List ℤ) (a : List ℤ) (h : a ≡ padZ (room .ids) ids) where
+  pub five-areas : (r : Loaded) (oo ot io is : List ℕ) (x : Said (List Arc))
+      → filledLeft r oo ot io is ≡ said (filledBy (length ids) (room .outOffsets) (room .outTargets) (room .inOffsets) (room .inSources)) x
+      → outcomeLeft r a oo ot io is ≡ said (outcomeBy room) (said (λ l. record { ids = ids; arcs = l }) x)
+  unfolding outcomeOf
+  five-areas (L.Refused o) oo ot io is (gives l) e = let z : _≡_ {A = ℕ} 0 1 = cc in absurd (let o : ⊥ = omega arith in o)
+  five-areas (L.Refused o) oo ot io is (refuses q) e = let p : o ≡ q = cc in ap refuses p
+  five-areas (L.Graph size) oo ot io is (refuses q) e = let z : _≡_ {A = ℕ} 0 1 = cc in absurd (let o : ⊥ = omega arith in o)
+  five-areas (L.Graph size) oo ot io is (gives l) e =
+      let f : filled size oo ot io is ≡ filledBy (length ids) (room .outOffsets) (room .outTargets) (room .inOffsets) (room .inSources) l = cc in
+      ap gives (outcome-of (ap gives (ap (λ (y : Filled). y .size) f)) h (ap (λ (y : Filled). y .outOffsets) f) (ap (λ (y : Filled). y .outTargets) f)
+      (ap (λ (y : Filled). y .inOffsets) f) (ap (λ (y : Filled). y .inSources) f))
+    where
+      outcome-of : {p q : Said Size} {i i′ : List ℤ} {a b c d a′ b′ c′ d′ : List ℕ} → p ≡ q → i ≡ i′ → a ≡ a′ → b ≡ b′ → c ≡ c′ → d ≡ d′
+          → outcome p i a b c d ≡ outcome q i′ a′ b′ c′ d′
+      outcome-of e f g h i j = cc
+
+-- ---- the filling of five areas of zeros
+module _ (limits : Limits) (mode : ℕ) (v e : List ℕ) (ids : List ℤ) (oo ot io is : List ℕ) where
+  abbrev room : Room
+  room = roomOf (length ids) (length oo) (length ot) (length io) (length is)
+
+  abbrev result : Said Outcome
+  result = said (outcomeBy room) (loaded limits mode room v e)
+
+  pub fill-mode : 1 < mode → (r : Refusal) → r ≡ plain unknownNumber → refuses r ≡ result
+  unfolding loaded
+  fill-mode h r q = rw (lt-leb mode 1 h, q)
+
+  module _ (zeros : Zeros ids oo ot io is) (h : mode ≤ 1) (x : Listed) (a : List ℤ) (told : idsLeft x a ≡ said (idsInto ids 0) (identifiers (limits .vertices) v)) where
+    pub fill-refused : (r : Refusal) → x ≡ Refused r → refuses r ≡ result
+    unfolding loaded listsRead
+    fill-refused r q =
+        rw (le-leb mode 1 h, said-refuses (idsInto ids 0) (identifiers (limits .vertices) v) r (ap (λ y. idsLeft y a) (sym q) ∙ told))
+
+    module _ (n : ℕ) (q : x ≡ Lines n) (la : ℕ) (kept : la ≡ length ids) (t : Bool) (et : t ≡ vertexRoom la (length oo) (length io) n) where
+      taken : (l : List ℤ) × (identifiers (limits .vertices) v ≡ gives l) × ((n, a) ≡ idsInto ids 0 l)
+      taken = said-gives (idsInto ids 0) (identifiers (limits .vertices) v) (n, a) (ap (λ y. idsLeft y a) (sym q) ∙ told)
+
+      abbrev list : List ℤ
+      list = taken .0
+
+      count : n ≡ length list
+      count = ap (λ (y : ℕ × List ℤ). y .0) (taken .2) ∙ zero-add (length list)
+
+      stored : a ≡ sets ids 0 list
+      stored = ap (λ (y : ℕ × List ℤ). y .1) (taken .2)
+
+      same-room : vertexRoom (length ids) (length oo) (length io) (length list) ≡ t
+      same-room = ap₂ (λ (k m : ℕ). vertexRoom k (length oo) (length io) m) (sym kept) (sym count) ∙ sym et
+
+      pub fill-short : t ≡ false → (r : Refusal) → r ≡ plain noRoom → refuses r ≡ result
+      unfolding loaded listsRead
+      fill-short f r o = rw (le-leb mode 1 h, taken .1, same-room ∙ f, o)
+
+      module _ (f : t ≡ true) where
+        fits : n ≤ length ids
+        fits = let l = leb-true n la (and-first (leb n la) (ltb n (length oo) && ltb n (length io)) (sym et ∙ f)) in omega arith
+
+        both-fit : (ltb n (length oo) && ltb n (length io)) ≡ true
+        both-fit = and-second (leb n la) (ltb n (length oo) && ltb n (length io)) (sym et ∙ f)
+
+        padded : a ≡ padZ (length ids) list
+        padded = stored ∙ put-front (pos 0) list ids (zeros .noIds) (let c = count in let g = fits in omega arith)
+
+        front : take n a ≡ list
+        front = ap (take n) padded ∙ take-at list (replicate (length ids - length list) (pos 0)) n (sym count)
+
+        pub fill-places : n ≤ la
+        fill-places = let g = fits in omega arith
+
+        -- the first n identifiers, lent on as b
+        module _ (b : List ℤ) (eb : b ≡ take n a) where
+          lent : b ≡ list
+          lent = eb ∙ front
+
+          lent-long : length b ≡ n
+          lent-long = ap length lent ∙ sym count
+
+          pub fill-blank : Blank b oo ot io is
+          fill-blank =
+              record {
+                rise = subst (λ (l : List ℤ). risingZ l ≡ true) (sym lent)
+                    (ids-rise list (values-accepted vertexFile (limits .vertices) vertexTest 0 first (linesOf vertexLine v) list (taken .1) (omega arith) .passes));
+                places = let l = ltb-true n (length oo) (and-first (ltb n (length oo)) (ltb n (length io)) both-fit) in omega (arith, lent-long);
+                backPlaces = let l = ltb-true n (length io) (and-second (ltb n (length oo)) (ltb n (length io)) both-fit) in omega (arith, lent-long);
+                clearOffsets = zeros .noOutOffsets;
+                clearTargets = zeros .noOutTargets;
+                clearBackOffsets = zeros .noInOffsets;
+                clearBackTargets = zeros .noInSources;
+              }
+
+          pub fill-end : (r : Loaded) (oo′ ot′ io′ is′ : List ℕ)
+              → filledLeft r oo′ ot′ io′ is′
+              ≡ said (filledBy (length b) (length oo) (length ot) (length io) (length is)) (arcsRead (eqb mode 0) (limits .edges) b e (length ot) (length is))
+              → outcomeLeft r a oo′ ot′ io′ is′ ≡ result
+          unfolding loaded listsRead
+          fill-end r oo′ ot′ io′ is′ g =
+              rw (le-leb mode 1 h, taken .1, same-room ∙ f)
+              (five-areas room list a padded r oo′ ot′ io′ is′ (arcsRead (eqb mode 0) (limits .edges) list e (length ot) (length is))
+              (g ∙ ap (λ (l : List ℤ). said (filledBy (length l) (length oo) (length ot) (length io) (length is)) (arcsRead (eqb mode 0) (limits .edges) l e (length ot) (length is))) lent))
+
+-- ---- the whole call: cleared, filled, and cleared again where it was refused
+emptied : {A : Type 0} (z : A) (a b : List A) → b ≡ replicate (length a) z → (length b ≡ length a) × (b ≡ replicate (length b) z)
+emptied z a b e =
+    let l : length b ≡ length a = ap length e ∙ length-replicate (length a) z in
+    (l, e ∙ ap (λ (k : ℕ). replicate k z) (sym l))
+
+module _ (ids : List ℤ) (oo ot io is : List ℕ) (ids₁ : List ℤ) (oo₁ ot₁ io₁ is₁ : List ℕ)
+    (em : Emptied ids oo ot io is ids₁ oo₁ ot₁ io₁ is₁) where
+  pub empty-zeros : Zeros ids₁ oo₁ ot₁ io₁ is₁
+  empty-zeros =
+      record {
+        noIds = emptied (pos 0) ids ids₁ (em .emptyIds) .1;
+        noOutOffsets = emptied 0 oo oo₁ (em .emptyOutOffsets) .1;
+        noOutTargets = emptied 0 ot ot₁ (em .emptyOutTargets) .1;
+        noInOffsets = emptied 0 io io₁ (em .emptyInOffsets) .1;
+        noInSources = emptied 0 is is₁ (em .emptyInSources) .1;
+      }
+
+  abbrev wide : Room
+  wide = roomOf (length ids) (length oo) (length ot) (length io) (length is)
+
+  abbrev filledRoom : Room
+  filledRoom = roomOf (length ids₁) (length oo₁) (length ot₁) (length io₁) (length is₁)
+
+  rooms-agree : filledRoom ≡ wide
+  rooms-agree =
+      rooms (emptied (pos 0) ids ids₁ (em .emptyIds) .0) (emptied 0 oo oo₁ (em .emptyOutOffsets) .0) (emptied 0 ot ot₁ (em .emptyOutTargets) .0)
+      (emptied 0 io io₁ (em .emptyInOffsets) .0) (emptied 0 is is₁ (em .emptyInSources) .0)
+    where
+      rooms : {a b c d e a′ b′ c′ d′ e′ : ℕ} → a ≡ a′ → b ≡ b′ → c ≡ c′ → d ≡ d′ → e ≡ e′ → roomOf a b c d e ≡ roomOf a′ b′ c′ d′ e′
+      rooms p q r s t = cc
+
+  module _ (limits : Limits) (mode : ℕ) (v e : List ℕ) (x : Loaded) (ids₂ : List ℤ) (oo₂ ot₂ io₂ is₂ : List ℕ)
+      (told : outcomeLeft x ids₂ oo₂ ot₂ io₂ is₂ ≡ said (outcomeBy filledRoom) (loaded limits mode filledRoom v e)) where
+    pub load-graph : (size : Size) → x ≡ L.Graph size → outcome (gives size) ids₂ oo₂ ot₂ io₂ is₂ ≡ loadCall limits mode wide v e
+    unfolding loadCall
+    load-graph size q =
+        let g = said-gives (outcomeBy filledRoom) (loaded limits mode filledRoom v e) (outcome (gives size) ids₂ oo₂ ot₂ io₂ is₂) (ap (λ y. outcomeLeft y ids₂ oo₂ ot₂ io₂ is₂) (sym q) ∙ told) in
+        g .2 ∙ ap (outcomeOf filledRoom) (sym (g .1)) ∙ ap (λ (r : Room). outcomeOf r (loaded limits mode r v e)) rooms-agree
+
+    pub load-refused : (r : Refusal) → x ≡ L.Refused r → length ids₂ ≡ length ids₁ → length oo₂ ≡ length oo₁ → length ot₂ ≡ length ot₁ → length io₂ ≡ length io₁ → length is₂ ≡ length is₁
+        → (ids₃ : List ℤ) (oo₃ ot₃ io₃ is₃ : List ℕ) → Emptied ids₂ oo₂ ot₂ io₂ is₂ ids₃ oo₃ ot₃ io₃ is₃ → outcome (refuses r) ids₃ oo₃ ot₃ io₃ is₃ ≡ loadCall limits mode wide v e
+    unfolding loadCall outcomeOf
+    load-refused r q li loo lot lio lis ids₃ oo₃ ot₃ io₃ is₃ f =
+        let g = said-refuses (outcomeBy filledRoom) (loaded limits mode filledRoom v e) r (ap (λ y. outcomeLeft y ids₂ oo₂ ot₂ io₂ is₂) (sym q) ∙ told) in
+        rw (f .emptyIds, f .emptyOutOffsets, f .emptyOutTargets, f .emptyInOffsets, f .emptyInSources, li, loo, lot, lio, lis)
+        (ap (outcomeOf filledRoom) (sym g) ∙ ap (λ (r : Room). outcomeOf r (loaded limits mode r v e)) rooms-agree)

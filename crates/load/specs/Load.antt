@@ -1,0 +1,107 @@
+-- 01 "Lists", "The loaded graph": what a load answers, and what stands in the five areas then.
+use Prim.Native.Nat.{ℕ, _+_}
+use mathlib.Core.Bool.{Bool, true, false, cond, _&&_}
+use mathlib.Core.List.{List, []}
+use lib.IntN.{ℤ, pos}
+use lib.ListN.{length, replicate}
+use lib.Dec.{eqb, leb, ltb}
+use Rattle.basis.specs.Refusal.{Said, gives, refuses, plain, noRoom, unknownNumber}
+use Rattle.basis.specs.Area.{padWith}
+use Rattle.graph.specs.declared.Size.{Size}
+use Rattle.graph.specs.Arcs.{Arc, arcs, backward, parts, offsets}
+use Rattle.load.specs.declared.Limits.{Limits}
+use Rattle.load.specs.declared.Loaded.{Loaded}
+use Rattle.load.specs.declared.Loaded.the-variants as L
+use Rattle.load.specs.Lines.{onward, said}
+use Rattle.load.specs.Files.{identifiers, edgesOf, allNumbered}
+
+-- "a definition that gives this paper's number and values for each of its cases"
+abbrev pub says : Loaded → Said Size
+says (L.Graph size) = gives size
+says (L.Refused r) = refuses r
+
+-- what two files say: the identifiers, and the arcs between vertex numbers
+pub record Lists : Type 0 where
+  pub ids : List ℤ
+  pub arcs : List Arc
+
+-- how many places the lent areas have
+pub record Room : Type 0 where
+  pub ids : ℕ
+  pub outOffsets : ℕ
+  pub outTargets : ℕ
+  pub inOffsets : ℕ
+  pub inSources : ℕ
+
+-- "mode (0 undirected, 1 directed)"
+abbrev pub isUndirected : ℕ → Bool
+isUndirected mode = eqb mode 0
+
+-- "room for identifiers (n places) and offsets (n+1 places each way)"
+abbrev pub vertexRoom : ℕ → ℕ → ℕ → ℕ → Bool
+vertexRoom ids oo io n = leb n ids && (ltb n oo && ltb n io)
+
+-- "room for the arcs each way", in areas of two lengths
+abbrev pub arcRoom : ℕ → ℕ → ℕ → Bool
+arcRoom t t′ m = leb m t && leb m t′
+
+abbrev pub withRoom : {A : Type 0} → Bool → A → Said A
+withRoom enough x = cond enough (gives x) (refuses (plain noRoom))
+
+-- the arcs of an edge file over the given identifiers, if there is room for them
+unfoldable pub arcsRead : Bool → ℕ → List ℤ → List ℕ → ℕ → ℕ → Said (List Arc)
+arcsRead both most ids s t t′ =
+    onward (edgesOf both most ids s) (λ es. withRoom (arcRoom t t′ (length (arcs both (allNumbered ids es)))) (arcs both (allNumbered ids es)))
+
+-- "the vertex file line by line; room for identifiers and offsets; the edge file line by line; room for the arcs each way"
+unfoldable pub listsRead : Limits → Bool → Room → List ℕ → List ℕ → Said Lists
+listsRead limits both room vertices edges =
+    onward (identifiers (limits .vertices) vertices)
+    (λ ids. onward (withRoom (vertexRoom (room .ids) (room .outOffsets) (room .inOffsets) (length ids)) ids)
+    (λ ids. said (λ l. record { ids = ids; arcs = l }) (arcsRead both (limits .edges) ids edges (room .outTargets) (room .inSources))))
+
+-- "the mode (12)" before all
+unfoldable pub loaded : Limits → ℕ → Room → List ℕ → List ℕ → Said Lists
+loaded limits mode room vertices edges =
+    cond (leb mode 1) (listsRead limits (isUndirected mode) room vertices edges) (refuses (plain unknownNumber))
+
+-- a load's outcome: its answer, and the content of each area
+pub record Outcome : Type 0 where
+  pub answer : Said Size
+  pub ids : List ℤ
+  pub outOffsets : List ℕ
+  pub outTargets : List ℕ
+  pub inOffsets : List ℕ
+  pub inSources : List ℕ
+
+abbrev pub outcome : Said Size → List ℤ → List ℕ → List ℕ → List ℕ → List ℕ → Outcome
+outcome answer ids oo ot io is = record { answer = answer; ids = ids; outOffsets = oo; outTargets = ot; inOffsets = io; inSources = is }
+
+abbrev pub roomOf : ℕ → ℕ → ℕ → ℕ → ℕ → Room
+roomOf ids oo ot io is = record { ids = ids; outOffsets = oo; outTargets = ot; inOffsets = io; inSources = is }
+
+-- how large the graph is
+abbrev pub sizeOf : Lists → Size
+sizeOf g = record { vertices = length (g .ids); arcs = length (g .arcs) }
+
+-- "A refusal fills every area lent for writing with zero", and after success "places beyond the ones used are zero"
+abbrev pub area : {A : Type 0} → A → ℕ → (Lists → List A) → Said Lists → List A
+area z size list (gives g) = padWith z size (list g)
+area z size list (refuses r) = replicate size z
+
+-- the outcome of what two files say
+unfoldable pub outcomeOf : Room → Said Lists → Outcome
+outcomeOf room g =
+    outcome (said sizeOf g) (area (pos 0) (room .ids) (λ g. g .ids) g)
+    (area 0 (room .outOffsets) (λ g. offsets (g .arcs) (length (g .ids))) g)
+    (area 0 (room .outTargets) (λ g. parts (g .arcs) (length (g .ids))) g)
+    (area 0 (room .inOffsets) (λ g. offsets (backward (g .arcs)) (length (g .ids))) g)
+    (area 0 (room .inSources) (λ g. parts (backward (g .arcs)) (length (g .ids))) g)
+
+-- the whole call
+unfoldable pub loadCall : Limits → ℕ → Room → List ℕ → List ℕ → Outcome
+loadCall limits mode room vertices edges = outcomeOf room (loaded limits mode room vertices edges)
+
+-- "Library limits: 65,536 vertices, 1,048,576 edges"
+abbrev pub library : Limits
+library = record { vertices = 65536; edges = 1048576 }

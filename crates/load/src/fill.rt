@@ -1,0 +1,186 @@
+// The edges of a file in the four areas of a graph, outward and inward.
+use basis::Refusal;
+use basis::refusal::{NO_ROOM, UNKNOWN_NUMBER};
+use crate::{Limits, Loaded};
+use crate::lines::{Listed, read_edges, read_vertices};
+use crate::spread::{spread, sum_up};
+use graph::Size;
+ghost use mathlib.Core.Path.{_≡_};
+ghost use mathlib.Core.Bool.{Bool, true, false, not};
+ghost use mathlib.Core.List.{_++_};
+ghost use Prim.Native.Nat.{ℕ, _+_, _≤_};
+ghost use lib.ListN.{length, take, drop};
+ghost use lib.Dec.{ltb};
+ghost use Rattle.load.specs.Lines.{said};
+ghost use Rattle.load.specs.Load.{vertexRoom, roomOf, arcsRead, loaded};
+ghost use Rattle.load.specs.Steps.{arcCount, edgesRead, arrangedBy, arrangedLeft, Blank, filledBy, filledLeft, outcomeBy, outcomeLeft, Zeros};
+
+// Whether so many places are too few for the arcs of so many edges.
+fn lacks(places: usize, edges: usize, both: bool) -> bool
+    ensures { λ r. ⌜ r ≡ ltb places (arcCount both edges) ⌝ }
+{
+    if places < edges {
+        return true;
+    }
+    if both {
+        return places - edges < edges;
+    }
+    false
+}
+
+// The first n numbers of one area, copied to another.
+fn copy(to: &mut [usize], from: &[usize], n: usize)
+    requires { ⌜ (n ≤ length (now to)) × (n ≤ length (now from)) ⌝ }
+    ensures { λ _. ⌜ now (to .exit) ≡ take n (now (from .entry)) ++ drop n (now (to .entry)) ⌝ }
+{
+    let mut i = 0;
+    while i < n {
+        to[i] = from[i];
+        i += 1;
+    }
+}
+
+// The edges of a file: stored by their first ends in one pair of areas as they are read, and their arcs the other way in the other pair.
+fn arrange(
+    s: &[u8],
+    most: usize,
+    both: bool,
+    ids: &[i64],
+    offsets: &mut [usize],
+    targets: &mut [usize],
+    back: &mut [usize],
+    sources: &mut [usize],
+) -> Listed
+    requires { ⌜ Blank (now ids) (now offsets) (now targets) (now back) (now sources) ⌝ }
+    ensures { λ r. ⌜ arrangedLeft r (now (offsets .exit)) (now (targets .exit)) (now (back .exit)) (now (sources .exit)) ≡ said (arrangedBy both (length (now (ids .entry))) (length (now (offsets .entry))) (length (now (targets .entry))) (length (now (back .entry))) (length (now (sources .entry)))) (edgesRead both most (now (ids .entry)) (now (s .entry)) (length (now (targets .entry))) (length (now (sources .entry)))) ⌝ }
+{
+    let n = ids.len();
+    let listed = read_edges(s, most, both, ids, offsets, targets);
+    match listed {
+        Listed::Refused(r) => Listed::Refused(r),
+        Listed::Lines(m) => {
+            if lacks(targets.len(), m, both) {
+                return Listed::Refused(Refusal::plain(NO_ROOM));
+            }
+            if lacks(sources.len(), m, both) {
+                return Listed::Refused(Refusal::plain(NO_ROOM));
+            }
+            sum_up(offsets, n + 1);
+            spread(back, sources, offsets, targets, both, n);
+            Listed::Lines(m)
+        }
+    }
+}
+
+// The arcs of a directed edge file: outward as they are read, inward the other way round.
+fn directed(
+    s: &[u8],
+    most: usize,
+    ids: &[i64],
+    oo: &mut [usize],
+    ot: &mut [usize],
+    io: &mut [usize],
+    is: &mut [usize],
+) -> Loaded
+    requires { ⌜ Blank (now ids) (now oo) (now ot) (now io) (now is) ⌝ }
+    ensures { λ r. ⌜ filledLeft r (now (oo .exit)) (now (ot .exit)) (now (io .exit)) (now (is .exit)) ≡ said (filledBy (length (now (ids .entry))) (length (now (oo .entry))) (length (now (ot .entry))) (length (now (io .entry))) (length (now (is .entry)))) (arcsRead false most (now (ids .entry)) (now (s .entry)) (length (now (ot .entry))) (length (now (is .entry)))) ⌝ }
+{
+    let n = ids.len();
+    let listed = arrange(s, most, false, ids, oo, ot, io, is);
+    match listed {
+        Listed::Refused(r) => Loaded::Refused(r),
+        Listed::Lines(m) => Loaded::Graph(Size { vertices: n, arcs: m }),
+    }
+}
+
+// The arcs of an undirected edge file: read into the inward areas, both arcs of every edge stored outward, and the same inward.
+fn undirected(
+    s: &[u8],
+    most: usize,
+    ids: &[i64],
+    oo: &mut [usize],
+    ot: &mut [usize],
+    io: &mut [usize],
+    is: &mut [usize],
+) -> Loaded
+    requires { ⌜ Blank (now ids) (now oo) (now ot) (now io) (now is) ⌝ }
+    ensures { λ r. ⌜ filledLeft r (now (oo .exit)) (now (ot .exit)) (now (io .exit)) (now (is .exit)) ≡ said (filledBy (length (now (ids .entry))) (length (now (oo .entry))) (length (now (ot .entry))) (length (now (io .entry))) (length (now (is .entry)))) (arcsRead true most (now (ids .entry)) (now (s .entry)) (length (now (ot .entry))) (length (now (is .entry)))) ⌝ }
+{
+    let n = ids.len();
+    let listed = arrange(s, most, true, ids, io, is, oo, ot);
+    match listed {
+        Listed::Refused(r) => Loaded::Refused(r),
+        Listed::Lines(m) => {
+            let arcs = m + m;
+            copy(io, oo, n + 1);
+            copy(is, ot, arcs);
+            Loaded::Graph(Size { vertices: n, arcs })
+        }
+    }
+}
+
+// The arcs of an edge file.
+fn store_edges(
+    s: &[u8],
+    most: usize,
+    both: bool,
+    ids: &[i64],
+    oo: &mut [usize],
+    ot: &mut [usize],
+    io: &mut [usize],
+    is: &mut [usize],
+) -> Loaded
+    requires { ⌜ Blank (now ids) (now oo) (now ot) (now io) (now is) ⌝ }
+    ensures { λ r. ⌜ filledLeft r (now (oo .exit)) (now (ot .exit)) (now (io .exit)) (now (is .exit)) ≡ said (filledBy (length (now (ids .entry))) (length (now (oo .entry))) (length (now (ot .entry))) (length (now (io .entry))) (length (now (is .entry)))) (arcsRead both most (now (ids .entry)) (now (s .entry)) (length (now (ot .entry))) (length (now (is .entry)))) ⌝ }
+{
+    if both {
+        return undirected(s, most, ids, oo, ot, io, is);
+    }
+    directed(s, most, ids, oo, ot, io, is)
+}
+
+// Whether areas of these lengths have places for n identifiers and their offsets.
+fn has_places(n: usize, ids: usize, oo: usize, io: usize) -> bool
+    ensures { λ r. ⌜ r ≡ vertexRoom ids oo io n ⌝ }
+{
+    if ids < n {
+        return false;
+    }
+    if oo <= n {
+        return false;
+    }
+    if io <= n {
+        return false;
+    }
+    true
+}
+
+// The graph of two files in five areas of zeros; where it is refused, what stands in them is of no use.
+pub(crate) fn fill(
+    limits: Limits,
+    mode: usize,
+    vertices: &[u8],
+    edges: &[u8],
+    ids: &mut [i64],
+    oo: &mut [usize],
+    ot: &mut [usize],
+    io: &mut [usize],
+    is: &mut [usize],
+) -> Loaded
+    requires { ⌜ Zeros (now ids) (now oo) (now ot) (now io) (now is) ⌝ }
+    ensures { λ r. ⌜ outcomeLeft r (now (ids .exit)) (now (oo .exit)) (now (ot .exit)) (now (io .exit)) (now (is .exit)) ≡ said (outcomeBy (roomOf (length (now (ids .entry))) (length (now (oo .entry))) (length (now (ot .entry))) (length (now (io .entry))) (length (now (is .entry))))) (loaded limits mode (roomOf (length (now (ids .entry))) (length (now (oo .entry))) (length (now (ot .entry))) (length (now (io .entry))) (length (now (is .entry)))) (now (vertices .entry)) (now (edges .entry))) ⌝ }
+{
+    if 1 < mode {
+        return Loaded::Refused(Refusal::plain(UNKNOWN_NUMBER));
+    }
+    let listed = read_vertices(vertices, limits.vertices, ids);
+    match listed {
+        Listed::Refused(r) => Loaded::Refused(r),
+        Listed::Lines(n) => {
+            if has_places(n, ids.len(), oo.len(), io.len()) {
+                return store_edges(edges, limits.edges, mode == 0, &ids[..n], oo, ot, io, is);
+            }
+            Loaded::Refused(Refusal::plain(NO_ROOM))
+        }
+    }
+}

@@ -1,0 +1,82 @@
+// A graph from the bytes of its vertex file and its edge file, in five lent areas: identifiers, outward offsets and targets, inward
+// offsets and sources.
+mod fill;
+mod lines;
+mod spread;
+
+use basis::Refusal;
+use basis::area::{clear, clear_signed};
+use graph::Size;
+use crate::fill::fill;
+ghost use mathlib.Core.Path.{_≡_};
+ghost use Prim.Native.Nat.{ℕ};
+ghost use lib.ListN.{length};
+ghost use Rattle.load.specs.Load.{says, roomOf, outcome, loadCall, library};
+ghost use Rattle.load.specs.Steps.{Emptied};
+
+pub const MOST_VERTICES: usize = 65536;
+
+pub const MOST_EDGES: usize = 1048576;
+
+// How many lines a vertex file and an edge file may have.
+pub struct Limits {
+    pub vertices: usize,
+    pub edges: usize,
+}
+
+// A load answers how large the graph is that stands in the areas, or why it was refused.
+pub enum Loaded {
+    Graph(Size),
+    Refused(Refusal),
+}
+
+fn clear_all(ids: &mut [i64], oo: &mut [usize], ot: &mut [usize], io: &mut [usize], is: &mut [usize])
+    ensures { λ _. ⌜ Emptied (now (ids .entry)) (now (oo .entry)) (now (ot .entry)) (now (io .entry)) (now (is .entry)) (now (ids .exit)) (now (oo .exit)) (now (ot .exit)) (now (io .exit)) (now (is .exit)) ⌝ }
+{
+    clear_signed(ids);
+    clear(oo);
+    clear(ot);
+    clear(io);
+    clear(is);
+}
+
+// The graph of two files whose lines are at most so many: `mode` is 0 for undirected, 1 for directed.
+pub fn load_within(
+    limits: Limits,
+    mode: usize,
+    vertices: &[u8],
+    edges: &[u8],
+    ids: &mut [i64],
+    oo: &mut [usize],
+    ot: &mut [usize],
+    io: &mut [usize],
+    is: &mut [usize],
+) -> Loaded
+    ensures { λ r. ⌜ outcome (says r) (now (ids .exit)) (now (oo .exit)) (now (ot .exit)) (now (io .exit)) (now (is .exit)) ≡ loadCall limits mode (roomOf (length (now (ids .entry))) (length (now (oo .entry))) (length (now (ot .entry))) (length (now (io .entry))) (length (now (is .entry)))) (now (vertices .entry)) (now (edges .entry)) ⌝ }
+{
+    clear_all(ids, oo, ot, io, is);
+    let filled = fill(limits, mode, vertices, edges, ids, oo, ot, io, is);
+    match filled {
+        Loaded::Graph(size) => Loaded::Graph(size),
+        Loaded::Refused(r) => {
+            clear_all(ids, oo, ot, io, is);
+            Loaded::Refused(r)
+        }
+    }
+}
+
+// The same with the library's limits.
+pub fn load(
+    mode: usize,
+    vertices: &[u8],
+    edges: &[u8],
+    ids: &mut [i64],
+    oo: &mut [usize],
+    ot: &mut [usize],
+    io: &mut [usize],
+    is: &mut [usize],
+) -> Loaded
+    ensures { λ r. ⌜ outcome (says r) (now (ids .exit)) (now (oo .exit)) (now (ot .exit)) (now (io .exit)) (now (is .exit)) ≡ loadCall library mode (roomOf (length (now (ids .entry))) (length (now (oo .entry))) (length (now (ot .entry))) (length (now (io .entry))) (length (now (is .entry)))) (now (vertices .entry)) (now (edges .entry)) ⌝ }
+{
+    load_within(Limits { vertices: MOST_VERTICES, edges: MOST_EDGES }, mode, vertices, edges, ids, oo, ot, io, is)
+}

@@ -1,0 +1,9 @@
+-- Laws of stored arcs.
+pub mod Columns
+pub mod Arcs
+pub mod Passes
+pub mod Edges
+pub mod Sums
+pub mod Order
+pub mod Built
+pub mod Meaning
