@@ -5,12 +5,13 @@ use Prim.Native.Nat.{ℕ, _≤_, _<_}
 use native.Mathlib.Omega.{arith}
 use Rattle.basis.specs.declared.refusal.Refusal.{Refusal}
 use Rattle.basis.specs.Refusal.{Said, gives, refuses, at, plain}
-use Rattle.trace.specs.Code.{placed, coded, numberIn, fileIn, lineIn, Small, Readable}
+use Rattle.book.specs.Rules.{onward}
+use Rattle.trace.specs.Code.{placed, coded, numberIn, fileIn, lineIn, wide, Small, Readable}
 
 -- ---- reading back
 
 -- the three numbers of a refusal stand in its code
-module _ (r : Refusal) (s : Small r) where
+module _ (r : Refusal) (s : Small wide r) where
   pub number-back : numberIn (placed r) ≡ r .number
   number-back = omega arith
 
@@ -21,7 +22,7 @@ module _ (r : Refusal) (s : Small r) where
   line-back = omega arith
 
 -- so no two refusals have one code
-pub placed-one : (r s : Refusal) → Small r → Small s → placed r ≡ placed s → r ≡ s
+pub placed-one : (r s : Refusal) → Small wide r → Small wide s → placed r ≡ placed s → r ≡ s
 placed-one r s p q e =
     let n : r .number ≡ s .number = sym (number-back r p) ∙ ap numberIn e ∙ number-back s q in
     let f : r .file ≡ s .file = sym (file-back r p) ∙ ap fileIn e ∙ file-back s q in
@@ -29,7 +30,7 @@ placed-one r s p q e =
     let one : at (r .number) (r .file) (r .line) ≡ at (s .number) (s .file) (s .line) = cc in one
 
 -- values stand in a code with number 0 and file 0, which no refusal has
-module _ {A : Type 0} (value : A → ℕ) (x : A) (h : value x < 100000000000000) where
+module _ {A : Type 0} (value : A → ℕ) (x : A) (h : value x < wide) where
   pub values-number : numberIn (coded (gives x) value) ≡ 0
   values-number = omega arith
 
@@ -41,54 +42,54 @@ module _ {A : Type 0} (value : A → ℕ) (x : A) (h : value x < 100000000000000
 
 -- ---- which answers have a code
 
+given-refused {ℓ} : {X : Type ℓ} {A : Type 0} {x : A} {r : Refusal} → gives x ≡ refuses r → X
+given-refused e = let z : _≡_ {A = ℕ} 0 1 = cc in absurd (let o : ⊥ = omega arith in o)
+
+pub readable-given : {A : Type 0} {room : ℕ} {value : A → ℕ} (x : A) → value x < room → Readable room (gives x) value
+readable-given {room = room} {value = value} x h =
+    record { values = λ y e. let q : x ≡ y = cc in rw q at h; refusals = λ r e. given-refused e }
+
+pub readable-refused : {A : Type 0} {room : ℕ} {value : A → ℕ} (r : Refusal) → 0 < r .number → Small room r → Readable room (refuses r) value
+readable-refused {room = room} r p h =
+    let both : (0 < r .number) × Small room r = (p, h) in
+    record { values = λ y e. given-refused (sym e); refusals = λ t e. let q : r ≡ t = cc in rw q at both }
+
+pub readable-by : {A : Type 0} {room : ℕ} {value : A → ℕ} {s t : Said A} → s ≡ t → Readable room t value → Readable room s value
+readable-by e h = rw e h
+
 -- a refusal that meets no line
-pub plain-small : (number : ℕ) → number ≤ 21 → Small (plain number)
-plain-small number h = record { number = h; file = omega arith; line = omega arith }
+pub readable-plain : {A : Type 0} {room : ℕ} {value : A → ℕ} (number : ℕ) → 0 < room → 0 < number → number ≤ 21 → Readable room (refuses (plain number)) value
+readable-plain number k p q = readable-refused (plain number) p (record { number = q; file = omega arith; line = k })
 
-module _ {A : Type 0} (value : A → ℕ) where
-  pub readable-by : (s t : Said A) → s ≡ t → Readable t value → Readable s value
-  readable-by s t e h = rw e h
-
-  pub readable-given : (x : A) → value x < 100000000000000 → Readable (gives x) value
-  unfolding Readable
-  readable-given x h = h
-
-  pub readable-plain : (number : ℕ) → 0 < number → number ≤ 21 → Readable (refuses (plain number)) value
-  unfolding Readable
-  readable-plain number p q = (p, plain-small number q)
-
-  -- after a check: the refusal, or what is said where the test holds
-  pub readable-check : (t : Bool) (number : ℕ) (s : Said A) → 0 < number → number ≤ 21 → (t ≡ true → Readable s value)
-      → Readable (cond t s (refuses (plain number))) value
-  readable-check true number s p q h = h refl
-  readable-check false number s p q h = readable-plain number p q
-
-  -- what is refused does not hang on the values
-  pub readable-values : (other : A → ℕ) (s : Said A) → Readable s other → ((x : A) → s ≡ gives x → value x < 100000000000000) → Readable s value
-  unfolding Readable
-  readable-values other (gives x) h k = k x refl
-  readable-values other (refuses r) h k = h
+-- after a check: the refusal, or what is said where the test holds
+pub readable-check : {A : Type 0} {room : ℕ} {value : A → ℕ} (t : Bool) (number : ℕ) {s : Said A} → 0 < room → 0 < number → number ≤ 21 → (t ≡ true → Readable room s value)
+    → Readable room (cond t s (refuses (plain number))) value
+readable-check true number k p q h = h refl
+readable-check false number k p q h = readable-plain number k p q
 
 -- values that are not told
 abbrev pub untold : {A : Type 0} → A → ℕ
 untold x = 0
 
-pub readable-silent : {A : Type 0} (x : A) → Readable (gives x) untold
-readable-silent x = readable-given untold x (omega arith)
+pub readable-silent : {A : Type 0} {room : ℕ} (x : A) → 0 < room → Readable room (gives x) untold
+readable-silent x k = readable-given x k
 
-pub readable-untold : {A : Type 0} (value : A → ℕ) (s : Said A) → Readable s value → Readable s untold
-readable-untold value s h = readable-values untold value s h (λ x e. omega arith)
+-- what is refused does not hang on the values
+module _ {A : Type 0} {room : ℕ} {value : A → ℕ} {s : Said A} (h : Readable room s value) where
+  pub readable-untold : 0 < room → Readable room s untold
+  readable-untold k = record { values = λ x e. k; refusals = λ r e. h .refusals r e }
+
+  pub readable-values : (other : A → ℕ) → ((x : A) → s ≡ gives x → other x < room) → Readable room s other
+  readable-values other k = record { values = k; refusals = λ r e. h .refusals r e }
+
+-- what follows is refused where the first is
+pub onward-readable : {A B : Type 0} {room : ℕ} {value : B → ℕ} (s : Said A) {f : A → Said B} → Readable room s untold → ((x : A) → s ≡ gives x → Readable room (f x) value)
+    → Readable room (onward s f) value
+onward-readable (gives x) h k = k x refl
+onward-readable (refuses r) h k = let t = h .refusals r refl in readable-refused r (t .0) (t .1)
 
 -- ---- an answer by its cases
 module _ {A : Type 0} (value : A → ℕ) (s : Said A) where
-  pub small-of : (r : Refusal) → s ≡ refuses r → Readable s value → Small r
-  unfolding Readable
-  small-of r e h = (rw e at h) .1
-
-  pub value-of : (x : A) → s ≡ gives x → Readable s value → value x < 100000000000000
-  unfolding Readable
-  value-of x e h = rw e at h
-
   pub coded-refused : (r : Refusal) (k : ℕ) → s ≡ refuses r → k ≡ placed r → k ≡ coded s value
   coded-refused r k e f = f ∙ sym (ap (λ t. coded t value) e)
 

@@ -13,22 +13,22 @@ use Rattle.bfs.specs.Call as Bfs
 use Rattle.wcc.specs.Promise as Wcc
 use Rattle.cdlp.specs.Promise as Cdlp
 use Rattle.lcc.specs.Promise as Lcc
-use Rattle.trace.specs.Code.{coded, Readable, nothing}
+use Rattle.trace.specs.Code.{coded, wide, Readable, nothing}
 use Rattle.trace.specs.Kernels.{bfsTold, bfsTells, wccTold, wccTells, cdlpTold, cdlpTells, lccTold, lccTells}
 use Rattle.trace.proofs.Codes.{readable-given, readable-plain, readable-check}
 
 -- "Kernels check 9, then 10 or 11, then 8"
-pub kernel-readable : (sound given : Bool) (number : ℕ) (room : Bool) → (given ≡ false → 0 < number) → number ≤ 21 → Readable (kernelSays sound given number room) nothing
+pub kernel-readable : (sound given : Bool) (number : ℕ) (room : Bool) → (given ≡ false → 0 < number) → number ≤ 21 → Readable wide (kernelSays sound given number room) nothing
 unfolding kernelSays
-kernel-readable sound given number room p q = readable-check nothing sound unsound _ (omega arith) (omega arith) (λ s. go given p)
+kernel-readable sound given number room p q = readable-check sound unsound (omega arith) (omega arith) (omega arith) (λ s. go given p)
   where
-    go : (t : Bool) → (t ≡ false → 0 < number) → Readable (cond t (cond room (gives tt) (refuses (plain noRoom))) (refuses (plain number))) nothing
-    go true h = readable-check nothing room noRoom _ (omega arith) (omega arith) (λ e. readable-given nothing tt (omega arith))
-    go false h = readable-plain nothing number (h refl) q
+    go : (t : Bool) → (t ≡ false → 0 < number) → Readable wide (cond t (cond room (gives tt) (refuses (plain noRoom))) (refuses (plain number))) nothing
+    go true h = readable-check room noRoom (omega arith) (omega arith) (omega arith) (λ e. readable-given tt (omega arith))
+    go false h = readable-plain number (omega arith) (h refl) q
 
 module _ (g : Graph) (root : ℤ) (depth₀ : List ℤ) (queue₀ : List ℕ) (s : Said (Unit {0})) (depth : List ℤ) (queue : List ℕ)
     (e : Bfs.outcome s depth queue ≡ Bfs.bfsCall g root depth₀ queue₀) where
-  pub bfs-readable : Readable s nothing
+  pub bfs-readable : Readable wide s nothing
   unfolding Bfs.bfsCall Bfs.bfsSays
   bfs-readable = rw (ap (λ o. o .said) e) (kernel-readable _ _ notThere _ (λ f. omega arith) (omega arith))
 
@@ -38,7 +38,7 @@ module _ (g : Graph) (root : ℤ) (depth₀ : List ℤ) (queue₀ : List ℕ) (s
 
 module _ (g : Graph) (result₀ : List ℤ) (parents₀ sizes₀ : List ℕ) (s : Said (Unit {0})) (result : List ℤ) (parents sizes : List ℕ)
     (e : Wcc.outcome s result parents sizes ≡ Wcc.wccCall g result₀ parents₀ sizes₀) where
-  pub wcc-readable : Readable s nothing
+  pub wcc-readable : Readable wide s nothing
   unfolding Wcc.wccCall Wcc.leftBy
   wcc-readable = rw (ap (λ o. o .said) e) (kernel-readable _ true 0 _ (λ f. clash refl f) (omega arith))
 
@@ -48,7 +48,7 @@ module _ (g : Graph) (result₀ : List ℤ) (parents₀ sizes₀ : List ℕ) (s 
 
 module _ (g : Graph) (rounds : ℤ) (result₀ : List ℤ) (labels₀ next₀ counts₀ : List ℕ) (s : Said (Unit {0})) (result : List ℤ) (labels next counts : List ℕ)
     (e : Cdlp.outcome s result labels next counts ≡ Cdlp.cdlpCall g rounds result₀ labels₀ next₀ counts₀) where
-  pub cdlp-readable : Readable s nothing
+  pub cdlp-readable : Readable wide s nothing
   unfolding Cdlp.cdlpCall Cdlp.leftBy
   cdlp-readable = rw (ap (λ o. o .said) e) (kernel-readable _ _ badRounds _ (λ f. omega arith) (omega arith))
 
@@ -59,7 +59,7 @@ module _ (g : Graph) (rounds : ℤ) (result₀ : List ℤ) (labels₀ next₀ co
 
 module _ (g : Graph) (numerators₀ denominators₀ work₀ : List ℕ) (s : Said (Unit {0})) (numerators denominators work : List ℕ)
     (e : Lcc.outcome s numerators denominators work ≡ Lcc.lccCall g numerators₀ denominators₀ work₀) where
-  pub lcc-readable : Readable s nothing
+  pub lcc-readable : Readable wide s nothing
   unfolding Lcc.lccCall Lcc.lccSays
   lcc-readable = rw (ap (λ o. o .said) e) (kernel-readable _ true 0 _ (λ f. clash refl f) (omega arith))
 

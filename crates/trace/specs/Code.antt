@@ -1,4 +1,5 @@
 -- What a call answers its host, as one number.
+use mathlib.Core.Path.{_≡_}
 use Prim.Native.Nat.{ℕ, _+_, _*_, _/_, _%_, _≤_, _<_}
 use Rattle.basis.specs.declared.refusal.Refusal.{Refusal}
 use Rattle.basis.specs.Refusal.{Said, gives, refuses}
@@ -22,16 +23,20 @@ fileIn code = code / 100000000000000 % 10
 abbrev pub lineIn : ℕ → ℕ
 lineIn code = code % 100000000000000
 
--- what can be taken out of a number again: 01 has numbers up to 21, files up to 4, and no line near 10^14
-pub record Small (r : Refusal) : Type 0 where
+-- where lines and values stand in a number: below 10^14
+abbrev pub wide : ℕ
+wide = 100000000000000
+
+-- what can be taken out of a number again: 01 has numbers up to 21, files up to 4, and lines that have room below the file
+pub record Small (room : ℕ) (r : Refusal) : Type 0 where
   pub number : r .number ≤ 21
   pub file : r .file ≤ 4
-  pub line : r .line < 100000000000000
+  pub line : r .line < room
 
--- values stay below 10^14, and a refusal has a number of its own
-unfoldable pub Readable : {A : Type 0} → Said A → (A → ℕ) → Type 0
-Readable (gives x) value = value x < 100000000000000
-Readable (refuses r) value = (0 < r .number) × Small r
+-- values have that room too, and a refusal has a number of its own
+pub record Readable {A : Type 0} (room : ℕ) (s : Said A) (value : A → ℕ) : Type 0 where
+  pub values : (x : A) → s ≡ gives x → value x < room
+  pub refusals : (r : Refusal) → s ≡ refuses r → (0 < r .number) × Small room r
 
 -- a call that has no value beside its areas
 abbrev pub nothing : Unit {0} → ℕ

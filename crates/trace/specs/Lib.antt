@@ -1,4 +1,5 @@
 -- What the calls for a C or Rust host promise, in reading order.
 pub mod Code
 pub mod Book
+pub mod Load
 pub mod Kernels

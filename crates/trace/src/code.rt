@@ -6,10 +6,13 @@ use book::Joined;
 use book::Opened;
 use book::Reading;
 use kernels::Answer;
+use load::Loaded;
 ghost use mathlib.Core.Path.{_≡_};
 ghost use Rattle.kernels.specs.Answer.{says};
 ghost use Rattle.book.specs.Says.{saysOpened, saysJoined, saysHeaded, saysCompared, saysReading};
-ghost use Rattle.trace.specs.Code.{placed, coded, Small, Readable, nothing};
+ghost use Rattle.trace.specs.Code.{placed, coded, wide, Small, Readable, nothing};
+ghost use Rattle.load.specs.Load as Load;
+ghost use Rattle.trace.specs.Load.{loadValue};
 ghost use Rattle.trace.specs.Book.{joinValue, headValue, sameValue, itself};
 
 const NUMBER: u64 = 1000000000000000;
@@ -17,14 +20,14 @@ const NUMBER: u64 = 1000000000000000;
 const FILE: u64 = 100000000000000;
 
 pub(crate) fn refusal_code(r: Refusal) -> u64
-    requires { ⌜ Small r ⌝ }
+    requires { ⌜ Small wide r ⌝ }
     ensures { λ k. ⌜ k ≡ placed r ⌝ }
 {
     r.number as u64 * NUMBER + r.file as u64 * FILE + r.line as u64
 }
 
 pub(crate) fn opened_code(a: Opened) -> u64
-    requires { ⌜ Readable (saysOpened a) nothing ⌝ }
+    requires { ⌜ Readable wide (saysOpened a) nothing ⌝ }
     ensures { λ k. ⌜ k ≡ coded (saysOpened a) nothing ⌝ }
 {
     match a {
@@ -34,7 +37,7 @@ pub(crate) fn opened_code(a: Opened) -> u64
 }
 
 pub(crate) fn joined_code(a: Joined) -> u64
-    requires { ⌜ Readable (saysJoined a) joinValue ⌝ }
+    requires { ⌜ Readable wide (saysJoined a) joinValue ⌝ }
     ensures { λ k. ⌜ k ≡ coded (saysJoined a) joinValue ⌝ }
 {
     match a {
@@ -45,7 +48,7 @@ pub(crate) fn joined_code(a: Joined) -> u64
 }
 
 pub(crate) fn headed_code(a: Headed) -> u64
-    requires { ⌜ Readable (saysHeaded a) headValue ⌝ }
+    requires { ⌜ Readable wide (saysHeaded a) headValue ⌝ }
     ensures { λ k. ⌜ k ≡ coded (saysHeaded a) headValue ⌝ }
 {
     match a {
@@ -55,7 +58,7 @@ pub(crate) fn headed_code(a: Headed) -> u64
 }
 
 pub(crate) fn compared_code(a: Compared) -> u64
-    requires { ⌜ Readable (saysCompared a) sameValue ⌝ }
+    requires { ⌜ Readable wide (saysCompared a) sameValue ⌝ }
     ensures { λ k. ⌜ k ≡ coded (saysCompared a) sameValue ⌝ }
 {
     match a {
@@ -66,7 +69,7 @@ pub(crate) fn compared_code(a: Compared) -> u64
 }
 
 pub(crate) fn reading_code(a: Reading) -> u64
-    requires { ⌜ Readable (saysReading a) itself ⌝ }
+    requires { ⌜ Readable wide (saysReading a) itself ⌝ }
     ensures { λ k. ⌜ k ≡ coded (saysReading a) itself ⌝ }
 {
     match a {
@@ -76,11 +79,21 @@ pub(crate) fn reading_code(a: Reading) -> u64
 }
 
 pub(crate) fn kernel_code(a: Answer) -> u64
-    requires { ⌜ Readable (says a) nothing ⌝ }
+    requires { ⌜ Readable wide (says a) nothing ⌝ }
     ensures { λ k. ⌜ k ≡ coded (says a) nothing ⌝ }
 {
     match a {
         Answer::Done => 0,
         Answer::Refused(r) => refusal_code(r),
+    }
+}
+
+pub(crate) fn load_code(a: Loaded) -> u64
+    requires { ⌜ Readable wide (Load.says a) loadValue ⌝ }
+    ensures { λ k. ⌜ k ≡ coded (Load.says a) loadValue ⌝ }
+{
+    match a {
+        Loaded::Graph(size) => size.vertices as u64 * 10000000 + size.arcs as u64,
+        Loaded::Refused(r) => refusal_code(r),
     }
 }

@@ -2,3 +2,4 @@
 mod code;
 pub mod four_kernels;
 pub mod group_book;
+pub mod lists;

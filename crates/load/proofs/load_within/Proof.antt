@@ -51,7 +51,7 @@ same-length-5 c = search needs
 
 -- src/lib.rt:44:1
 returns : tie.Need-returns
-returns c = 
+returns c =
     let a = c .before .before .before .before .before .before .before .before .before .before .before .before .before .before .before .before .before .before .before .before .before .before .before .before .before .before .before .before .before .before .before .before .before .before .before .before .before .before .before .args in
     load-graph _ _ _ _ _ _ _ _ _ _ (c .before .before .before .before .before .before .before .before .before .before .before .before .before .before .before .before .before .before .before .before .before .before .before .before .before .before .before .clear-all .ensures) (a .limits) (a .mode) (now (a .vertices)) (now (a .edges)) _ _ _ _ _ _ (c .before .before .before .before .before .before .before .before .before .before .before .before .fill .ensures) _ (c .before .filled .given .1)
 
@@ -77,7 +77,7 @@ same-length-10 c = search needs
 
 -- src/lib.rt:44:1
 returns-2 : tie.Need-returns-2
-returns-2 c = 
+returns-2 c =
     let a = c .before .before .before .before .before .before .before .before .before .before .before .before .before .before .before .before .before .before .before .before .before .before .before .before .before .before .before .before .before .before .before .before .before .before .before .before .before .before .before .before .before .before .before .before .before .before .before .before .before .before .before .before .before .before .args in
     let k = c .before .before .before .before .before .before .before .before .before .before .before .before .before .before .before .before .before .before .before .before .before .before .before .before .before .before .before .fill .kept .1 .1 .1 .1 in
     load-refused _ _ _ _ _ _ _ _ _ _ (c .before .before .before .before .before .before .before .before .before .before .before .before .before .before .before .before .before .before .before .before .before .before .before .before .before .before .before .before .before .before .before .before .before .before .before .before .before .before .before .before .before .before .clear-all .ensures) (a .limits) (a .mode) (now (a .vertices)) (now (a .edges)) _ _ _ _ _ _ (c .before .before .before .before .before .before .before .before .before .before .before .before .before .before .before .before .before .before .before .before .before .before .before .before .before .before .before .fill .ensures) _ (c .before .before .before .before .before .before .before .before .before .before .before .before .before .before .before .before .filled2 .given .1)

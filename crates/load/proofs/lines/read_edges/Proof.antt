@@ -32,7 +32,7 @@ enum-known-step c = search needs
 
 -- src/lines.rt:239:17
 count-arc-requires : tie.Need-count-arc-requires Inv-loop μ-loop
-count-arc-requires c κs = 
+count-arc-requires c κs =
     let h : length (now (c .before .before .before .before .before .before .before .before .before .args .s)) < 2 ^ 64 = omega arith in
     (search gathering-there, search gathering-few)
 

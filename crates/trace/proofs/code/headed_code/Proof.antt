@@ -1,9 +1,9 @@
+use Rattle.trace.proofs.Codes.{coded-given}
+use Rattle.trace.proofs.Codes.{coded-refused}
 use native.Mathlib.Omega.{arith}
-use Rattle.trace.proofs.Codes.{value-of, coded-given}
 use mathlib.Core.Path.{ap}
 use Rattle.book.specs.Says.{saysHeaded}
 use Rattle.trace.specs.Book.{headValue}
-use Rattle.trace.proofs.Codes.{small-of, coded-refused}
 use borrow.Author.Needs.{needs}
 use Rattle.trace.proofs.code.headed_code.Statement.{statement}
 use Rattle.trace.proofs.code.headed_code.Tie as tie
@@ -12,16 +12,16 @@ enum-known-a : tie.Need-enum-known-a
 enum-known-a c = search needs
 
 mul-result : tie.Need-mul-result
-mul-result c = omega (arith, value-of headValue _ _ (ap saysHeaded (c .before .a .given .1)) (c .before .before .before .pre))
+mul-result c = omega (arith, c .before .before .before .pre .values _ (ap saysHeaded (c .before .a .given .1)))
 
 add-result : tie.Need-add-result
-add-result c = omega (arith, value-of headValue _ _ (ap saysHeaded (c .before .a .given .1)) (c .before .before .before .pre))
+add-result c = omega (arith, c .before .before .before .pre .values _ (ap saysHeaded (c .before .a .given .1)))
 
 enum-known-a-2 : tie.Need-enum-known-a-2
 enum-known-a-2 c = search needs
 
 refusal-code-requires : tie.Need-refusal-code-requires
-refusal-code-requires c κs = small-of headValue _ _ (ap saysHeaded (c .before .a2 .given .1)) (c .before .before .before .pre)
+refusal-code-requires c κs = c .before .before .before .pre .refusals _ (ap saysHeaded (c .before .a2 .given .1)) .1
 
 returns : tie.Need-returns
 returns c = coded-given headValue _ _ (ap saysHeaded (c .before .a .given .1))

@@ -1,7 +1,7 @@
+use Rattle.trace.proofs.Codes.{coded-refused}
 use mathlib.Core.Path.{ap}
 use Rattle.kernels.specs.Answer.{says}
 use Rattle.trace.specs.Code.{nothing}
-use Rattle.trace.proofs.Codes.{small-of, coded-refused}
 use borrow.Author.Needs.{needs}
 use Rattle.trace.proofs.code.kernel_code.Statement.{statement}
 use Rattle.trace.proofs.code.kernel_code.Tie as tie
@@ -13,7 +13,7 @@ enum-known-a : tie.Need-enum-known-a
 enum-known-a c = search needs
 
 refusal-code-requires : tie.Need-refusal-code-requires
-refusal-code-requires c κs = small-of nothing _ _ (ap says (c .before .a .given .1)) (c .before .before .before .pre)
+refusal-code-requires c κs = c .before .before .before .pre .refusals _ (ap says (c .before .a .given .1)) .1
 
 returns : tie.Need-returns
 returns c = search needs

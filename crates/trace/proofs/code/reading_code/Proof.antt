@@ -1,7 +1,7 @@
+use Rattle.trace.proofs.Codes.{coded-refused}
 use mathlib.Core.Path.{ap}
 use Rattle.book.specs.Says.{saysReading}
 use Rattle.trace.specs.Book.{itself}
-use Rattle.trace.proofs.Codes.{small-of, coded-refused}
 use borrow.Author.Needs.{needs}
 use Rattle.trace.proofs.code.reading_code.Statement.{statement}
 use Rattle.trace.proofs.code.reading_code.Tie as tie
@@ -13,7 +13,7 @@ enum-known-a-2 : tie.Need-enum-known-a-2
 enum-known-a-2 c = search needs
 
 refusal-code-requires : tie.Need-refusal-code-requires
-refusal-code-requires c κs = small-of itself _ _ (ap saysReading (c .before .a2 .given .1)) (c .before .before .before .pre)
+refusal-code-requires c κs = c .before .before .before .pre .refusals _ (ap saysReading (c .before .a2 .given .1)) .1
 
 returns : tie.Need-returns
 returns c = search needs
