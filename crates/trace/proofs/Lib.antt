@@ -3,4 +3,5 @@ pub mod Codes
 pub mod Books
 pub mod Lines
 pub mod Loads
+pub mod Stored
 pub mod Runs

@@ -3,3 +3,4 @@ pub mod Code
 pub mod Book
 pub mod Load
 pub mod Kernels
+pub mod Host
