@@ -8,3 +8,4 @@ pub mod Valids
 pub mod Arranges
 pub mod Fills
 pub mod Loads
+pub mod Accepts

@@ -28,7 +28,8 @@ use Rattle.load.specs.Lines.{linesOf, Before, first, after, onward, said
 use Rattle.load.specs.Files.{vertexTest, identifiers}
 use Rattle.load.specs.Load.{says, Lists, Room, roomOf, isUndirected, vertexRoom, withRoom, arcsRead, listsRead, loaded, Outcome, outcome, outcomeOf, loadCall}
 use Rattle.load.specs.Steps.{idsInto, idsLeft, Blank, Filled, filled, filledBy, filledLeft, outcomeBy, outcomeLeft, Zeros, Emptied}
-use Rattle.load.proofs.Values.{Passes, values-accepted}
+use Rattle.load.specs.Good.{Passes}
+use Rattle.load.proofs.Values.{values-accepted}
 use Rattle.load.proofs.Arranges.{put-front, said-gives, said-refuses}
 
 -- ---- places for identifiers and offsets
@@ -46,7 +47,7 @@ module _ (n ids oo io : ℕ) where
   places-all h g k = rw (le-leb n ids h, lt-ltb n oo g, lt-ltb n io k)
 
 -- ---- identifiers that were accepted rise
-test-rises : (y z : ℤ) → vertexTest (after y) z ≡ 0 → ltZ y z ≡ true
+pub test-rises : (y z : ℤ) → vertexTest (after y) z ≡ 0 → ltZ y z ≡ true
 test-rises y z h = go (ltZ y z) refl h
   where
     go : (t : Bool) → ltZ y z ≡ t → _≡_ {A = ℕ} (cond t 0 4) 0 → ltZ y z ≡ true

@@ -20,7 +20,7 @@ use Rattle.graph.proofs.Finds.{place-at}
 use Rattle.store.proofs.Order.{All, Pairs, Fine, Smaller, Lex, Valid, lex-cons}
 use Rattle.load.specs.Lines.{Before, first, after}
 use Rattle.load.specs.Files.{abovePair, isAbove, isThere, numberOf, edgeTest, numbered, allNumbered}
-use Rattle.load.proofs.Values.{Passes}
+use Rattle.load.specs.Good.{Passes}
 
 -- ---- what the test of an edge says
 pub record Tested (both : Bool) (ids : List ℤ) (before : Before (ℤ × ℤ)) (e : ℤ × ℤ) : Type 0 where

@@ -2,24 +2,17 @@
 use Prim.Native.Nat.{ℕ, zero, suc, _+_, _≤_, _<_}
 use mathlib.Core.Path.{_≡_, refl, sym, ap, subst, _∙_}
 use mathlib.Core.Bool.{Bool, true, false, cond}
-use mathlib.Core.List.{List, [], _∷_}
+use mathlib.Core.List.{List, [], _∷_, _++_}
 use native.Mathlib.Omega.{arith}
+use native.Mathlib.Nat.{add-zero}
 use borrow.Author.Tests.{leb-false, lt-leb}
 use lib.ListN.{length}
 use lib.Dec.{leb}
 use Rattle.basis.specs.Refusal.{Said, gives, refuses, at, tooMany}
-use Rattle.load.specs.Lines.{Line, good, bad, Before, first, after, said, unless, faultOf, valuesFrom}
+use Rattle.basis.specs.declared.refusal.Refusal.{Refusal}
+use Rattle.load.specs.Lines.{Line, good, bad, Before, after, said, unless, faultOf, valuesFrom}
+use Rattle.load.specs.Good.{allGood, Passes, lastOf, FirstFault}
 use Rattle.load.proofs.Reading.{limit-none}
-
--- lines that all have values
-abbrev pub allGood : {A : Type 0} → List A → List (Line A)
-allGood [] = []
-allGood (v ∷ vs) = good v ∷ allGood vs
-
--- each passes the test after the one before it
-abbrev pub Passes : {A : Type 0} → (Before A → A → ℕ) → Before A → List A → Type 0
-Passes test before [] = Unit {0}
-Passes test before (v ∷ vs) = (test before v ≡ 0) × Passes test (after v) vs
 
 -- what an accepted file says
 pub record Accepted {A : Type 0} (most : ℕ) (test : Before A → A → ℕ) (k : ℕ) (before : Before A) (ls : List (Line A)) (vs : List A) : Type 0 where
@@ -61,3 +54,59 @@ module _ {A : Type 0} (file most : ℕ) (test : Before A → A → ℕ) where
       go : (k : ℕ) (before : Before A) (vs : List A) → Passes test before vs → k + length vs ≤ most → valuesFrom file most test k before (allGood vs) ≡ gives vs
       go k before [] p l = refl
       go k before (v ∷ vs) p l = rw (lt-leb most k (omega arith), p .0, go (k + 1) (after v) vs (p .1) (omega arith))
+
+-- ---- a file that is refused, is refused at its first line with a fault
+-- the lines of bad form or range have a number
+abbrev pub Numbered : {A : Type 0} → List (Line A) → Type 0
+Numbered [] = Unit {0}
+Numbered (good v ∷ ls) = Numbered ls
+Numbered (bad n ∷ ls) = n ≡ 0 → ⊥
+
+said-refused : {A : Type 0} (v : A) (x : Said (List A)) (r : Refusal) → said (λ l. v ∷ l) x ≡ refuses r → x ≡ refuses r
+said-refused v (gives l) r h = let z : _≡_ {A = ℕ} 0 1 = cc in absurd (let o : ⊥ = omega arith in o)
+said-refused v (refuses q) r h = cc
+
+module _ {A : Type 0} (file most : ℕ) (test : Before A → A → ℕ) where
+  pub values-refused : (k : ℕ) (before : Before A) (ls : List (Line A)) (r : Refusal) → Numbered ls → valuesFrom file most test k before ls ≡ refuses r → FirstFault file most test k before ls r
+  unfolding valuesFrom
+  values-refused k before [] r n h = let z : _≡_ {A = ℕ} 0 1 = cc in absurd (let o : ⊥ = omega arith in o)
+  values-refused k before (bad m ∷ ls) r n h =
+      record {
+        passed = [];
+        faulty = bad m;
+        rest = ls;
+        lines = refl;
+        pass = tt;
+        isFault = rw add-zero (limited (leb most k));
+        refusal = rw add-zero (cc);
+      }
+    where
+      limited : (t : Bool) → cond t tooMany m ≡ 0 → ⊥
+      limited true e = omega arith
+      limited false e = n e
+  values-refused k before (good v ∷ ls) r n h = by (faultOf file most test k before (good v)) refl h (values-refused (k + 1) (after v) ls r n)
+    where
+      by : (f : ℕ) → faultOf file most test k before (good v) ≡ f → unless f file (k + 1) (said (λ vs. v ∷ vs) (valuesFrom file most test (k + 1) (after v) ls)) ≡ refuses r
+          → (valuesFrom file most test (k + 1) (after v) ls ≡ refuses r → FirstFault file most test (k + 1) (after v) ls r) → FirstFault file most test k before (good v ∷ ls) r
+      by (suc m) e h f =
+          record {
+            passed = [];
+            faulty = good v;
+            rest = ls;
+            lines = refl;
+            pass = tt;
+            isFault = rw (add-zero, e) (λ z. omega arith);
+            refusal = rw (add-zero, e) (cc);
+          }
+      by zero e h f =
+          let g = f (said-refused v (valuesFrom file most test (k + 1) (after v) ls) r h) in
+          let q : k + suc (length (g .passed)) ≡ k + 1 + length (g .passed) = omega arith in
+          record {
+            passed = v ∷ g .passed;
+            faulty = g .faulty;
+            rest = g .rest;
+            lines = ap (λ x. good v ∷ x) (g .lines);
+            pass = (limit-none most k (test before v) e .1, g .pass);
+            isFault = rw q (g .isFault);
+            refusal = rw q (g .refusal);
+          }

@@ -3,3 +3,4 @@ pub mod Lines
 pub mod Files
 pub mod Load
 pub mod Steps
+pub mod Good

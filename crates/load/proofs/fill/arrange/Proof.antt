@@ -6,73 +6,51 @@ use native.Mathlib.Omega.{arith}
 use borrow.Author.Needs.{needs}
 use Rattle.load.proofs.fill.arrange.Statement.{statement}
 use Rattle.load.proofs.fill.arrange.Tie as tie
-use Rattle.load.proofs.fill.arrange.Reads as reads
-use Rattle.load.proofs.fill.arrange.Lts as lts
-use Rattle.basis.proofs.refusal.Refusal.plain.Reads as plain-reads
-use Rattle.load.proofs.fill.lacks.Reads as lacks-reads
-use Rattle.load.proofs.lines.read_edges.Reads as read-edges-reads
-use Rattle.load.proofs.spread.spread.Reads as spread-reads
-use Rattle.load.proofs.spread.sum_up.Reads as sum-up-reads
 
--- src/fill.rt:54:9
 read-edges-requires : tie.Need-read-edges-requires
 read-edges-requires c κs = search needs
 
--- src/fill.rt:56:25
 enum-known-listed : tie.Need-enum-known-listed
 enum-known-listed c = search needs
 
--- src/fill.rt:57:23
 enum-known-listed-2 : tie.Need-enum-known-listed-2
 enum-known-listed-2 c = search needs
 
--- src/fill.rt:58:16
 lacks-requires : tie.Need-lacks-requires
 lacks-requires c κs = search needs
 
--- src/fill.rt:59:40
 plain-requires : tie.Need-plain-requires
 plain-requires c κs = search needs
 
--- src/fill.rt:59:17
 same-length : tie.Need-same-length
 same-length c = search needs
 
--- src/fill.rt:59:17
 same-length-2 : tie.Need-same-length-2
 same-length-2 c = search needs
 
--- src/fill.rt:59:17
 returns : tie.Need-returns
 returns c = search arrange-short
 
--- src/fill.rt:61:16
 lacks-requires-2 : tie.Need-lacks-requires-2
 lacks-requires-2 c κs = search needs
 
--- src/fill.rt:62:40
 plain-requires-2 : tie.Need-plain-requires-2
 plain-requires-2 c κs = search needs
 
--- src/fill.rt:62:17
 same-length-3 : tie.Need-same-length-3
 same-length-3 c = search needs
 
--- src/fill.rt:62:17
 same-length-4 : tie.Need-same-length-4
 same-length-4 c = search needs
 
--- src/fill.rt:62:17
 returns-2 : tie.Need-returns-2
 returns-2 c =
     arrange-short-back _ _ _ _ _ _ _ _ (c .before .before .before .before .before .before .before .before .before .before .before .before .before .before .before .before .before .before .before .before .pre) _ _ _ (c .before .before .before .before .before .before .before .before .before .before .before .before .read-edges .ensures) _ (c .before .before .before .before .before .before .listed2 .given .1) _ (c .before .before .before .before .before .before .before .before .before .before .before .before .read-edges .kept .1 .1 .1 .1 .1 .0) _ (c .before .before .before .before .lacks .ensures) (c .before .before .before .if1 .left)
     _ (c .before .before .lacks2 .ensures) (c .before .if2 .taken) _ (c .plain2 .ensures)
 
--- src/fill.rt:64:29
 add-sum-up : tie.Need-add-sum-up
 add-sum-up c = search needs
 
--- src/fill.rt:64:13
 sum-up-requires : tie.Need-sum-up-requires
 sum-up-requires c κs = (
   search needs,
@@ -80,41 +58,32 @@ sum-up-requires c κs = (
       _ (c .before .before .lacks2 .ensures) (c .before .if2 .left) _ (omega arith),
 )
 
--- src/fill.rt:65:13
 spread-requires : tie.Need-spread-requires
 spread-requires c κs =
     arrange-side _ _ _ _ _ _ _ _ (c .before .before .before .before .before .before .before .before .before .before .before .before .before .before .before .before .before .before .before .before .before .before .before .before .before .before .before .pre) _ _ _ (c .before .before .before .before .before .before .before .before .before .before .before .before .before .before .before .before .before .before .before .read-edges .ensures) _ (c .before .before .before .before .before .before .before .before .before .before .before .before .before .listed2 .given .1) _ (c .before .before .before .before .before .before .before .before .before .before .before .before .before .before .before .before .before .before .before .read-edges .kept .1 .1 .1 .1 .1 .0) _ (c .before .before .before .before .before .before .before .before .before .before .before .lacks .ensures) (c .before .before .before .before .before .before .before .before .before .before .if1 .left)
     _ (c .before .before .before .before .before .before .before .before .before .lacks2 .ensures) (c .before .before .before .before .before .before .before .before .if2 .left) _ (c .before .before .before .before .before .before .sum-up .ensures)
 
--- src/fill.rt:40:1
 same-length-5 : tie.Need-same-length-5
 same-length-5 c = search needs
 
--- src/fill.rt:40:1
 same-length-6 : tie.Need-same-length-6
 same-length-6 c = search needs
 
--- src/fill.rt:40:1
 returns-3 : tie.Need-returns-3
 returns-3 c = search arrange-refused
 
--- src/fill.rt:40:1
 same-length-7 : tie.Need-same-length-7
 same-length-7 c = search needs
 
--- src/fill.rt:40:1
 same-length-8 : tie.Need-same-length-8
 same-length-8 c = search needs
 
--- src/fill.rt:40:1
 same-length-9 : tie.Need-same-length-9
 same-length-9 c = search needs
 
--- src/fill.rt:40:1
 same-length-10 : tie.Need-same-length-10
 same-length-10 c = search needs
 
--- src/fill.rt:40:1
 returns-4 : tie.Need-returns-4
 returns-4 c =
     arrange-end _ _ _ _ _ _ _ _ (c .before .before .before .before .before .before .before .before .before .before .before .before .before .before .before .before .before .before .before .before .before .before .before .before .before .before .before .before .before .before .before .before .pre) _ _ _ (c .before .before .before .before .before .before .before .before .before .before .before .before .before .before .before .before .before .before .before .before .before .before .before .before .read-edges .ensures) _ (c .before .before .before .before .before .before .before .before .before .before .before .before .before .before .before .before .before .before .listed2 .given .1) _ (c .before .before .before .before .before .before .before .before .before .before .before .before .before .before .before .before .before .before .before .before .before .before .before .before .read-edges .kept .1 .1 .1 .1 .1 .0) _ (c .before .before .before .before .before .before .before .before .before .before .before .before .before .before .before .before .lacks .ensures) (c .before .before .before .before .before .before .before .before .before .before .before .before .before .before .before .if1 .left)

@@ -5,92 +5,66 @@ use lib.Seq.{length-take-le}
 use borrow.Author.Needs.{needs}
 use Rattle.load.proofs.fill.fill.Statement.{statement}
 use Rattle.load.proofs.fill.fill.Tie as tie
-use Rattle.load.proofs.fill.fill.Reads as reads
-use Rattle.load.proofs.fill.fill.Lts as lts
-use Rattle.basis.proofs.refusal.Refusal.plain.Reads as plain-reads
-use Rattle.load.proofs.fill.has_places.Reads as has-places-reads
-use Rattle.load.proofs.fill.store_edges.Reads as store-edges-reads
-use Rattle.load.proofs.lines.read_vertices.Reads as read-vertices-reads
 
--- src/fill.rt:174:32
 plain-requires : tie.Need-plain-requires
 plain-requires c κs = search needs
 
--- src/fill.rt:174:9
 returns : tie.Need-returns
 returns c = search fill-mode
 
--- src/fill.rt:176:9
 read-vertices-requires : tie.Need-read-vertices-requires
 read-vertices-requires c κs = search needs
 
--- src/fill.rt:178:25
 enum-known-listed : tie.Need-enum-known-listed
 enum-known-listed c = search needs
 
--- src/fill.rt:179:23
 enum-known-listed-2 : tie.Need-enum-known-listed-2
 enum-known-listed-2 c = search needs
 
--- src/fill.rt:180:16
 has-places-requires : tie.Need-has-places-requires
 has-places-requires c κs = search needs
 
--- src/fill.rt:181:68
 slice-reshare-prefix-store-edges : tie.Need-slice-reshare-prefix-store-edges
 slice-reshare-prefix-store-edges c = fill-places (c .before .before .before .before .before .before .before .before .before .before .before .before .before .before .before .args .limits) _ _ (now (c .before .before .before .before .before .before .before .before .before .before .before .before .before .before .before .args .edges)) _ _ _ _ _ (c .before .before .before .before .before .before .before .before .before .before .before .before .before .before .before .pre) (c .before .before .before .before .before .before .before .before .if1 .left) _ _ (c .before .before .before .before .before .before .read-vertices .ensures) _ (c .before .before .before .listed2 .given .1) _ (c .before .before .before .before .before .before .read-vertices .kept .1 .1 .0) _ (c .before .has-places .ensures) (c .if2 .taken)
 
--- src/fill.rt:181:68
 slice-aggregate-store-edges : tie.Need-slice-aggregate-store-edges
 slice-aggregate-store-edges c = sym (length-take-le _ _ (fill-places (c .before .before .before .before .before .before .before .before .before .before .before .before .before .before .before .before .args .limits) _ _ (now (c .before .before .before .before .before .before .before .before .before .before .before .before .before .before .before .before .args .edges)) _ _ _ _ _ (c .before .before .before .before .before .before .before .before .before .before .before .before .before .before .before .before .pre) (c .before .before .before .before .before .before .before .before .before .if1 .left) _ _ (c .before .before .before .before .before .before .before .read-vertices .ensures) _ (c .before .before .before .before .listed2 .given .1) _ (c .before .before .before .before .before .before .before .read-vertices .kept .1 .1 .0) _ (c .before .before .has-places .ensures) (c .before .if2 .taken)))
 
--- src/fill.rt:181:17
 store-edges-requires : tie.Need-store-edges-requires
 store-edges-requires c κs = fill-blank (c .before .before .before .before .before .before .before .before .before .before .before .before .before .before .before .before .before .before .before .before .args .limits) _ _ (now (c .before .before .before .before .before .before .before .before .before .before .before .before .before .before .before .before .before .before .before .before .args .edges)) _ _ _ _ _ (c .before .before .before .before .before .before .before .before .before .before .before .before .before .before .before .before .before .before .before .before .pre) (c .before .before .before .before .before .before .before .before .before .before .before .before .before .if1 .left) _ _ (c .before .before .before .before .before .before .before .before .before .before .before .read-vertices .ensures) _ (c .before .before .before .before .before .before .before .before .listed2 .given .1) _ (c .before .before .before .before .before .before .before .before .before .before .before .read-vertices .kept .1 .1 .0) _ (c .before .before .before .before .before .before .has-places .ensures) (c .before .before .before .before .before .if2 .taken) _ refl
 
--- src/fill.rt:181:17
 same-length : tie.Need-same-length
 same-length c = search needs
 
--- src/fill.rt:181:17
 same-length-2 : tie.Need-same-length-2
 same-length-2 c = search needs
 
--- src/fill.rt:181:17
 same-length-3 : tie.Need-same-length-3
 same-length-3 c = search needs
 
--- src/fill.rt:181:17
 same-length-4 : tie.Need-same-length-4
 same-length-4 c = search needs
 
--- src/fill.rt:181:17
 same-length-5 : tie.Need-same-length-5
 same-length-5 c = search needs
 
--- src/fill.rt:181:17
 returns-2 : tie.Need-returns-2
 returns-2 c =
     let l = c .before .before .before .before .before .before .before .before .store-edges .last in
     fill-end (c .before .before .before .before .before .before .before .before .before .before .before .before .before .before .before .before .before .before .before .before .before .before .before .before .before .before .before .before .before .args .limits) _ _ (now (c .before .before .before .before .before .before .before .before .before .before .before .before .before .before .before .before .before .before .before .before .before .before .before .before .before .before .before .before .before .args .edges)) _ _ _ _ _ (c .before .before .before .before .before .before .before .before .before .before .before .before .before .before .before .before .before .before .before .before .before .before .before .before .before .before .before .before .before .pre) (c .before .before .before .before .before .before .before .before .before .before .before .before .before .before .before .before .before .before .before .before .before .before .if1 .left) _ _ (c .before .before .before .before .before .before .before .before .before .before .before .before .before .before .before .before .before .before .before .before .read-vertices .ensures) _ (c .before .before .before .before .before .before .before .before .before .before .before .before .before .before .before .before .before .listed2 .given .1) _ (c .before .before .before .before .before .before .before .before .before .before .before .before .before .before .before .before .before .before .before .before .read-vertices .kept .1 .1 .0) _ (c .before .before .before .before .before .before .before .before .before .before .before .before .before .before .before .has-places .ensures) (c .before .before .before .before .before .before .before .before .before .before .before .before .before .before .if2 .taken) _ refl (c .before .before .before .before .before .before .before .before .store-edges .result) (l .1 .1 .1 .1 .0) (l .1 .1 .1 .1 .1 .0) (l .1 .1 .1 .1 .1 .1 .0) (l .1 .1 .1 .1 .1 .1 .1 .0) (c .before .before .before .before .before .before .before .before .store-edges .ensures)
 
--- src/fill.rt:183:29
 plain-requires-2 : tie.Need-plain-requires-2
 plain-requires-2 c κs = search needs
 
--- src/fill.rt:159:1
 same-length-6 : tie.Need-same-length-6
 same-length-6 c = search needs
 
--- src/fill.rt:159:1
 returns-3 : tie.Need-returns-3
 returns-3 c = search fill-refused
 
--- src/fill.rt:159:1
 same-length-7 : tie.Need-same-length-7
 same-length-7 c = search needs
 
--- src/fill.rt:159:1
 returns-4 : tie.Need-returns-4
 returns-4 c = fill-short (c .before .before .before .before .before .before .before .before .before .before .before .before .before .before .before .before .args .limits) _ _ (now (c .before .before .before .before .before .before .before .before .before .before .before .before .before .before .before .before .args .edges)) _ _ _ _ _ (c .before .before .before .before .before .before .before .before .before .before .before .before .before .before .before .before .pre) (c .before .before .before .before .before .before .before .before .before .if1 .left) _ _ (c .before .before .before .before .before .before .before .read-vertices .ensures) _ (c .before .before .before .before .listed2 .given .1) _ (c .before .before .before .before .before .before .before .read-vertices .kept .1 .1 .0) _ (c .before .before .has-places .ensures) (c .before .if2 .left) _ (c .plain2 .ensures)
 

@@ -2,56 +2,40 @@ use Rattle.load.proofs.Fills.{edges-both, edges-one}
 use borrow.Author.Needs.{needs}
 use Rattle.load.proofs.fill.store_edges.Statement.{statement}
 use Rattle.load.proofs.fill.store_edges.Tie as tie
-use Rattle.load.proofs.fill.store_edges.Reads as reads
-use Rattle.load.proofs.fill.store_edges.Lts as lts
-use Rattle.load.proofs.fill.directed.Reads as directed-reads
-use Rattle.load.proofs.fill.undirected.Reads as undirected-reads
 
--- src/fill.rt:136:9
 undirected-requires : tie.Need-undirected-requires
 undirected-requires c κs = search needs
 
--- src/fill.rt:136:9
 same-length : tie.Need-same-length
 same-length c = search needs
 
--- src/fill.rt:136:9
 same-length-2 : tie.Need-same-length-2
 same-length-2 c = search needs
 
--- src/fill.rt:136:9
 same-length-3 : tie.Need-same-length-3
 same-length-3 c = search needs
 
--- src/fill.rt:136:9
 same-length-4 : tie.Need-same-length-4
 same-length-4 c = search needs
 
--- src/fill.rt:136:9
 returns : tie.Need-returns
 returns c = search edges-both
 
--- src/fill.rt:138:5
 directed-requires : tie.Need-directed-requires
 directed-requires c κs = search needs
 
--- src/fill.rt:122:1
 same-length-5 : tie.Need-same-length-5
 same-length-5 c = search needs
 
--- src/fill.rt:122:1
 same-length-6 : tie.Need-same-length-6
 same-length-6 c = search needs
 
--- src/fill.rt:122:1
 same-length-7 : tie.Need-same-length-7
 same-length-7 c = search needs
 
--- src/fill.rt:122:1
 same-length-8 : tie.Need-same-length-8
 same-length-8 c = search needs
 
--- src/fill.rt:122:1
 returns-2 : tie.Need-returns-2
 returns-2 c = search edges-one
 

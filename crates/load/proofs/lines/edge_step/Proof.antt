@@ -2,99 +2,70 @@ use Rattle.load.proofs.Reading.{edge-end, edge-bad, edge-fault, edge-un
 use borrow.Author.Needs.{needs}
 use Rattle.load.proofs.lines.edge_step.Statement.{statement}
 use Rattle.load.proofs.lines.edge_step.Tie as tie
-use Rattle.load.proofs.lines.edge_step.Reads as reads
-use Rattle.load.proofs.lines.edge_step.Lts as lts
-use Rattle.basis.proofs.refusal.Refusal.at.Reads as at-reads
-use Rattle.load.proofs.lines.limited.Reads as limited-reads
-use Rattle.load.proofs.lines.look_up.Reads as look-up-reads
-use Rattle.load.proofs.lines.order_fault.Reads as order-fault-reads
-use Rattle.text.proofs.line.Cursor.edge.Reads as edge-reads
 
--- src/lines.rt:202:9
 edge-requires : tie.Need-edge-requires
 edge-requires c κs = search needs
 
--- src/lines.rt:204:44
 enum-told : tie.Need-enum-told
 enum-told c = search needs
 
--- src/lines.rt:205:25
 enum-known-line : tie.Need-enum-known-line
 enum-known-line c = search needs
 
--- src/lines.rt:205:77
 limited-requires : tie.Need-limited-requires
 limited-requires c κs = search needs
 
--- src/lines.rt:205:109
 add-at : tie.Need-add-at
 add-at c = search needs
 
--- src/lines.rt:205:65
 at-requires : tie.Need-at-requires
 at-requires c κs = search needs
 
--- src/lines.rt:206:24
 enum-known-line-2 : tie.Need-enum-known-line-2
 enum-known-line-2 c = search needs
 
--- src/lines.rt:207:42
 order-fault-requires : tie.Need-order-fault-requires
 order-fault-requires c κs = search needs
 
--- src/lines.rt:207:17
 limited-requires-2 : tie.Need-limited-requires-2
 limited-requires-2 c κs = search needs
 
--- src/lines.rt:209:85
 add-at-2 : tie.Need-add-at-2
 add-at-2 c = search needs
 
--- src/lines.rt:209:55
 at-requires-2 : tie.Need-at-requires-2
 at-requires-2 c κs = search needs
 
--- src/lines.rt:209:17
 returns : tie.Need-returns
 returns c = search (edge-fault, needs, c .before .if1 .taken)
 
--- src/lines.rt:211:17
 look-up-requires : tie.Need-look-up-requires
 look-up-requires c κs = search needs
 
--- src/lines.rt:213:104
 enum-told-2 : tie.Need-enum-told-2
 enum-told-2 c = search needs
 
--- src/lines.rt:213:104
 add-at-3 : tie.Need-add-at-3
 add-at-3 c = search needs
 
--- src/lines.rt:213:65
 at-requires-3 : tie.Need-at-requires-3
 at-requires-3 c κs = search needs
 
--- src/lines.rt:214:29
 enum-known-joined : tie.Need-enum-known-joined
 enum-known-joined c = search needs
 
--- src/lines.rt:214:84
 add-t32 : tie.Need-add-t32
 add-t32 c = search needs
 
--- src/lines.rt:196:1
 returns-2 : tie.Need-returns-2
 returns-2 c = search edge-end
 
--- src/lines.rt:196:1
 returns-3 : tie.Need-returns-3
 returns-3 c = search edge-bad
 
--- src/lines.rt:196:1
 returns-4 : tie.Need-returns-4
 returns-4 c = search (edge-unknown, needs)
 
--- src/lines.rt:196:1
 returns-5 : tie.Need-returns-5
 returns-5 c = search (edge-more, needs)
 

@@ -3,39 +3,28 @@ use Rattle.load.proofs.Reading.{above-first, above-less, above-second, 
 use borrow.Author.Needs.{needs}
 use Rattle.load.proofs.lines.is_above.Statement.{statement}
 use Rattle.load.proofs.lines.is_above.Tie as tie
-use Rattle.load.proofs.lines.is_above.Reads as reads
-use Rattle.load.proofs.lines.is_above.Lts as lts
-use Rattle.basis.proofs.order.less.Reads as less-reads
-use Rattle.basis.proofs.order.same.Reads as same-reads
 
--- src/lines.rt:150:9
 returns : tie.Need-returns
 returns c = search above-first
 
--- src/lines.rt:152:8
 less-requires : tie.Need-less-requires
 less-requires c κs = search needs
 
--- src/lines.rt:153:9
 returns-2 : tie.Need-returns-2
 returns-2 c = search (above-less, needs, c .before .before .if1 .left)
 
--- src/lines.rt:155:8
 same-requires : tie.Need-same-requires
 same-requires c κs = search needs
 
--- src/lines.rt:156:9
 less-requires-2 : tie.Need-less-requires-2
 less-requires-2 c κs = search needs
 
--- src/lines.rt:156:9
 returns-3 : tie.Need-returns-3
 returns-3 c =
     let f = c .before .before .before .before .before .before .fits in
     above-second _ _ _ _ _ (c .before .before .before .before .before .if1 .left) _ _ (toZ-ofZ (f .p)) (toZ-ofZ (f .a)) _ (c .before .before .before .before .less .ensures) (c .before .before .before .if2 .left)
     _ (c .before .before .same .ensures) (c .before .if3 .taken) _ _ (toZ-ofZ (f .q)) (toZ-ofZ (f .b)) _ (c .less2 .ensures)
 
--- src/lines.rt:146:1
 returns-4 : tie.Need-returns-4
 returns-4 c = search (above-none, needs, c .before .before .before .before .if1 .left)
 

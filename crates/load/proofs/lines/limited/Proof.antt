@@ -2,14 +2,10 @@ use borrow.Author.Needs.{needs}
 use Rattle.load.proofs.Reading.{limit-over, limit-kept}
 use Rattle.load.proofs.lines.limited.Statement.{statement}
 use Rattle.load.proofs.lines.limited.Tie as tie
-use Rattle.load.proofs.lines.limited.Reads as reads
-use Rattle.load.proofs.lines.limited.Lts as lts
 
--- src/lines.rt:52:1
 returns : tie.Need-returns
 returns c = search limit-over
 
--- src/lines.rt:52:1
 returns-2 : tie.Need-returns-2
 returns-2 c = search limit-kept
 

@@ -3,26 +3,19 @@ use mathlib.Core.Path.{sym}
 use borrow.Author.Needs.{needs}
 use Rattle.load.proofs.lines.put.Statement.{statement}
 use Rattle.load.proofs.lines.put.Tie as tie
-use Rattle.load.proofs.lines.put.Reads as reads
-use Rattle.load.proofs.lines.put.Lts as lts
 
--- src/lines.rt:225:9
 mul-area : tie.Need-mul-area
 mul-area c = search needs
 
--- src/lines.rt:225:9
 slice-write-area : tie.Need-slice-write-area
 slice-write-area c = search needs
 
--- src/lines.rt:221:1
 same-length : tie.Need-same-length
 same-length c = search needs
 
--- src/lines.rt:221:1
 returns : tie.Need-returns
 returns c = search needs
 
--- src/lines.rt:221:1
 returns-2 : tie.Need-returns-2
 returns-2 c = sym (set-out _ _ _ (c .if1 .left))
 

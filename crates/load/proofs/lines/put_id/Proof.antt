@@ -3,26 +3,19 @@ use mathlib.Core.Path.{sym}
 use borrow.Author.Needs.{needs}
 use Rattle.load.proofs.lines.put_id.Statement.{statement}
 use Rattle.load.proofs.lines.put_id.Tie as tie
-use Rattle.load.proofs.lines.put_id.Reads as reads
-use Rattle.load.proofs.lines.put_id.Lts as lts
 
--- src/lines.rt:101:9
 mul-z : tie.Need-mul-z
 mul-z c = search needs
 
--- src/lines.rt:101:9
 slice-set-from-z : tie.Need-slice-set-from-z
 slice-set-from-z c = search needs
 
--- src/lines.rt:97:1
 same-length : tie.Need-same-length
 same-length c = search needs
 
--- src/lines.rt:97:1
 returns : tie.Need-returns
 returns c = search needs
 
--- src/lines.rt:97:1
 returns-2 : tie.Need-returns-2
 returns-2 c = sym (set-out _ _ _ (c .if1 .left))
 

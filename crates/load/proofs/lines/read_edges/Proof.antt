@@ -6,11 +6,6 @@ use denote.Ref.{now}
 use lib.ListN.{length}
 use Rattle.load.proofs.lines.read_edges.Statement.{statement}
 use Rattle.load.proofs.lines.read_edges.Tie as tie
-use Rattle.load.proofs.lines.read_edges.Reads as reads
-use Rattle.load.proofs.lines.read_edges.Lts as lts
-use Rattle.load.proofs.lines.edge_step.Reads as edge-step-reads
-use Rattle.load.proofs.lines.put.Reads as put-reads
-use Rattle.load.proofs.spread.count_arc.Reads as count-arc-reads
 
 abbrev Inv-loop : tie.InvT-loop
 Inv-loop s most both ids counts₀ targets₀ c₀ counts targets c = Gathering s most both ids counts₀ targets₀ c counts targets
@@ -18,49 +13,38 @@ Inv-loop s most both ids counts₀ targets₀ c₀ counts targets c = Gathering 
 abbrev μ-loop : tie.MeasureT-loop
 μ-loop s most both ids counts₀ targets₀ c₀ counts targets c = length s - c .at .at
 
--- src/lines.rt:235:5
 loop-holds : tie.Need-loop-holds Inv-loop μ-loop
 loop-holds c = search gathering-start
 
--- src/lines.rt:236:13
 edge-step-requires : tie.Need-edge-step-requires Inv-loop μ-loop
 edge-step-requires c κs = (search needs, search needs)
 
--- src/lines.rt:238:28
 enum-known-step : tie.Need-enum-known-step Inv-loop μ-loop
 enum-known-step c = search needs
 
--- src/lines.rt:239:17
 count-arc-requires : tie.Need-count-arc-requires Inv-loop μ-loop
 count-arc-requires c κs =
     let h : length (now (c .before .before .before .before .before .before .before .before .before .args .s)) < 2 ^ 64 = omega arith in
     (search gathering-there, search gathering-few)
 
--- src/lines.rt:240:17
 put-requires : tie.Need-put-requires Inv-loop μ-loop
 put-requires c κs = search needs
 
--- src/lines.rt:235:5
 loop-less : tie.Need-loop-less Inv-loop μ-loop
 loop-less c = search gathering-less
 
--- src/lines.rt:235:5
 loop-again : tie.Need-loop-again Inv-loop μ-loop
 loop-again c = search gathering-more
 
--- src/lines.rt:243:28
 enum-known-step-2 : tie.Need-enum-known-step-2 Inv-loop μ-loop
 enum-known-step-2 c = search needs
 
--- src/lines.rt:244:17
 same-length : tie.Need-same-length Inv-loop μ-loop
 same-length c = search needs
 
--- src/lines.rt:244:17
 same-length-2 : tie.Need-same-length-2 Inv-loop μ-loop
 same-length-2 c = search needs
 
--- src/lines.rt:244:17
 returns : tie.Need-returns Inv-loop μ-loop
 returns c = search gathering-stop
 

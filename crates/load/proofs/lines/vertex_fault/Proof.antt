@@ -2,27 +2,19 @@ use Rattle.load.proofs.Reading.{vertex-over, vertex-first, vertex-rises
 use borrow.Author.Needs.{needs}
 use Rattle.load.proofs.lines.vertex_fault.Statement.{statement}
 use Rattle.load.proofs.lines.vertex_fault.Tie as tie
-use Rattle.load.proofs.lines.vertex_fault.Reads as reads
-use Rattle.load.proofs.lines.vertex_fault.Lts as lts
-use Rattle.basis.proofs.order.less.Reads as less-reads
 
--- src/lines.rt:63:9
 returns : tie.Need-returns
 returns c = search vertex-over
 
--- src/lines.rt:66:9
 returns-2 : tie.Need-returns-2
 returns-2 c = search vertex-first
 
--- src/lines.rt:68:8
 less-requires : tie.Need-less-requires
 less-requires c κs = search needs
 
--- src/lines.rt:69:9
 returns-3 : tie.Need-returns-3
 returns-3 c = search (vertex-rises, needs, c .before .before .if2 .left)
 
--- src/lines.rt:59:1
 returns-4 : tie.Need-returns-4
 returns-4 c = search (vertex-falls, needs, c .before .before .if2 .left)
 
