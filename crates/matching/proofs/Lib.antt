@@ -1,0 +1,10 @@
+-- Laws of matching.
+pub mod Closeness
+pub mod FirstLines
+pub mod Mismatches
+pub mod Readings
+pub mod NumberLines
+pub mod DecimalLines
+pub mod Judging
+pub mod Meaning
+pub mod Examples

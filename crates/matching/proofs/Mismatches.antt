@@ -1,0 +1,65 @@
+-- Laws of the loops that look for a mismatch of numbers: what holds at the start, at a turn and at each way out. Assumes nothing.
+use mathlib.Core.Path.{_≡_, refl, sym, ap, ap₂, _∙_}
+use mathlib.Core.Bool.{Bool, true, false, not, Bool·beq}
+use mathlib.Core.List.{List}
+use Prim.Native.Nat.{ℕ, _+_, _-_, _≤_, _<_}
+use native.Mathlib.Omega.{arith}
+use lib.IntN.{ℤ, pos}
+use lib.ListN.{length, getD, drop}
+use borrow.Author.Tests.{not-true, not-false}
+use Rattle.basis.specs.Order.{sameZ}
+use Rattle.basis.specs.Scan.{every}
+use Rattle.basis.proofs.Scans.{every-more, every-fail}
+use Rattle.matching.specs.Verdict.{firstLine, unequalLine, sameKind, agrees, failingLine, unlikeLine}
+use Rattle.matching.proofs.FirstLines.{first-end, first-here, first-later, fails-nowhere, fails-here, fails-later}
+
+-- ---- the first line at which two lists of one length differ, i places being passed
+module _ (a b : List ℤ) (e : length a ≡ length b) (i : ℕ) (h : unequalLine a b ≡ firstLine sameZ (i + 1) (drop i a) (drop i b)) where
+  pub unequal-end : length a ≤ i → 0 ≡ unequalLine a b
+  unequal-end l = sym (h ∙ first-end sameZ (pos 0) (pos 0) a b e i l)
+
+  module _ (l : i < length a) {x y : ℤ} (p : x ≡ getD a i (pos 0)) (q : y ≡ getD b i (pos 0)) {t : Bool} (s : t ≡ sameZ x y) where
+    test : t ≡ sameZ (getD a i (pos 0)) (getD b i (pos 0))
+    test = s ∙ ap₂ sameZ p q
+
+    pub unequal-here : not t ≡ true → i + 1 ≡ unequalLine a b
+    unequal-here f = sym (h ∙ first-here sameZ (pos 0) (pos 0) a b e i l (sym test ∙ not-true t f))
+
+    pub unequal-later : not t ≡ false → unequalLine a b ≡ firstLine sameZ (i + 1 + 1) (drop (i + 1) a) (drop (i + 1) b)
+    unequal-later f = h ∙ first-later sameZ (pos 0) (pos 0) a b e i l (sym test ∙ not-false t f)
+
+-- ---- four labels that went through the machine's bits
+pub unlike-of : (x y v w : ℤ) {x′ y′ v′ w′ : ℤ} {s t : Bool} → x′ ≡ x → y′ ≡ y → v′ ≡ v → w′ ≡ w → s ≡ sameZ x′ y′ → t ≡ sameZ v′ w′
+    → not (Bool·beq s t) ≡ not (Bool·beq (sameZ x y) (sameZ v w))
+unlike-of x y v w p q m n f g = ap₂ (λ s t. not (Bool·beq s t)) (f ∙ ap₂ sameZ p q) (g ∙ ap₂ sameZ m n)
+
+-- ---- the first line that disagrees in kind with an earlier one
+pub unlike-start : (a b : List ℤ) → unlikeLine a b ≡ failingLine (agrees a b) (length a - 0) 0
+unfolding unlikeLine
+unlike-start a b = let e : length a - 0 ≡ length a = omega arith in rw e
+
+module _ (a b : List ℤ) (n i : ℕ) (h : unlikeLine a b ≡ failingLine (agrees a b) (n - i) i) where
+  pub unlike-end : n ≤ i → 0 ≡ unlikeLine a b
+  unlike-end l = sym (h ∙ fails-nowhere (agrees a b) n i l)
+
+  -- the earlier lines up to j agree with line i
+  module _ (l : i < n) (j : ℕ) (k : every j (sameKind a b i) ≡ true) where
+    pub unlike-later : i ≤ j → j ≤ i → unlikeLine a b ≡ failingLine (agrees a b) (n - (i + 1)) (i + 1)
+    unfolding agrees
+    unlike-later f g =
+        let q : j ≡ i = omega arith in
+        h ∙ fails-later (agrees a b) n i l (rw q at k)
+
+    -- the test of lines i and j, by what was read
+    module _ {x y v w : ℤ} (p : x ≡ getD a i (pos 0)) (q : y ≡ getD a j (pos 0)) (r : v ≡ getD b i (pos 0)) (o : w ≡ getD b j (pos 0))
+        {t : Bool} (s : t ≡ not (Bool·beq (sameZ x y) (sameZ v w))) where
+      kind : t ≡ not (sameKind a b i j)
+      unfolding sameKind
+      kind = s ∙ ap₂ (λ s t. not (Bool·beq s t)) (ap₂ sameZ p q) (ap₂ sameZ r o)
+
+      pub unlike-here : j < i → t ≡ true → i + 1 ≡ unlikeLine a b
+      unfolding agrees
+      unlike-here f g = sym (h ∙ fails-here (agrees a b) n i l (every-fail (sameKind a b i) i j f (not-true (sameKind a b i j) (sym kind ∙ g))))
+
+      pub like-more : t ≡ false → every (j + 1) (sameKind a b i) ≡ true
+      like-more g = every-more (sameKind a b i) j k (not-false (sameKind a b i j) (sym kind ∙ g))

@@ -1,0 +1,50 @@
+-- What a claim of numbers, and one of coefficients, is told by the functions that judge them.
+use Prim.Native.Nat.{ℕ, _^_}
+use mathlib.Core.Bool.{Bool, cond, _&&_}
+use mathlib.Core.List.{List}
+use lib.IntN.{ℤ}
+use lib.ListN.{length, getD, take}
+use lib.Dec.{leb, ltb}
+use Rattle.basis.specs.Refusal.{Said, refuses, plain, noRoom}
+use Rattle.basis.specs.Area.{column, clearedZ}
+use Rattle.text.specs.declared.decimal.Decimal.{Decimal}
+use Rattle.matching.specs.declared.numbers.Rule.{Rule}
+use Rattle.matching.specs.Claim.{numberLines, coefficientLines}
+use Rattle.matching.specs.Verdict.{Verdict, Fraction, near, firstLine, mismatchLine, judgedBy}
+
+-- what was said, and what stands in the working area
+pub record Outcome : Type 0 where
+  pub said : Said Verdict
+  pub claimed : List ℤ
+
+abbrev pub outcome : Said Verdict → List ℤ → Outcome
+outcome said claimed = record { said = said; claimed = claimed }
+
+-- 8, then the claim: the first n values of the reference output are those of the n vertices; "working areas are zero throughout"
+unfoldable pub numbersCall : Rule → ℕ → List ℤ → List ℤ → List ℕ → List ℤ → Outcome
+numbersCall rule most ids reference s claimed =
+    outcome
+    (cond (leb (length ids) (length reference) && leb (length ids) (length claimed))
+    (judgedBy ids (mismatchLine rule (take (length ids) reference)) (numberLines most s))
+    (refuses (plain noRoom)))
+    (clearedZ claimed)
+
+-- a fraction whose terms are below 2^32, as every coefficient's are, and a decimal near it
+unfoldable pub nearWithin : Fraction → Decimal → Bool
+nearWithin r s = ltb (r .0) (2 ^ 32) && (ltb (r .1) (2 ^ 32) && near r s)
+
+abbrev pub farWithin : List Fraction → List Decimal → ℕ
+farWithin reference claimed = firstLine nearWithin 1 reference claimed
+
+-- the fraction at a place of two areas, and the first n of them
+abbrev pub fractionAt : List ℕ → List ℕ → ℕ → Fraction
+fractionAt nums dens i = (getD nums i 0, getD dens i 0)
+
+abbrev pub fractions : ℕ → List ℕ → List ℕ → List Fraction
+fractions n nums dens = column (fractionAt nums dens) 0 n
+
+unfoldable pub coefficientsSays : ℕ → List ℤ → List ℕ → List ℕ → List ℕ → Said Verdict
+coefficientsSays most ids nums dens s =
+    cond (leb (length ids) (length nums) && leb (length ids) (length dens))
+    (judgedBy ids (farWithin (fractions (length ids) nums dens)) (coefficientLines most s))
+    (refuses (plain noRoom))

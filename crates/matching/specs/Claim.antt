@@ -1,0 +1,43 @@
+-- 01 "Claims and verdicts": the lines of a claim. "All lines are read for 1, 2 and 3 first".
+use Prim.Native.Nat.{ℕ, zero, suc, _+_}
+use mathlib.Core.Bool.{cond}
+use mathlib.Core.List.{List, [], _∷_}
+use lib.IntN.{ℤ}
+use lib.ListN.{length}
+use lib.Dec.{leb}
+use Rattle.basis.specs.Refusal.{Said, gives, refuses, at, tooMany, claimFile}
+use Rattle.text.specs.Line.{LineSaid, line, none, fault, claimLine, coefficientLine}
+use Rattle.text.specs.declared.decimal.Decimal.{Decimal}
+
+-- a line before the lines that follow, if these are not refused
+abbrev pub before : {A : Type 0} → A → Said (List A) → Said (List A)
+before v (gives l) = gives (v ∷ l)
+before v (refuses r) = refuses r
+
+-- the lines from a place on, the next being line k, of which so many more are allowed; the line after the last allowed one is refused whatever its form
+module _ {A : Type 0} (read : ℕ → LineSaid A) (size : ℕ) where
+  unfoldable pub linesFrom : ℕ → ℕ → ℕ → Said (List A)
+  linesFrom zero k place = cond (leb size place) (gives []) (refuses (at tooMany claimFile k))
+  linesFrom (suc allowed) k place =
+      elim (read place) [
+        | line v next ↦ before v (linesFrom allowed (k + 1) next)
+        | none p ↦ gives []
+        | fault number p ↦ refuses (at number claimFile k)
+      ]
+
+-- "For BFS, WCC and CDLP the value is in identifier form": the lines of such a claim, at most so many
+abbrev pub numberLines : ℕ → List ℕ → Said (List (ℤ × ℤ))
+numberLines most s = linesFrom (claimLine s) (length s) most 1 0
+
+-- "For LCC it is a plain or scientific decimal"
+abbrev pub coefficientLines : ℕ → List ℕ → Said (List (ℤ × Decimal))
+coefficientLines most s = linesFrom (coefficientLine s) (length s) most 1 0
+
+-- the identifiers and the values that a claim's lines name
+abbrev pub idsOf : {A : Type 0} → List (ℤ × A) → List ℤ
+idsOf [] = []
+idsOf (x ∷ l) = x .0 ∷ idsOf l
+
+abbrev pub valuesOf : {A : Type 0} → List (ℤ × A) → List A
+valuesOf [] = []
+valuesOf (x ∷ l) = x .1 ∷ valuesOf l

@@ -1,0 +1,126 @@
+-- Laws of the public verdict: room in five areas, and one law for each kernel. Assumes nothing.
+use mathlib.Core.Path.{_≡_, refl, sym, ap, ap₂, _∙_}
+use mathlib.Core.Bool.{Bool, true, false, cond, _&&_}
+use mathlib.Core.List.{List, []}
+use Prim.Native.Nat.{ℕ, _-_, _≤_, _<_}
+use native.Mathlib.Nat.{sub-zero}
+use lib.Dec.{eqb, leb}
+use lib.IntN.{ℤ, pos}
+use lib.ListN.{length, replicate}
+use borrow.Author.Tests.{le-leb, lt-leb, leb-true, eq-eqb, ne-eqb}
+use Rattle.basis.specs.Refusal.{Said, gives, refuses, plain, unknownNumber}
+use Rattle.basis.specs.declared.refusal.Refusal.{Refusal}
+use Rattle.basis.specs.Area.{leaves, cleared, clearedZ}
+use Rattle.basis.proofs.Tests.{and-first, and-second}
+use Rattle.graph.specs.Sound.{Graph, soundGraph}
+use Rattle.matching.specs.Verdict.{Verdict}
+use Rattle.verdicts.specs.Reference.{Reference, bfsReference, wccReference, cdlpReference, lccReference}
+use Rattle.verdicts.specs.Call.{Outcome, outcome, roomFor, verdictSays, leftBy, callOn, unknownCall, verdictCall}
+use Rattle.verdicts.specs.Steps.{Roomy, Numbers, numbers, numbersCall, Terms, terms, termsCall}
+
+-- ---- room in areas of five lengths: where it lacks first
+module _ (n a b c d e : ℕ) where
+  pub lacks-first : a < n → false ≡ (leb n a && (leb n b && (leb n c && (leb n d && leb n e))))
+  lacks-first h = rw (lt-leb n a h)
+
+  module _ (f : n ≤ a) where
+    pub lacks-second : b < n → false ≡ (leb n a && (leb n b && (leb n c && (leb n d && leb n e))))
+    lacks-second h = rw (le-leb n a f, lt-leb n b h)
+
+    module _ (g : n ≤ b) where
+      pub lacks-third : c < n → false ≡ (leb n a && (leb n b && (leb n c && (leb n d && leb n e))))
+      lacks-third h = rw (le-leb n a f, le-leb n b g, lt-leb n c h)
+
+      module _ (i : n ≤ c) where
+        pub lacks-fourth : d < n → false ≡ (leb n a && (leb n b && (leb n c && (leb n d && leb n e))))
+        lacks-fourth h = rw (le-leb n a f, le-leb n b g, le-leb n c i, lt-leb n d h)
+
+        pub lacks-last : n ≤ d → leb n e ≡ (leb n a && (leb n b && (leb n c && (leb n d && leb n e))))
+        lacks-last h = rw (le-leb n a f, le-leb n b g, le-leb n c i, le-leb n d h)
+
+  -- what the answer says of each
+  module _ {room : Bool} (p : room ≡ (leb n a && (leb n b && (leb n c && (leb n d && leb n e))))) where
+    later : room ≡ true → (leb n b && (leb n c && (leb n d && leb n e))) ≡ true
+    later t = and-second (leb n a) _ (sym p ∙ t)
+
+    last : room ≡ true → (leb n c && (leb n d && leb n e)) ≡ true
+    last t = and-second (leb n b) _ (later t)
+
+    pub roomy : (Roomy room n a × Roomy room n b) × (Roomy room n c × Roomy room n d × Roomy room n e)
+    roomy = (
+      (λ t. leb-true n a (and-first (leb n a) _ (sym p ∙ t)), λ t. leb-true n b (and-first (leb n b) _ (later t))),
+      (
+        λ t. leb-true n c (and-first (leb n c) _ (last t)),
+        λ t. leb-true n d (and-first (leb n d) (leb n e) (and-second (leb n c) _ (last t))),
+        λ t. leb-true n e (and-second (leb n d) (leb n e) (and-second (leb n c) _ (last t))),
+      ),
+    )
+
+-- ---- the outcome from its parts
+all-same : {x y : Said Verdict} {R R′ C C′ : List ℤ} {F F′ S S′ T T′ : List ℕ} → x ≡ y → R ≡ R′ → C ≡ C′ → F ≡ F′ → S ≡ S′ → T ≡ T′ → outcome x R C F S T ≡ outcome y R′ C′ F′ S′ T′
+all-same a b c d e f = cc
+
+-- no results of this kind
+leaves-none : {A : Type 0} (x : Said Verdict) (z : A) (size : ℕ) → replicate size z ≡ leaves x z size []
+leaves-none (gives v) z size = ap (λ (k : ℕ). replicate k z) (sym (sub-zero size))
+leaves-none (refuses r) z size = refl
+
+module _ (k : Reference) (g : Graph) (R C : List ℤ) (F S T : List ℕ) {room : Bool} (p : room ≡ roomFor (g .vertices) R C F S T)
+    {x : Said Verdict} {R′ C′ : List ℤ} {F′ S′ T′ : List ℕ} where
+  numbers-call : k .numerators ≡ [] → k .denominators ≡ [] → numbers x R′ C′ ≡ numbersCall k (soundGraph g) room R C → F′ ≡ cleared F → S′ ≡ cleared S → T′ ≡ cleared T
+      → outcome x R′ C′ F′ S′ T′ ≡ callOn k g R C F S T
+  unfolding numbersCall callOn leftBy
+  numbers-call u w h f s t =
+      let y = verdictSays k (soundGraph g) room in
+      rw (← p)
+      (all-same (ap (λ (o : Numbers). o .said) h) (ap (λ (o : Numbers). o .result) h) (ap (λ (o : Numbers). o .claimed) h) (f ∙ leaves-none y 0 (length F) ∙ ap (leaves y 0 (length F)) (sym u)) (s ∙ leaves-none y 0 (length S) ∙ ap (leaves y 0 (length S)) (sym w)) t)
+
+  terms-call : k .values ≡ [] → terms x F′ S′ ≡ termsCall k (soundGraph g) room F S → R′ ≡ clearedZ R → C′ ≡ clearedZ C → T′ ≡ cleared T
+      → outcome x R′ C′ F′ S′ T′ ≡ callOn k g R C F S T
+  unfolding termsCall callOn leftBy
+  terms-call u h r c t =
+      let y = verdictSays k (soundGraph g) room in
+      rw (← p)
+      (all-same (ap (λ (o : Terms). o .said) h) (r ∙ leaves-none y (pos 0) (length R) ∙ ap (leaves y (pos 0) (length R)) (sym u)) c (ap (λ (o : Terms). o .first) h) (ap (λ (o : Terms). o .second) h) t)
+
+-- ---- by the kernel's number
+module _ (most : ℕ) (g : Graph) (kernel : ℕ) (parameter : ℤ) (s : List ℕ) (R C : List ℤ) (F S T : List ℕ) where
+  pub verdict-unknown : (kernel ≡ 1 → ⊥) → (kernel ≡ 2 → ⊥) → (kernel ≡ 3 → ⊥) → (kernel ≡ 4 → ⊥) → {x : Outcome} → x ≡ unknownCall R C F S T
+      → x ≡ verdictCall most g kernel parameter s R C F S T
+  unfolding verdictCall
+  verdict-unknown a b c d h = rw (ne-eqb kernel 1 a, ne-eqb kernel 2 b, ne-eqb kernel 3 c, ne-eqb kernel 4 d) h
+
+  module _ {room : Bool} (p : room ≡ (leb (g .vertices) (length R) && (leb (g .vertices) (length C) && (leb (g .vertices) (length F) && (leb (g .vertices) (length S) && leb (g .vertices) (length T))))))
+      {x : Said Verdict} {R′ C′ : List ℤ} {F′ S′ T′ : List ℕ} where
+    pub verdict-bfs : {parameter′ : ℤ} → parameter′ ≡ parameter → kernel ≡ 1 → numbers x R′ C′ ≡ numbersCall (bfsReference most g s parameter′) (soundGraph g) room R C → F′ ≡ cleared F → S′ ≡ cleared S → T′ ≡ cleared T
+        → outcome x R′ C′ F′ S′ T′ ≡ verdictCall most g kernel parameter s R C F S T
+    unfolding verdictCall roomFor
+    verdict-bfs {parameter′} q e h a b c =
+        numbers-call (bfsReference most g s parameter′) g R C F S T p refl refl h a b c
+        ∙ rw (e, q)
+
+    pub verdict-wcc : (kernel ≡ 1 → ⊥) → kernel ≡ 2 → numbers x R′ C′ ≡ numbersCall (wccReference most g s) (soundGraph g) room R C
+        → (F′ ≡ cleared F) × (S′ ≡ cleared S) → T′ ≡ cleared T → outcome x R′ C′ F′ S′ T′ ≡ verdictCall most g kernel parameter s R C F S T
+    unfolding verdictCall roomFor
+    verdict-wcc i e h a c =
+        numbers-call (wccReference most g s) g R C F S T p refl refl h (a .0) (a .1) c
+        ∙ rw e
+
+    pub verdict-cdlp : {parameter′ : ℤ} → parameter′ ≡ parameter → (kernel ≡ 1 → ⊥) → (kernel ≡ 2 → ⊥) → kernel ≡ 3 → numbers x R′ C′ ≡ numbersCall (cdlpReference most g s parameter′) (soundGraph g) room R C
+        → (F′ ≡ cleared F) × (S′ ≡ cleared S) × (T′ ≡ cleared T) → outcome x R′ C′ F′ S′ T′ ≡ verdictCall most g kernel parameter s R C F S T
+    unfolding verdictCall roomFor
+    verdict-cdlp {parameter′} q i j e h a =
+        numbers-call (cdlpReference most g s parameter′) g R C F S T p refl refl h (a .0) (a .1) (a .2)
+        ∙ rw (e, q)
+
+    pub verdict-lcc : (kernel ≡ 1 → ⊥) → (kernel ≡ 2 → ⊥) → (kernel ≡ 3 → ⊥) → kernel ≡ 4 → terms x F′ S′ ≡ termsCall (lccReference most g s) (soundGraph g) room F S
+        → R′ ≡ clearedZ R → C′ ≡ clearedZ C → T′ ≡ cleared T → outcome x R′ C′ F′ S′ T′ ≡ verdictCall most g kernel parameter s R C F S T
+    unfolding verdictCall roomFor
+    verdict-lcc i j l e h a b c =
+        terms-call (lccReference most g s) g R C F S T p refl h a b c
+        ∙ rw e
+
+pub unknown-all : (R C : List ℤ) (F S T : List ℕ) {R′ C′ : List ℤ} {F′ S′ T′ : List ℕ} {r : Refusal} → r ≡ plain unknownNumber → R′ ≡ clearedZ R → C′ ≡ clearedZ C → F′ ≡ cleared F → S′ ≡ cleared S → T′ ≡ cleared T
+    → outcome (refuses r) R′ C′ F′ S′ T′ ≡ unknownCall R C F S T
+unfolding unknownCall
+unknown-all R C F S T e a b c d f = all-same (ap refuses e) a b c d f

@@ -1,0 +1,6 @@
+-- Laws of verdicts.
+pub mod Settling
+pub mod Running
+pub mod Kernels
+pub mod Fractions
+pub mod Calls

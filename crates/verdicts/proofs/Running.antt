@@ -1,0 +1,120 @@
+-- What a kernel's run leaves for the verdict, for any kernel; and that the verdict then is the definition's. Assumes nothing.
+use mathlib.Core.Path.{_≡_, refl, sym, ap, ap₂, _∙_, subst}
+use mathlib.Core.Bool.{Bool, true, false, cond, _&&_}
+use mathlib.Core.List.{List, [], _∷_, _++_}
+use Prim.Native.Nat.{ℕ, _-_, _≤_}
+use native.Mathlib.Omega.{arith}
+use lib.IntN.{ℤ, pos}
+use lib.ListN.{length, take, replicate, length-replicate}
+use lib.Seq.{take-at}
+use Rattle.basis.specs.Refusal.{Said, gives, refuses, plain, noRoom, unsound}
+use Rattle.basis.specs.declared.refusal.Refusal.{Refusal}
+use Rattle.basis.specs.Area.{padWith, leaves, cleared, clearedZ}
+use Rattle.basis.proofs.Tests.{clash}
+use Rattle.basis.proofs.Areas.{pad-length}
+use Rattle.kernels.specs.Answer.{kernelSays}
+use Rattle.matching.specs.declared.numbers.Rule.{Rule}
+use Rattle.matching.specs.Claim.{numberLines}
+use Rattle.matching.specs.Verdict.{Verdict, mismatchLine, judgedBy}
+use Rattle.verdicts.specs.Reference.{Reference}
+use Rattle.verdicts.specs.Call.{onward, verdictSays}
+use Rattle.verdicts.specs.Steps.{kept, Known, Roomy, Numbers, numbers, numbersSays, numbersOn, numbersCall}
+use Rattle.verdicts.proofs.Settling.{both-numbers}
+
+-- ---- what a kernel says
+refused-done : {r : Refusal} → _≡_ {A = Said (Unit {0})} (refuses r) (gives tt) → ⊥
+refused-done e = let z : _≡_ {A = ℕ} 0 1 = cc in omega arith
+
+pub record Fine (sound given room : Bool) : Type 0 where
+  pub isSound : sound ≡ true
+  pub isGiven : given ≡ true
+  pub hasRoom : room ≡ true
+
+pub says-done : (a b : Bool) (m : ℕ) (r : Bool) → kernelSays a b m r ≡ gives tt → Fine a b r
+unfolding kernelSays
+says-done true true m true e = record { isSound = refl; isGiven = refl; hasRoom = refl }
+says-done true true m false e = absurd (refused-done e)
+says-done true false m r e = absurd (refused-done e)
+says-done false b m r e = absurd (refused-done e)
+
+-- room in all areas is room in the kernel's own
+pub says-rooms : (a b : Bool) (m : ℕ) (own room : Bool) (x : Said Verdict) → (room ≡ true → own ≡ true)
+    → onward (kernelSays a b m own) (cond room x (refuses (plain noRoom))) ≡ onward (kernelSays a b m room) x
+unfolding kernelSays
+says-rooms true true m true true x h = refl
+says-rooms true true m true false x h = refl
+says-rooms true true m false true x h = clash (h refl) refl
+says-rooms true true m false false x h = refl
+says-rooms true false m own room x h = refl
+says-rooms false b m own room x h = refl
+
+pub onward-same : (a : Said (Unit {0})) {x y : Said Verdict} → (a ≡ gives tt → x ≡ y) → onward a x ≡ onward a y
+onward-same (gives tt) h = h refl
+onward-same (refuses r) h = refl
+
+-- ---- what it leaves in a result area
+module _ {A : Type 0} (z : A) (size : ℕ) (l : List A) where
+  leaves-length : (a : Said (Unit {0})) → (a ≡ gives tt → length l ≤ size) → length (leaves a z size l) ≡ size
+  leaves-length (gives tt) h = pad-length z size l (h refl)
+  leaves-length (refuses r) h = length-replicate size z
+
+  leaves-front : (a : Said (Unit {0})) (n : ℕ) → a ≡ gives tt → length l ≡ n → take n (leaves a z size l) ≡ l
+  leaves-front (gives tt) n e h = take-at l (replicate (size - length l) z) n h
+  leaves-front (refuses r) n e h = absurd (refused-done e)
+
+  -- the claim's verdict or refusal, on top of it
+  kept-leaves : (a : Said (Unit {0})) (x : Said Verdict) → (a ≡ gives tt → length l ≤ size) → kept (onward a x) z (leaves a z size l) ≡ leaves (onward a x) z size l
+  kept-leaves (gives tt) (gives v) h = refl
+  kept-leaves (gives tt) (refuses r) h = ap (λ (k : ℕ). replicate k z) (pad-length z size l (h refl))
+  kept-leaves (refuses r) x h = ap (λ (k : ℕ). replicate k z) (length-replicate size z)
+
+-- ---- a kernel of n vertices, after its run on a result area of so many places
+pub record Ran {A : Type 0} (z : A) (given : Bool) (number : ℕ) (values : List A) (n count : ℕ) (sound own : Bool) (size : ℕ) (answer : Said (Unit {0})) (left : List A) : Type 0 where
+  pub said : answer ≡ kernelSays sound given number own
+  pub leaving : left ≡ leaves answer z size values
+  pub whole : sound ≡ true → given ≡ true → length values ≡ n
+  pub known : sound ≡ true → n ≤ count
+  pub ownRoom : own ≡ true → n ≤ size
+
+module _ {A : Type 0} {z : A} {given : Bool} {number : ℕ} {values : List A} {n count : ℕ} {sound own : Bool} {size : ℕ} {answer : Said (Unit {0})} {left : List A}
+    (h : Ran z given number values n count sound own size answer left) where
+  pub ran-fine : answer ≡ gives tt → Fine sound given own
+  ran-fine e = says-done sound given number own (sym (h .said) ∙ e)
+
+  pub ran-known : Known answer n count
+  ran-known e = h .known (ran-fine e .isSound)
+
+  lengths : answer ≡ gives tt → length values ≡ n
+  lengths e = h .whole (ran-fine e .isSound) (ran-fine e .isGiven)
+
+  fits : answer ≡ gives tt → length values ≤ size
+  fits e = rw (lengths e) (h .ownRoom (ran-fine e .hasRoom))
+
+  ran-length : length left ≡ size
+  ran-length = ap length (h .leaving) ∙ leaves-length z size values answer fits
+
+  pub ran-roomy : {room : Bool} → Roomy room n size → Roomy room n (length left)
+  ran-roomy f e = rw ran-length (f e)
+
+  pub ran-front : answer ≡ gives tt → take n left ≡ values
+  ran-front e = ap (take n) (h .leaving) ∙ leaves-front z size values answer n e (lengths e)
+
+  pub ran-kept : (x : Said Verdict) {y : Said Verdict} → onward answer x ≡ y → kept (onward answer x) z left ≡ leaves y z size values
+  ran-kept x e =
+      ap (kept (onward answer x) z) (h .leaving) ∙ kept-leaves z size values answer x fits ∙ ap (λ (w : Said Verdict). leaves w z size values) e
+
+-- ---- the verdict on numbers
+module _ (k : Reference) {n : ℕ} (ids : List ℤ) {sound own : Bool} (R : List ℤ) {answer : Said (Unit {0})} {R′ : List ℤ}
+    (h : Ran (pos 0) (k .given) (k .number) (k .values) n (length ids) sound own (length R) answer R′)
+    {room : Bool} (r : room ≡ true → own ≡ true) (rule : Rule) (most : ℕ) (s : List ℕ)
+    (q : k .judged ≡ judgedBy (take n ids) (mismatchLine rule (k .values)) (numberLines most s)) where
+  says-same : numbersSays answer room rule most (take n ids) (take n R′) s ≡ verdictSays k sound room
+  unfolding numbersSays verdictSays
+  says-same =
+      onward-same answer
+      (λ e. ap (λ (l : List ℤ). cond room (judgedBy (take n ids) (mismatchLine rule l) (numberLines most s)) (refuses (plain noRoom))) (ran-front h e))
+      ∙ rw (h .said, ← q) (says-rooms sound (k .given) (k .number) own room (k .judged) r)
+
+  pub numbers-verdict : (C : List ℤ) {x : Numbers} → x ≡ numbersOn answer room rule most n ids s R′ C → x ≡ numbersCall k sound room R C
+  unfolding numbersOn numbersCall numbersSays
+  numbers-verdict C p = p ∙ both-numbers says-same (ran-kept h (cond room (judgedBy (take n ids) (mismatchLine rule (take n R′)) (numberLines most s)) (refuses (plain noRoom))) says-same) refl

@@ -1,0 +1,103 @@
+-- Laws of a claim on a kernel's results: one for each way out of the code. Assumes nothing.
+use mathlib.Core.Path.{_≡_, refl, sym, ap, ap₂, _∙_, subst}
+use mathlib.Core.Bool.{Bool, true, false, not, cond, _&&_}
+use mathlib.Core.List.{List}
+use Prim.Native.Nat.{ℕ, _≤_}
+use lib.Dec.{leb}
+use lib.IntN.{ℤ, pos}
+use lib.ListN.{length, take, replicate}
+use lib.Seq.{length-take-le}
+use borrow.Author.Tests.{le-leb, not-true, not-false}
+use Rattle.basis.specs.Refusal.{Said, gives, refuses, plain, noRoom}
+use Rattle.basis.specs.declared.refusal.Refusal.{Refusal}
+use Rattle.basis.specs.Area.{cleared, clearedZ}
+use Rattle.basis.proofs.Tests.{clash, failed, held}
+use Rattle.kernels.specs.declared.Answer.{Answer}
+use Rattle.kernels.specs.declared.Answer.the-variants as A
+use Rattle.kernels.specs.Answer.{says as answers}
+use Rattle.matching.specs.declared.judged.Judged.{Judged}
+use Rattle.matching.specs.declared.numbers.Rule.{Rule}
+use Rattle.matching.specs.Claim.{numberLines, coefficientLines}
+use Rattle.matching.specs.Verdict.{Verdict, says, mismatchLine, judgedBy}
+use Rattle.matching.specs.Calls as calls
+use Rattle.verdicts.specs.Call.{onward}
+use Rattle.verdicts.specs.Steps.{isRefused, kept, Known, Roomy, Numbers, numbers, numbersSays, numbersOn, Terms, terms, termsSays, termsOn}
+
+-- ---- an area after a verdict, and after a refusal, by the test t
+module _ {A : Type 0} (x : Said Verdict) (z : A) (l : List A) {t : Bool} (e : t ≡ isRefused x) where
+  stays : (y : Said Verdict) → isRefused y ≡ false → l ≡ kept y z l
+  stays (gives v) h = refl
+  stays (refuses r) h = clash refl h
+
+  goes : (y : Said Verdict) → isRefused y ≡ true → replicate (length l) z ≡ kept y z l
+  goes (gives v) h = clash h refl
+  goes (refuses r) h = refl
+
+  pub kept-stays : not t ≡ true → l ≡ kept x z l
+  kept-stays h = stays x (failed t (isRefused x) e h)
+
+  pub kept-goes : not t ≡ false → {left : List A} → left ≡ replicate (length l) z → left ≡ kept x z l
+  kept-goes h q = q ∙ goes x (held t (isRefused x) e h)
+
+pub both-numbers : {x y : Said Verdict} {a b c d : List ℤ} → x ≡ y → a ≡ b → c ≡ d → numbers x a c ≡ numbers y b d
+both-numbers p q r = cc
+
+pub both-terms : {x y : Said Verdict} {a b c d : List ℕ} → x ≡ y → a ≡ b → c ≡ d → terms x a c ≡ terms y b d
+both-terms p q r = cc
+
+-- a kernel that is done has the identifiers
+pub known-ids : (answer : Answer) (n size : ℕ) → answer ≡ A.Done → Known (answers answer) n size → n ≤ size
+known-ids answer n size e known = known (ap answers e)
+
+-- ---- a claim of numbers on what a kernel has answered
+module _ (answer : Answer) (room : Bool) (rule : Rule) (most n : ℕ) (ids : List ℤ) (s : List ℕ) (R C : List ℤ) where
+  pub numbers-refused : (r : Refusal) → answer ≡ A.Refused r → {x : Numbers} → x ≡ numbers (refuses r) (clearedZ R) (clearedZ C)
+      → x ≡ numbersOn (answers answer) room rule most n ids s R C
+  unfolding numbersOn numbersSays
+  numbers-refused r e q = rw e q
+
+  module _ (e : answer ≡ A.Done) where
+    pub numbers-short : not room ≡ true → (r : Refusal) → r ≡ plain noRoom → {x : Numbers} → x ≡ numbers (refuses r) (clearedZ R) (clearedZ C)
+        → x ≡ numbersOn (answers answer) room rule most n ids s R C
+    unfolding numbersOn numbersSays
+    numbers-short h r p q = rw (e, not-true room h) (q ∙ ap (λ (y : Refusal). numbers (refuses y) (clearedZ R) (clearedZ C)) p)
+
+    module _ (known : Known (answers answer) n (length ids)) where
+      pub numbers-done : not room ≡ false → Roomy room n (length R) × Roomy room n (length C)
+          → (j : Judged) (C′ : List ℤ) → calls.outcome (says j) C′ ≡ calls.numbersCall rule most (take n ids) R s C
+          → (i : Judged) (R′ : List ℤ) → (i ≡ j) × (R′ ≡ kept (says j) (pos 0) R)
+          → numbers (says i) R′ C′ ≡ numbersOn (answers answer) room rule most n ids s R C
+      unfolding numbersOn numbersSays calls.numbersCall
+      numbers-done h roomy j C′ q i R′ p =
+          let t = not-false room h in
+          let l = length-take-le n ids (known-ids answer n (length ids) e known) in
+          let f : says j ≡ judgedBy (take n ids) (mismatchLine rule (take n R)) (numberLines most s) =
+              ap (λ (o : calls.Outcome). o .said) q
+              ∙ rw (l, le-leb n (length R) (roomy .0 t), le-leb n (length C) (roomy .1 t)) in
+          rw (e, t) (both-numbers (ap says (p .0) ∙ f) (p .1 ∙ ap (λ (x : Said Verdict). kept x (pos 0) R) f) (ap (λ (o : calls.Outcome). o .claimed) q))
+
+-- ---- a claim of coefficients
+module _ (answer : Answer) (room : Bool) (most n : ℕ) (ids : List ℤ) (s F S : List ℕ) where
+  pub terms-refused : (r : Refusal) → answer ≡ A.Refused r → {x : Terms} → x ≡ terms (refuses r) (cleared F) (cleared S)
+      → x ≡ termsOn (answers answer) room most n ids s F S
+  unfolding termsOn termsSays
+  terms-refused r e q = rw e q
+
+  module _ (e : answer ≡ A.Done) where
+    pub terms-short : not room ≡ true → (r : Refusal) → r ≡ plain noRoom → {x : Terms} → x ≡ terms (refuses r) (cleared F) (cleared S)
+        → x ≡ termsOn (answers answer) room most n ids s F S
+    unfolding termsOn termsSays
+    terms-short h r p q = rw (e, not-true room h) (q ∙ ap (λ (y : Refusal). terms (refuses y) (cleared F) (cleared S)) p)
+
+    module _ (known : Known (answers answer) n (length ids)) where
+      pub terms-done : not room ≡ false → Roomy room n (length F) × Roomy room n (length S)
+          → (j : Judged) → says j ≡ calls.coefficientsSays most (take n ids) F S s
+          → {x : Terms} → x ≡ terms (says j) (kept (says j) 0 F) (kept (says j) 0 S)
+          → x ≡ termsOn (answers answer) room most n ids s F S
+      unfolding termsOn termsSays calls.coefficientsSays
+      terms-done h roomy j q p =
+          let t = not-false room h in
+          let l = length-take-le n ids (known-ids answer n (length ids) e known) in
+          let f : says j ≡ judgedBy (take n ids) (calls.farWithin (calls.fractions n F S)) (coefficientLines most s) =
+              q ∙ rw (l, le-leb n (length F) (roomy .0 t), le-leb n (length S) (roomy .1 t)) in
+          rw (e, t) (p ∙ both-terms f (ap (λ (x : Said Verdict). kept x 0 F) f) (ap (λ (x : Said Verdict). kept x 0 S) f))

@@ -1,0 +1,122 @@
+// A claim on what a kernel has answered and left in its result areas. A refusal leaves them zero.
+use basis::Refusal;
+use basis::area::clear;
+use basis::area::clear_signed;
+use basis::refusal::NO_ROOM;
+use kernels::Answer;
+use matching::Judged;
+use matching::coefficients::judge_coefficients;
+use matching::numbers::Rule;
+use matching::numbers::judge_numbers;
+ghost use mathlib.Core.Path.{_≡_};
+ghost use lib.ListN.{length};
+ghost use lib.IntN.{pos};
+ghost use Rattle.basis.specs.Refusal.{refuses};
+ghost use Rattle.basis.specs.Area.{cleared, clearedZ};
+ghost use Rattle.kernels.specs.Answer.{says as answers};
+ghost use Rattle.matching.specs.Verdict.{says};
+ghost use Rattle.verdicts.specs.Steps.{isRefused, kept, numbers, numbersOn, terms, termsOn, Known, Roomy};
+
+fn is_refused(judged: Judged) -> bool
+    ensures { λ r. ⌜ r ≡ isRefused (says judged) ⌝ }
+{
+    match judged {
+        Judged::Match => false,
+        Judged::Incomplete(_) => false,
+        Judged::Mismatch(_) => false,
+        Judged::Refused(_) => true,
+    }
+}
+
+// The results stay after a verdict.
+fn settle_numbers(judged: Judged, result: &mut [i64]) -> Judged
+    ensures { λ r. ⌜ (r ≡ judged) × (now (result .exit) ≡ kept (says judged) (pos 0) (now (result .entry))) ⌝ }
+{
+    if !is_refused(judged) {
+        return judged;
+    }
+    clear_signed(result);
+    judged
+}
+
+fn settle_terms(judged: Judged, first: &mut [usize], second: &mut [usize]) -> Judged
+    ensures { λ r. ⌜ terms (says r) (now (first .exit)) (now (second .exit)) ≡ terms (says judged) (kept (says judged) 0 (now (first .entry))) (kept (says judged) 0 (now (second .entry))) ⌝ }
+{
+    if !is_refused(judged) {
+        return judged;
+    }
+    clear(first);
+    clear(second);
+    judged
+}
+
+fn refuse_numbers(r: Refusal, result: &mut [i64], claimed: &mut [i64]) -> Judged
+    ensures { λ j. ⌜ numbers (says j) (now (result .exit)) (now (claimed .exit)) ≡ numbers (refuses r) (clearedZ (now (result .entry))) (clearedZ (now (claimed .entry))) ⌝ }
+{
+    clear_signed(result);
+    clear_signed(claimed);
+    Judged::Refused(r)
+}
+
+fn refuse_terms(r: Refusal, first: &mut [usize], second: &mut [usize]) -> Judged
+    ensures { λ j. ⌜ terms (says j) (now (first .exit)) (now (second .exit)) ≡ terms (refuses r) (cleared (now (first .entry))) (cleared (now (second .entry))) ⌝ }
+{
+    clear(first);
+    clear(second);
+    Judged::Refused(r)
+}
+
+// A claim of numbers on a kernel's results, by its rule; `room` says whether all areas have room.
+pub(crate) fn numbers_on(
+    answer: Answer,
+    room: bool,
+    rule: Rule,
+    most: usize,
+    n: usize,
+    ids: &[i64],
+    claim: &[u8],
+    result: &mut [i64],
+    claimed: &mut [i64],
+) -> Judged
+    requires { ⌜ Known (answers answer) n (length (now ids)) ⌝ }
+    requires { ⌜ (Roomy room n (length (now result))) × (Roomy room n (length (now claimed))) ⌝ }
+    ensures { λ r. ⌜ numbers (says r) (now (result .exit)) (now (claimed .exit)) ≡ numbersOn (answers answer) room rule most n (now (ids .entry)) (now (claim .entry)) (now (result .entry)) (now (claimed .entry)) ⌝ }
+{
+    match answer {
+        Answer::Refused(r) => refuse_numbers(r, result, claimed),
+        Answer::Done => {
+            if !room {
+                return refuse_numbers(Refusal::plain(NO_ROOM), result, claimed);
+            }
+            let judged = judge_numbers(rule, most, &ids[..n], result, claim, claimed);
+            settle_numbers(judged, result)
+        }
+    }
+}
+
+// A claim of coefficients on a kernel's two result areas.
+pub(crate) fn terms_on(
+    answer: Answer,
+    room: bool,
+    most: usize,
+    n: usize,
+    ids: &[i64],
+    claim: &[u8],
+    first: &mut [usize],
+    second: &mut [usize],
+) -> Judged
+    requires { ⌜ Known (answers answer) n (length (now ids)) ⌝ }
+    requires { ⌜ (Roomy room n (length (now first))) × (Roomy room n (length (now second))) ⌝ }
+    ensures { λ r. ⌜ terms (says r) (now (first .exit)) (now (second .exit)) ≡ termsOn (answers answer) room most n (now (ids .entry)) (now (claim .entry)) (now (first .entry)) (now (second .entry)) ⌝ }
+{
+    match answer {
+        Answer::Refused(r) => refuse_terms(r, first, second),
+        Answer::Done => {
+            if !room {
+                return refuse_terms(Refusal::plain(NO_ROOM), first, second);
+            }
+            let judged = judge_coefficients(most, &ids[..n], first, second, claim);
+            settle_terms(judged, first, second)
+        }
+    }
+}

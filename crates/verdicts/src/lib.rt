@@ -1,0 +1,6 @@
+// The verdict on a claimed result: a kernel's reference output, and the claim against it.
+pub mod claims;
+pub mod each;
+pub mod verdict;
+
+pub use matching::Judged;
