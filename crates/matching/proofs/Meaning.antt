@@ -66,11 +66,11 @@ module _ {A B : Type 0} (alike : A → B → Bool) (x : A) (y : B) where
 same-list : (xs ys : List ℤ) → Exactly (firstLine sameZ 1 xs ys ≡ 0) (ys ≡ xs)
 same-list xs ys = (
   λ e.
-  let h = line-none sameZ (pos 0) (pos 0) 0 xs ys e in
-  ext-getD (pos 0) ys xs (sym (h .long)) (λ i l. sym (signed-order .same-eq _ _ (h .everywhere i (subst (λ (j : ℕ). i < j) (sym (h .long)) l)))),
+      let h = line-none sameZ (pos 0) (pos 0) 0 xs ys e in
+      ext-getD (pos 0) ys xs (sym (h .long)) (λ i l. sym (signed-order .same-eq _ _ (h .everywhere i (subst (λ (j : ℕ). i < j) (sym (h .long)) l)))),
   λ e.
-  line-all sameZ (pos 0) (pos 0) 1 xs ys
-  (record { long = sym (ap length e); everywhere = λ i l. rw e (signed-order .same-refl (getD xs i (pos 0))) }),
+      line-all sameZ (pos 0) (pos 0) 1 xs ys
+      (record { long = sym (ap length e); everywhere = λ i l. rw e (signed-order .same-refl (getD xs i (pos 0))) }),
 )
 
 -- ---- a complete claim is accepted exactly where no line mismatches

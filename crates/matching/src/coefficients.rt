@@ -34,7 +34,14 @@ fn near(a: usize, b: usize, s: Decimal) -> bool
 }
 
 // The first mismatch, once the line after k others has claimed s.
-fn measured(numerators: &[usize], denominators: &[usize], n: usize, k: usize, s: Decimal, mismatch: usize) -> usize
+fn measured(
+    numerators: &[usize],
+    denominators: &[usize],
+    n: usize,
+    k: usize,
+    s: Decimal,
+    mismatch: usize,
+) -> usize
     requires { ⌜ (n ≤ length (now numerators)) × (n ≤ length (now denominators)) ⌝ }
     requires { ⌜ k < 2 ^ 64 - 1 ⌝ }
     ensures { λ r. ⌜ r ≡ nearStep n (now (numerators .entry)) (now (denominators .entry)) k s mismatch ⌝ }
@@ -52,7 +59,13 @@ fn measured(numerators: &[usize], denominators: &[usize], n: usize, k: usize, s:
 }
 
 // All lines are read, whatever is found in them, since a fault in a later one comes first.
-fn read_coefficients(most: usize, ids: &[i64], numerators: &[usize], denominators: &[usize], claim: &[u8]) -> Judged
+fn read_coefficients(
+    most: usize,
+    ids: &[i64],
+    numerators: &[usize],
+    denominators: &[usize],
+    claim: &[u8],
+) -> Judged
     requires { ⌜ (length (now ids) ≤ length (now numerators)) × (length (now ids) ≤ length (now denominators)) ⌝ }
     ensures { λ r. ⌜ says r ≡ judgedBy (now (ids .entry)) (farWithin (fractions (length (now (ids .entry))) (now (numerators .entry)) (now (denominators .entry)))) (coefficientLines most (now (claim .entry))) ⌝ }
 {
@@ -86,7 +99,13 @@ fn read_coefficients(most: usize, ids: &[i64], numerators: &[usize], denominator
 }
 
 // A claim of at most so many lines, on vertices with these identifiers.
-pub fn judge_coefficients(most: usize, ids: &[i64], numerators: &[usize], denominators: &[usize], claim: &[u8]) -> Judged
+pub fn judge_coefficients(
+    most: usize,
+    ids: &[i64],
+    numerators: &[usize],
+    denominators: &[usize],
+    claim: &[u8],
+) -> Judged
     ensures { λ r. ⌜ says r ≡ coefficientsSays most (now (ids .entry)) (now (numerators .entry)) (now (denominators .entry)) (now (claim .entry)) ⌝ }
 {
     if !both_room(ids.len(), numerators.len(), denominators.len()) {

@@ -5,3 +5,5 @@ pub mod Lines
 pub mod Loads
 pub mod Stored
 pub mod Runs
+pub mod Claims
+pub mod Hosts

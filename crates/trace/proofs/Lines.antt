@@ -21,12 +21,12 @@ pub said-readable : {A B : Type 0} {room : ℕ} (f : A → B) (s : Said A) → 0
 said-readable f s k h = onward-readable s h (λ x e. readable-silent _ k)
 
 -- "2 .. wrong form", "3 .. outside": no line has another fault by itself
-abbrev Faulty : {A : Type 0} → LineSaid A → Type 0
+abbrev pub Faulty : {A : Type 0} → LineSaid A → Type 0
 Faulty (line v next) = Unit {0}
 Faulty (none p) = Unit {0}
 Faulty (fault n p) = (0 < n) × (n ≤ 21)
 
-line-faulty : {A : Type 0} (word : List ℕ → Word A) (s : List ℕ) (place : ℕ) → Faulty (lineBy word s place)
+pub line-faulty : {A : Type 0} (word : List ℕ → Word A) (s : List ℕ) (place : ℕ) → Faulty (lineBy word s place)
 unfolding lineBy
 line-faulty {A} word s place = go (leb (length s) place) (mem lf (drop place s)) (word (upTo lf (drop place s)))
   where

@@ -1,5 +1,5 @@
 -- What a load says fits a number. Assumes nothing.
-use mathlib.Core.Path.{_≡_, refl, sym, ap, subst, _∙_}
+use mathlib.Core.Path.{_≡_, sym, ap}
 use mathlib.Core.Bool.{Bool, true, false, cond, _&&_}
 use mathlib.Core.List.{List}
 use Prim.Native.Nat.{ℕ, _+_, _≤_, _<_}
@@ -8,7 +8,6 @@ use lib.IntN.{ℤ}
 use lib.Signed.{ltZ}
 use lib.ListN.{length}
 use lib.Dec.{leb}
-use Rattle.book.proofs.Checks.{refused-given, given-one}
 use Rattle.basis.specs.Refusal.{Said, gives, refuses, plain, noRoom, unknownNumber, notAbove, selfEdge, largerFirst, unknownVertex, vertexFile, edgeFile}
 use Rattle.basis.specs.Order.{sameZ}
 use Rattle.graph.specs.declared.Size.{Size}
@@ -21,7 +20,7 @@ use Rattle.load.specs.Lines.{Before, first, after, linesOf, onward, said}
 use Rattle.load.specs.Files.{vertexTest, identifiers, isAbove, isThere, edgeTest, edgesOf, allNumbered}
 use Rattle.load.specs.Load.{Lists, Room, arcRoom, vertexRoom, withRoom, arcsRead, listsRead, loaded, isUndirected, sizeOf, outcome, outcomeOf, loadCall, library}
 use Rattle.load.specs.Steps.{arcCount}
-use Rattle.load.proofs.Values.{values-accepted}
+use Rattle.load.proofs.Accepts.{load-accepted}
 use Rattle.load.proofs.Arranges.{arc-count, length-numbered}
 use Rattle.trace.specs.Code.{coded, wide, Readable}
 use Rattle.trace.specs.Load.{loadValue, loadTold, loadTells}
@@ -73,84 +72,21 @@ module _ (room : ℕ) (limits : Limits) (few : limits .vertices + 1 < room) (les
   loaded-readable mode r vertices edges =
       readable-check (leb mode 1) unknownNumber (omega arith) (omega arith) (omega arith) (λ e. lists-readable (isUndirected mode) r vertices edges)
 
--- ---- what is given
-
-abbrev lists : List ℤ → List Arc → Lists
-lists ids l = record { ids = ids; arcs = l }
-
--- what the two files say, where a load accepts them
-pub record Accepts (limits : Limits) (mode : ℕ) (room : Room) (vertexBytes edgeBytes : List ℕ) (g : Lists) : Type 0 where
-  pub known : leb mode 1 ≡ true
-  pub ids : identifiers (limits .vertices) vertexBytes ≡ gives (g .ids)
-  pub places : vertexRoom (room .ids) (room .outOffsets) (room .inOffsets) (length (g .ids)) ≡ true
-  pub edges : List (ℤ × ℤ)
-  pub listed : edgesOf (isUndirected mode) (limits .edges) (g .ids) edgeBytes ≡ gives edges
-  pub are : arcs (isUndirected mode) (allNumbered (g .ids) edges) ≡ g .arcs
-  pub arcPlaces : arcRoom (room .outTargets) (room .inSources) (length (g .arcs)) ≡ true
-
-module _ (limits : Limits) (mode : ℕ) (room : Room) (vertices edges : List ℕ) where
-  pub accepts : (g : Lists) → loaded limits mode room vertices edges ≡ gives g → Accepts limits mode room vertices edges g
-  unfolding loaded listsRead arcsRead
-  accepts g h = by-mode (leb mode 1) refl h
-    where
-      by-arcs : (ids : List ℤ) (es : List (ℤ × ℤ)) → leb mode 1 ≡ true → identifiers (limits .vertices) vertices ≡ gives ids
-          → vertexRoom (room .ids) (room .outOffsets) (room .inOffsets) (length ids) ≡ true → edgesOf (isUndirected mode) (limits .edges) ids edges ≡ gives es
-          → (t : Bool) → arcRoom (room .outTargets) (room .inSources) (length (arcs (isUndirected mode) (allNumbered ids es))) ≡ t
-          → said (lists ids) (withRoom t (arcs (isUndirected mode) (allNumbered ids es))) ≡ gives g → Accepts limits mode room vertices edges g
-      by-arcs ids es m i p e true a h =
-          subst (Accepts limits mode room vertices edges) (given-one h)
-          (record { known = m; ids = i; places = p; edges = es; listed = e; are = refl; arcPlaces = a })
-      by-arcs ids es m i p e false a h = refused-given h
-
-      by-edges : (ids : List ℤ) → leb mode 1 ≡ true → identifiers (limits .vertices) vertices ≡ gives ids
-          → vertexRoom (room .ids) (room .outOffsets) (room .inOffsets) (length ids) ≡ true
-          → (x : Said (List (ℤ × ℤ))) → edgesOf (isUndirected mode) (limits .edges) ids edges ≡ x
-          → said (lists ids) (onward x (λ es. withRoom (arcRoom (room .outTargets) (room .inSources) (length (arcs (isUndirected mode) (allNumbered ids es)))) (arcs (isUndirected mode) (allNumbered ids es)))) ≡ gives g
-          → Accepts limits mode room vertices edges g
-      by-edges ids m i p (gives es) e h = by-arcs ids es m i p e (arcRoom (room .outTargets) (room .inSources) (length (arcs (isUndirected mode) (allNumbered ids es)))) refl h
-      by-edges ids m i p (refuses r) e h = refused-given h
-
-      by-room : (ids : List ℤ) → leb mode 1 ≡ true → identifiers (limits .vertices) vertices ≡ gives ids
-          → (t : Bool) → vertexRoom (room .ids) (room .outOffsets) (room .inOffsets) (length ids) ≡ t
-          → onward (withRoom t ids) (λ ids. said (lists ids) (arcsRead (isUndirected mode) (limits .edges) ids edges (room .outTargets) (room .inSources))) ≡ gives g
-          → Accepts limits mode room vertices edges g
-      by-room ids m i true p h = by-edges ids m i p (edgesOf (isUndirected mode) (limits .edges) ids edges) refl h
-      by-room ids m i false p h = refused-given h
-
-      by-ids : leb mode 1 ≡ true → (x : Said (List ℤ)) → identifiers (limits .vertices) vertices ≡ x
-          → onward x (λ ids. onward (withRoom (vertexRoom (room .ids) (room .outOffsets) (room .inOffsets) (length ids)) ids)
-          (λ ids. said (lists ids) (arcsRead (isUndirected mode) (limits .edges) ids edges (room .outTargets) (room .inSources)))) ≡ gives g
-          → Accepts limits mode room vertices edges g
-      by-ids m (gives ids) i h = by-room ids m i (vertexRoom (room .ids) (room .outOffsets) (room .inOffsets) (length ids)) refl h
-      by-ids m (refuses r) i h = refused-given h
-
-      by-mode : (t : Bool) → leb mode 1 ≡ t → cond t (listsRead limits (isUndirected mode) room vertices edges) (refuses (plain unknownNumber)) ≡ gives g
-          → Accepts limits mode room vertices edges g
-      by-mode true m h = by-ids m (identifiers (limits .vertices) vertices) refl h
-      by-mode false m h = refused-given h
-
-  -- the limits are kept
-  module _ (g : Lists) (a : Accepts limits mode room vertices edges g) where
-    pub few-vertices : length (g .ids) ≤ limits .vertices
-    few-vertices = let l = values-accepted vertexFile (limits .vertices) vertexTest 0 first (linesOf vertexLine vertices) (g .ids) (a .ids) (omega arith) .few in omega arith
-
-    pub few-arcs : length (g .arcs) ≤ limits .edges + limits .edges
-    few-arcs =
-        let l = values-accepted edgeFile (limits .edges) (edgeTest (isUndirected mode) (g .ids)) 0 first (linesOf edgeLine edges) (a .edges) (a .listed) (omega arith) .few in
-        let n = arc-count (isUndirected mode) (allNumbered (g .ids) (a .edges)) ∙ ap (arcCount (isUndirected mode)) (length-numbered (g .ids) (a .edges)) in
-        rw (sym (a .are)) (rw n (go (isUndirected mode) (let k = l in omega arith)))
-      where
-        go : (both : Bool) → length (a .edges) ≤ limits .edges → arcCount both (length (a .edges)) ≤ limits .edges + limits .edges
-        go true l = omega arith
-        go false l = omega arith
+-- ---- what is given: "each edge once .. and it stores two arcs" at the most
+pub arcs-few : (both : Bool) (ids : List ℤ) (es : List (ℤ × ℤ)) → length (arcs both (allNumbered ids es)) ≤ length es + length es
+arcs-few both ids es = rw (arc-count both (allNumbered ids es), length-numbered ids es) (go both)
+  where
+    go : (both : Bool) → arcCount both (length es) ≤ length es + length es
+    go true = omega arith
+    go false = omega arith
 
 -- ---- the call at library limits
 module _ (mode : ℕ) (room : Room) (vertices edges : List ℕ) where
   size-readable : Readable wide (said sizeOf (loaded library mode room vertices edges)) loadValue
   size-readable =
       onward-readable (loaded library mode room vertices edges) (loaded-readable wide library (omega arith) (omega arith) mode room vertices edges)
-      (λ g e. let a = accepts library mode room vertices edges g e in
-      readable-given (sizeOf g) (let n = few-vertices library mode room vertices edges g a in let m = few-arcs library mode room vertices edges g a in omega arith))
+      (λ g e. let ok = load-accepted library mode room vertices edges g .0 e in
+      readable-given (sizeOf g) (let n = ok .goodVertices .few in let k = ok .goodEdges .few in let m = arcs-few (isUndirected mode) (g .ids) (ok .list) in let e = ap length (ok .arcsAre) in omega arith))
 
   module _ (s : Said Size) (ids : List ℤ) (oo ot io is : List ℕ) (e : outcome s ids oo ot io is ≡ loadCall library mode room vertices edges) where
     pub load-readable : Readable wide s loadValue

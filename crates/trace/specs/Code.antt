@@ -27,6 +27,22 @@ lineIn code = code % 100000000000000
 abbrev pub wide : ℕ
 wide = 100000000000000
 
+-- and below 10^5 in the host call's verdict, "number × 1,000,000 + file × 100,000 + line"
+abbrev pub narrow : ℕ
+narrow = 100000
+
+abbrev pub hostCode : Refusal → ℕ
+hostCode r = r .number * 1000000 + r .file * 100000 + r .line
+
+abbrev pub hostNumberIn : ℕ → ℕ
+hostNumberIn code = code / 1000000
+
+abbrev pub hostFileIn : ℕ → ℕ
+hostFileIn code = code / 100000 % 10
+
+abbrev pub hostLineIn : ℕ → ℕ
+hostLineIn code = code % 100000
+
 -- what can be taken out of a number again: 01 has numbers up to 21, files up to 4, and lines that have room below the file
 pub record Small (room : ℕ) (r : Refusal) : Type 0 where
   pub number : r .number ≤ 21

@@ -3,4 +3,6 @@ pub mod Code
 pub mod Book
 pub mod Load
 pub mod Kernels
+pub mod Verdict
 pub mod Host
+pub mod Steps

@@ -1,5 +1,6 @@
 // An answer as one number, by its cases.
 use basis::Refusal;
+use basis::refusal::CLAIM_FILE;
 use book::Compared;
 use book::Headed;
 use book::Joined;
@@ -7,11 +8,14 @@ use book::Opened;
 use book::Reading;
 use kernels::Answer;
 use load::Loaded;
+use matching::Judged;
 ghost use mathlib.Core.Path.{_≡_};
 ghost use Rattle.kernels.specs.Answer.{says};
 ghost use Rattle.book.specs.Says.{saysOpened, saysJoined, saysHeaded, saysCompared, saysReading};
-ghost use Rattle.trace.specs.Code.{placed, coded, wide, Small, Readable, nothing};
+ghost use Rattle.trace.specs.Code.{placed, coded, hostCode, wide, narrow, Small, Readable, nothing};
 ghost use Rattle.load.specs.Load as Load;
+ghost use Rattle.matching.specs.Verdict as Verdict;
+ghost use Rattle.trace.specs.Verdict.{threeOf};
 ghost use Rattle.trace.specs.Load.{loadValue};
 ghost use Rattle.trace.specs.Book.{joinValue, headValue, sameValue, itself};
 
@@ -19,11 +23,37 @@ const NUMBER: u64 = 1000000000000000;
 
 const FILE: u64 = 100000000000000;
 
+const MATCH: usize = 0;
+
+const INCOMPLETE: usize = 20;
+
+const MISMATCH: usize = 21;
+
 pub(crate) fn refusal_code(r: Refusal) -> u64
     requires { ⌜ Small wide r ⌝ }
     ensures { λ k. ⌜ k ≡ placed r ⌝ }
 {
     r.number as u64 * NUMBER + r.file as u64 * FILE + r.line as u64
+}
+
+// The same where lines have less room.
+pub(crate) fn host_code(r: Refusal) -> u64
+    requires { ⌜ Small narrow r ⌝ }
+    ensures { λ k. ⌜ k ≡ hostCode r ⌝ }
+{
+    r.number as u64 * 1000000 + r.file as u64 * 100000 + r.line as u64
+}
+
+// The three numbers of a verdict or of a refusal.
+pub(crate) fn three_of(a: Judged) -> Refusal
+    ensures { λ r. ⌜ r ≡ threeOf (Verdict.says a) ⌝ }
+{
+    match a {
+        Judged::Match => Refusal::at(MATCH, CLAIM_FILE, 0),
+        Judged::Incomplete(line) => Refusal::at(INCOMPLETE, CLAIM_FILE, line),
+        Judged::Mismatch(line) => Refusal::at(MISMATCH, CLAIM_FILE, line),
+        Judged::Refused(r) => r,
+    }
 }
 
 pub(crate) fn opened_code(a: Opened) -> u64

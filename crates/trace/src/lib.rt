@@ -2,4 +2,5 @@
 mod code;
 pub mod four_kernels;
 pub mod group_book;
-pub mod lists;
+pub mod judging;
+pub mod loading;

@@ -72,8 +72,8 @@ module _ (answer : Answer) (room : Bool) (rule : Rule) (most n : ℕ) (ids : Lis
           let t = not-false room h in
           let l = length-take-le n ids (known-ids answer n (length ids) e known) in
           let f : says j ≡ judgedBy (take n ids) (mismatchLine rule (take n R)) (numberLines most s) =
-              ap (λ (o : calls.Outcome). o .said) q
-              ∙ rw (l, le-leb n (length R) (roomy .0 t), le-leb n (length C) (roomy .1 t)) in
+          ap (λ (o : calls.Outcome). o .said) q
+          ∙ rw (l, le-leb n (length R) (roomy .0 t), le-leb n (length C) (roomy .1 t)) in
           rw (e, t) (both-numbers (ap says (p .0) ∙ f) (p .1 ∙ ap (λ (x : Said Verdict). kept x (pos 0) R) f) (ap (λ (o : calls.Outcome). o .claimed) q))
 
 -- ---- a claim of coefficients
@@ -99,5 +99,5 @@ module _ (answer : Answer) (room : Bool) (most n : ℕ) (ids : List ℤ) (s F S 
           let t = not-false room h in
           let l = length-take-le n ids (known-ids answer n (length ids) e known) in
           let f : says j ≡ judgedBy (take n ids) (calls.farWithin (calls.fractions n F S)) (coefficientLines most s) =
-              q ∙ rw (l, le-leb n (length F) (roomy .0 t), le-leb n (length S) (roomy .1 t)) in
+          q ∙ rw (l, le-leb n (length F) (roomy .0 t), le-leb n (length S) (roomy .1 t)) in
           rw (e, t) (p ∙ both-terms f (ap (λ (x : Said Verdict). kept x 0 F) f) (ap (λ (x : Said Verdict). kept x 0 S) f))

@@ -28,7 +28,14 @@ const LCC: usize = 4;
 pub const MOST_LINES: usize = 65536;
 
 // Areas of these lengths have n places each.
-fn has_room(n: usize, result: usize, claimed: usize, first: usize, second: usize, third: usize) -> bool
+fn has_room(
+    n: usize,
+    result: usize,
+    claimed: usize,
+    first: usize,
+    second: usize,
+    third: usize,
+) -> bool
     ensures { λ r. ⌜ r ≡ (leb n result && (leb n claimed && (leb n first && (leb n second && leb n third)))) ⌝ }
 {
     if result < n {
@@ -46,7 +53,13 @@ fn has_room(n: usize, result: usize, claimed: usize, first: usize, second: usize
     n <= third
 }
 
-fn refuse_unknown(result: &mut [i64], claimed: &mut [i64], first: &mut [usize], second: &mut [usize], third: &mut [usize]) -> Judged
+fn refuse_unknown(
+    result: &mut [i64],
+    claimed: &mut [i64],
+    first: &mut [usize],
+    second: &mut [usize],
+    third: &mut [usize],
+) -> Judged
     ensures { λ r. ⌜ outcome (says r) (now (result .exit)) (now (claimed .exit)) (now (first .exit)) (now (second .exit)) (now (third .exit)) ≡ unknownCall (now (result .entry)) (now (claimed .entry)) (now (first .entry)) (now (second .entry)) (now (third .entry)) ⌝ }
 {
     clear_signed(result);

@@ -1,7 +1,7 @@
 use Rattle.trace.proofs.Loads.{load-readable, load-told}
 use borrow.Author.Needs.{needs}
-use Rattle.trace.proofs.lists.trace_load.Statement.{statement}
-use Rattle.trace.proofs.lists.trace_load.Tie as tie
+use Rattle.trace.proofs.loading.trace_load.Statement.{statement}
+use Rattle.trace.proofs.loading.trace_load.Tie as tie
 
 load-requires : tie.Need-load-requires
 load-requires c κs = search needs
