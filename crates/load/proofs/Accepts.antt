@@ -70,7 +70,6 @@ module _ {A : Type 0} (word : List ℕ → Word A) (s : List ℕ) where
       says-none malformed next h = let z : _≡_ {A = ℕ} 0 1 = cc in omega arith
       says-none outside next h = let z : _≡_ {A = ℕ} 0 1 = cc in omega arith
       says-none (value v) next h = let z : _≡_ {A = ℕ} 0 1 = cc in omega arith
-
       go : (t u : Bool) → leb (length s) place ≡ t
           → cond t (none place) (cond u (lineSays place (place + length (upTo lf (drop place s)) + 1) (word (upTo lf (drop place s)))) (fault 2 place)) ≡ none p → drop place s ≡ []
       go true u q h = drop-of-length-le s (leb-true (length s) place q)
@@ -147,9 +146,9 @@ pass-first (z ∷ l) h = (refl, rises-pass z l h)
 pub vertices-accepted : (most : ℕ) (s : List ℕ) (ids : List ℤ) → (identifiers most s ≡ gives ids) ↔ GoodVertices most s ids
 vertices-accepted most s ids = (
   (λ e. let a = values-accepted vertexFile most vertexTest 0 first (linesOf vertexLine s) ids e (omega arith) in
-      record { lines = lines-say identOf s ids .0 (a .lines); few = let l = a .few in omega arith; rise = ids-rise ids (a .passes) }),
+  record { lines = lines-say identOf s ids .0 (a .lines); few = let l = a .few in omega arith; rise = ids-rise ids (a .passes) }),
   λ g. accepted-values vertexFile most vertexTest 0 first (linesOf vertexLine s) ids
-      (record { lines = lines-say identOf s ids .1 (g .lines); passes = pass-first ids (g .rise); few = let l = g .few in omega arith }),
+  (record { lines = lines-say identOf s ids .1 (g .lines); passes = pass-first ids (g .rise); few = let l = g .few in omega arith }),
 )
 
 -- ---- the edge file
@@ -223,21 +222,21 @@ module _ (both : Bool) (ids : List ℤ) where
 pub edges-accepted : (both : Bool) (most : ℕ) (ids : List ℤ) (s : List ℕ) (es : List (ℤ × ℤ)) → (edgesOf both most ids s ≡ gives es) ↔ GoodEdges both most ids s es
 edges-accepted both most ids s es = (
   (λ e. let a = values-accepted edgeFile most (edgeTest both ids) 0 first (linesOf edgeLine s) es e (omega arith) in
-      let c = clauses-of both ids first es (a .passes) in
-      record {
-        lines = lines-say (twoOf identOf identOf) s es .0 (a .lines);
-        few = let l = a .few in omega arith;
-        rise = c .above;
-        apart = c .apart;
-        smaller = c .smaller;
-        there = c .there;
-      }),
+  let c = clauses-of both ids first es (a .passes) in
+  record {
+    lines = lines-say (twoOf identOf identOf) s es .0 (a .lines);
+    few = let l = a .few in omega arith;
+    rise = c .above;
+    apart = c .apart;
+    smaller = c .smaller;
+    there = c .there;
+  }),
   λ g. accepted-values edgeFile most (edgeTest both ids) 0 first (linesOf edgeLine s) es
-      (record {
-        lines = lines-say (twoOf identOf identOf) s es .1 (g .lines);
-        passes = passes-of both ids first es (record { above = g .rise; apart = g .apart; smaller = g .smaller; there = g .there });
-        few = let l = g .few in omega arith;
-      }),
+  (record {
+    lines = lines-say (twoOf identOf identOf) s es .1 (g .lines);
+    passes = passes-of both ids first es (record { above = g .rise; apart = g .apart; smaller = g .smaller; there = g .there });
+    few = let l = g .few in omega arith;
+  }),
 )
 
 -- ---- the load

@@ -9,3 +9,4 @@ pub mod Arranges
 pub mod Fills
 pub mod Loads
 pub mod Accepts
+pub mod Meaning

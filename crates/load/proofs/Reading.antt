@@ -241,7 +241,6 @@ module _ (both : Bool) (most : ℕ) (ids : List ℤ) (s : List ℕ) (c : Edges) 
             by : (o : ℕ) → (o ≡ 0 → ⊥) → o ≡ orElse o m
             by zero d = absurd (d refl)
             by (suc n) d = refl
-
         same : f ≡ lineFault
         same = g ∙ rw tested (go (leb most (c .lines)) (lookFault (lookedBy (placeIn ids a) (placeIn ids b))) (λ z. d (g ∙ z)))
 

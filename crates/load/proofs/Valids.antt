@@ -50,7 +50,7 @@ passed-test both ids before e t = rw (t .apart, t .smaller, t .above, t .from, t
 
 -- ---- identifiers that rise, and the numbers of those that are there
 module _ (ids : List ℤ) (rise : risingZ ids ≡ true) where
-  there : (id : ℤ) → isThere (placeIn ids id) ≡ true → (numberOf (placeIn ids id) < length ids) × (getD ids (numberOf (placeIn ids id)) (pos 0) ≡ id)
+  pub there : (id : ℤ) → isThere (placeIn ids id) ≡ true → (numberOf (placeIn ids id) < length ids) × (getD ids (numberOf (placeIn ids id)) (pos 0) ≡ id)
   there id h = go (placeIn ids id) refl h
     where
       go : (x : Found) → placeIn ids id ≡ x → isThere x ≡ true → (numberOf x < length ids) × (getD ids (numberOf x) (pos 0) ≡ id)

@@ -1,14 +1,9 @@
 // The edges of a file in the four areas of a graph, outward and inward.
-use crate::Limits;
-use crate::Loaded;
-use crate::lines::Listed;
-use crate::lines::read_edges;
-use crate::lines::read_vertices;
-use crate::spread::spread;
-use crate::spread::sum_up;
 use basis::Refusal;
-use basis::refusal::NO_ROOM;
-use basis::refusal::UNKNOWN_NUMBER;
+use basis::refusal::{NO_ROOM, UNKNOWN_NUMBER};
+use crate::{Limits, Loaded};
+use crate::lines::{Listed, read_edges, read_vertices};
+use crate::spread::{spread, sum_up};
 use graph::Size;
 ghost use mathlib.Core.Path.{_≡_};
 ghost use mathlib.Core.Bool.{Bool, true, false, not};
@@ -94,10 +89,7 @@ fn directed(
     let listed = arrange(s, most, false, ids, oo, ot, io, is);
     match listed {
         Listed::Refused(r) => Loaded::Refused(r),
-        Listed::Lines(m) => Loaded::Graph(Size {
-            vertices: n,
-            arcs: m,
-        }),
+        Listed::Lines(m) => Loaded::Graph(Size { vertices: n, arcs: m }),
     }
 }
 

@@ -4,11 +4,10 @@ mod fill;
 mod lines;
 mod spread;
 
-use crate::fill::fill;
 use basis::Refusal;
-use basis::area::clear;
-use basis::area::clear_signed;
+use basis::area::{clear, clear_signed};
 use graph::Size;
+use crate::fill::fill;
 ghost use mathlib.Core.Path.{_≡_};
 ghost use Prim.Native.Nat.{ℕ};
 ghost use lib.ListN.{length};
@@ -31,13 +30,7 @@ pub enum Loaded {
     Refused(Refusal),
 }
 
-fn clear_all(
-    ids: &mut [i64],
-    oo: &mut [usize],
-    ot: &mut [usize],
-    io: &mut [usize],
-    is: &mut [usize],
-)
+fn clear_all(ids: &mut [i64], oo: &mut [usize], ot: &mut [usize], io: &mut [usize], is: &mut [usize])
     ensures { λ _. ⌜ Emptied (now (ids .entry)) (now (oo .entry)) (now (ot .entry)) (now (io .entry)) (now (is .entry)) (now (ids .exit)) (now (oo .exit)) (now (ot .exit)) (now (io .exit)) (now (is .exit)) ⌝ }
 {
     clear_signed(ids);
@@ -85,18 +78,5 @@ pub fn load(
 ) -> Loaded
     ensures { λ r. ⌜ outcome (says r) (now (ids .exit)) (now (oo .exit)) (now (ot .exit)) (now (io .exit)) (now (is .exit)) ≡ loadCall library mode (roomOf (length (now (ids .entry))) (length (now (oo .entry))) (length (now (ot .entry))) (length (now (io .entry))) (length (now (is .entry)))) (now (vertices .entry)) (now (edges .entry)) ⌝ }
 {
-    load_within(
-        Limits {
-            vertices: MOST_VERTICES,
-            edges: MOST_EDGES,
-        },
-        mode,
-        vertices,
-        edges,
-        ids,
-        oo,
-        ot,
-        io,
-        is,
-    )
+    load_within(Limits { vertices: MOST_VERTICES, edges: MOST_EDGES }, mode, vertices, edges, ids, oo, ot, io, is)
 }

@@ -1,20 +1,12 @@
 // The two files, line by line: each text is read once, and what a line names is stored as it is read.
-use crate::spread::count_arc;
 use basis::Refusal;
-use basis::order::less;
-use basis::order::same;
-use basis::refusal::EDGE_FILE;
-use basis::refusal::LARGER_FIRST;
-use basis::refusal::NOT_ABOVE;
-use basis::refusal::SELF_EDGE;
-use basis::refusal::TOO_MANY;
-use basis::refusal::UNKNOWN_VERTEX;
-use basis::refusal::VERTEX_FILE;
-use graph::find::Found;
-use graph::find::find;
-use text::line::Cursor;
-use text::line::EdgeLine;
-use text::line::VertexLine;
+use basis::order::{less, same};
+use basis::refusal::{
+    EDGE_FILE, LARGER_FIRST, NOT_ABOVE, SELF_EDGE, TOO_MANY, UNKNOWN_VERTEX, VERTEX_FILE,
+};
+use crate::spread::count_arc;
+use graph::find::{Found, find};
+use text::line::{Cursor, EdgeLine, VertexLine};
 ghost use mathlib.Core.Path.{_≡_};
 ghost use mathlib.Core.Bool.{Bool, true, cond, _&&_};
 ghost use Prim.Native.Nat.{ℕ, _+_, _-_, _<_, _≤_, _^_};
@@ -101,21 +93,13 @@ fn vertex_step(s: &[u8], most: usize, c: Vertices) -> VertexStep
     let line = place.vertex(s);
     match line {
         VertexLine::End(_) => VertexStep::Stop(Listed::Lines(k)),
-        VertexLine::Fault(n, _) => VertexStep::Stop(Listed::Refused(Refusal::at(
-            limited(most, k, n),
-            VERTEX_FILE,
-            k + 1,
-        ))),
+        VertexLine::Fault(n, _) => VertexStep::Stop(Listed::Refused(Refusal::at(limited(most, k, n), VERTEX_FILE, k + 1))),
         VertexLine::Line(z, next) => {
             let fault = vertex_fault(most, k, last, z);
             if fault != 0 {
                 return VertexStep::Stop(Listed::Refused(Refusal::at(fault, VERTEX_FILE, k + 1)));
             }
-            VertexStep::More(Vertices {
-                at: next,
-                lines: k + 1,
-                last: z,
-            })
+            VertexStep::More(Vertices { at: next, lines: k + 1, last: z })
         }
     }
 }
@@ -133,11 +117,7 @@ fn put_id(ids: &mut [i64], i: usize, z: i64)
 pub(crate) fn read_vertices(s: &[u8], most: usize, ids: &mut [i64]) -> Listed
     ensures { λ r. ⌜ idsLeft r (now (ids .exit)) ≡ said (idsInto (now (ids .entry)) 0) (identifiers most (now (s .entry))) ⌝ }
 {
-    let mut c = Vertices {
-        at: Cursor { at: 0 },
-        lines: 0,
-        last: 0,
-    };
+    let mut c = Vertices { at: Cursor { at: 0 }, lines: 0, last: 0 };
     loop {
         let step = vertex_step(s, most, c);
         match step {
@@ -222,11 +202,7 @@ fn edge_step(s: &[u8], most: usize, both: bool, ids: &[i64], c: Edges) -> EdgeSt
     let line = place.edge(s);
     match line {
         EdgeLine::End(_) => EdgeStep::Stop(Listed::Lines(k)),
-        EdgeLine::Fault(n, _) => EdgeStep::Stop(Listed::Refused(Refusal::at(
-            limited(most, k, n),
-            EDGE_FILE,
-            k + 1,
-        ))),
+        EdgeLine::Fault(n, _) => EdgeStep::Stop(Listed::Refused(Refusal::at(limited(most, k, n), EDGE_FILE, k + 1))),
         EdgeLine::Line(a, b, next) => {
             let fault = limited(most, k, order_fault(both, k, c.first, c.second, a, b));
             if fault != 0 {
@@ -234,21 +210,8 @@ fn edge_step(s: &[u8], most: usize, both: bool, ids: &[i64], c: Edges) -> EdgeSt
             }
             let joined = look_up(ids, a, b);
             match joined {
-                Ends::Unknown => EdgeStep::Stop(Listed::Refused(Refusal::at(
-                    UNKNOWN_VERTEX,
-                    EDGE_FILE,
-                    k + 1,
-                ))),
-                Ends::Known(u, v) => EdgeStep::More(
-                    u,
-                    v,
-                    Edges {
-                        at: next,
-                        lines: k + 1,
-                        first: a,
-                        second: b,
-                    },
-                ),
+                Ends::Unknown => EdgeStep::Stop(Listed::Refused(Refusal::at(UNKNOWN_VERTEX, EDGE_FILE, k + 1))),
+                Ends::Known(u, v) => EdgeStep::More(u, v, Edges { at: next, lines: k + 1, first: a, second: b }),
             }
         }
     }
@@ -264,23 +227,11 @@ fn put(area: &mut [usize], i: usize, value: usize)
 }
 
 // The edges of an edge file: one more for each in `counts` at its first end, the second ends in `targets` as far as there is room.
-pub(crate) fn read_edges(
-    s: &[u8],
-    most: usize,
-    both: bool,
-    ids: &[i64],
-    counts: &mut [usize],
-    targets: &mut [usize],
-) -> Listed
+pub(crate) fn read_edges(s: &[u8], most: usize, both: bool, ids: &[i64], counts: &mut [usize], targets: &mut [usize]) -> Listed
     requires { ⌜ Asked (now ids) (now counts) ⌝ }
     ensures { λ r. ⌜ edgesLeft r (now (counts .exit)) (now (targets .exit)) ≡ said (numberedInto (now (ids .entry)) (now (counts .entry)) (now (targets .entry)) 0) (edgesOf both most (now (ids .entry)) (now (s .entry))) ⌝ }
 {
-    let mut c = Edges {
-        at: Cursor { at: 0 },
-        lines: 0,
-        first: 0,
-        second: 0,
-    };
+    let mut c = Edges { at: Cursor { at: 0 }, lines: 0, first: 0, second: 0 };
     loop {
         let step = edge_step(s, most, both, ids, c);
         match step {

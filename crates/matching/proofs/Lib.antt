@@ -7,4 +7,5 @@ pub mod NumberLines
 pub mod DecimalLines
 pub mod Judging
 pub mod Meaning
+pub mod Listing
 pub mod Examples

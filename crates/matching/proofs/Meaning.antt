@@ -1,6 +1,7 @@
 -- What the verdicts mean: a complete claim is accepted exactly when it matches, by 000's rule, at every vertex. Assumes nothing.
 use mathlib.Core.Path.{_≡_, refl, sym, ap, ap₂, _∙_, subst}
-use mathlib.Core.Bool.{Bool, true, false, cond, Bool·beq, not}
+use mathlib.Core.Bool.{Bool, true, false, cond, Bool·beq}
+use mathlib.Core.Logic.{_↔_}
 use mathlib.Core.List.{List, [], _∷_, map}
 use Prim.Native.Nat.{ℕ, zero, suc, _+_, _-_, _≤_, _<_}
 use native.Mathlib.Nat.{not-suc-le-zero}
@@ -21,10 +22,6 @@ use Rattle.basis.proofs.Orders.{signed-order}
 use Rattle.text.specs.declared.decimal.Decimal.{Decimal}
 use Rattle.matching.specs.Claim.{idsOf, valuesOf}
 use Rattle.matching.specs.Verdict.{Verdict, verdict, Fraction, near, firstLine, incompleteLine, unequalLine, sameKind, agrees, failingLine, unlikeLine, farLine, verdictOf, judgedBy}
-
--- both ways
-abbrev pub Exactly : Type 0 → Type 0 → Type 0
-Exactly P Q = (P → Q) × (Q → P)
 
 abbrev pub accepted : Said Verdict
 accepted = gives (verdict 0 0)
@@ -59,11 +56,11 @@ module _ {A B : Type 0} (alike : A → B → Bool) (x : A) (y : B) where
       rw (h .everywhere 0 (omega arith))
       (line-all (k + 1) xs ys (record { long = let e = h .long in omega arith; everywhere = λ i l. h .everywhere (suc i) (omega arith) }))
 
-  pub line-exactly : (xs : List A) (ys : List B) → Exactly (firstLine alike 1 xs ys ≡ 0) (Alike alike x y xs ys)
+  pub line-exactly : (xs : List A) (ys : List B) → (firstLine alike 1 xs ys ≡ 0) ↔ (Alike alike x y xs ys)
   line-exactly xs ys = (line-none 0 xs ys, line-all 1 xs ys)
 
 -- of numbers, that is the same list
-same-list : (xs ys : List ℤ) → Exactly (firstLine sameZ 1 xs ys ≡ 0) (ys ≡ xs)
+same-list : (xs ys : List ℤ) → (firstLine sameZ 1 xs ys ≡ 0) ↔ (ys ≡ xs)
 same-list xs ys = (
   λ e.
       let h = line-none sameZ (pos 0) (pos 0) 0 xs ys e in
@@ -81,27 +78,27 @@ zero-of (suc n) m e = absurd (let f : verdict 20 (suc n) ≡ verdict 0 0 = cc in
 
 module _ {A : Type 0} (ids : List ℤ) (mismatch : List A → ℕ) (l : List (ℤ × A)) where
   -- "incomplete": every line names the graph's identifier at its place, and none is missing or surplus
-  pub complete-exactly : Exactly (incompleteLine ids (idsOf l) ≡ 0) (idsOf l ≡ ids)
+  pub complete-exactly : (incompleteLine ids (idsOf l) ≡ 0) ↔ (idsOf l ≡ ids)
   complete-exactly = same-list ids (idsOf l)
 
-  pub accepted-exactly : Exactly (judgedBy ids mismatch (gives l) ≡ accepted) ((idsOf l ≡ ids) × (mismatch (valuesOf l) ≡ 0))
+  pub accepted-exactly : (judgedBy ids mismatch (gives l) ≡ accepted) ↔ ((idsOf l ≡ ids) × (mismatch (valuesOf l) ≡ 0))
   unfolding judgedBy
   accepted-exactly = (
     λ e. let z = zero-of (incompleteLine ids (idsOf l)) (mismatch (valuesOf l)) e in (complete-exactly .0 (z .0), z .1),
     λ h. rw (complete-exactly .1 (h .0), h .1),
   )
 
-  by-match : {M : Type 0} → Exactly (mismatch (valuesOf l) ≡ 0) M → idsOf l ≡ ids → Exactly (judgedBy ids mismatch (gives l) ≡ accepted) M
+  by-match : {M : Type 0} → ((mismatch (valuesOf l) ≡ 0) ↔ M) → idsOf l ≡ ids → (judgedBy ids mismatch (gives l) ≡ accepted) ↔ M
   by-match x c = (λ e. x .0 (accepted-exactly .0 e .1), λ m. accepted-exactly .1 (c, x .1 m))
 
 -- ---- "Exact match": "the vertex values of the system's output should be identical to the reference output"
-pub exact-match : (ids reference : List ℤ) (l : List (ℤ × ℤ)) → idsOf l ≡ ids → Exactly (judgedBy ids (unequalLine reference) (gives l) ≡ accepted) (valuesOf l ≡ reference)
+pub exact-match : (ids reference : List ℤ) (l : List (ℤ × ℤ)) → idsOf l ≡ ids → (judgedBy ids (unequalLine reference) (gives l) ≡ accepted) ↔ (valuesOf l ≡ reference)
 exact-match ids reference l = by-match ids (unequalLine reference) l (same-list reference (valuesOf l))
 
 -- ---- "Epsilon match": every decimal is close to the fraction of its vertex
-pub epsilon-match : (none : Decimal) (ids : List ℤ) (reference : List Fraction) (l : List (ℤ × Decimal)) → idsOf l ≡ ids
-    → Exactly (judgedBy ids (farLine reference) (gives l) ≡ accepted) (Alike near (0, 1) none reference (valuesOf l))
-epsilon-match none ids reference l = by-match ids (farLine reference) l (line-exactly near (0, 1) none reference (valuesOf l))
+pub epsilon-match : (any : Decimal) (ids : List ℤ) (reference : List Fraction) (l : List (ℤ × Decimal)) → idsOf l ≡ ids
+    → (judgedBy ids (farLine reference) (gives l) ≡ accepted) ↔ (Alike near (0, 1) any reference (valuesOf l))
+epsilon-match any ids reference l = by-match ids (farLine reference) l (line-exactly near (0, 1) any reference (valuesOf l))
 
 -- ---- "Equivalence match": "a two-way mapping should exists that maps the system's output to be identical to reference output and the inverse of this mapping
 -- maps the reference output to be identical to the system's output"
@@ -178,7 +175,7 @@ module _ (a b : List ℤ) where
         ]
       where
         earlier : (i j : ℕ) → i < length a → j < i → sameZ (getD a i (pos 0)) (getD a j (pos 0)) ≡ sameZ (getD b i (pos 0)) (getD b j (pos 0))
-        earlier i j k f = beq-eq _ _ (every-at (sameKind a b i) i j f (failing-none (agrees a b) (length a) 0 h i (omega arith) (omega arith)))
+        earlier i j k f = sym (beq-eq _ _ (every-at (sameKind a b i) i j f (failing-none (agrees a b) (length a) 0 h i (omega arith) (omega arith))))
 
     kinds-all : Kinds → unlikeLine a b ≡ 0
     unfolding unlikeLine agrees sameKind
@@ -202,7 +199,7 @@ module _ (a b : List ℤ) where
         (λ t. rw (sym (w .maps i k) ∙ ap (w .there) (signed-order .same-eq _ _ t) ∙ w .maps j l) (signed-order .same-refl (getD a j (pos 0))))
 
     -- "all vertices which have the same label in the system's output also have the same label in the reference output, and vice versa"
-    pub unlike-exactly : Exactly (unlikeLine a b ≡ 0) (TwoWay a b)
+    pub unlike-exactly : (unlikeLine a b ≡ 0) ↔ (TwoWay a b)
     unlike-exactly = (λ h. two-way (kinds-of h), λ w. kinds-all (one-way w))
 
 values-length : {A : Type 0} (l : List (ℤ × A)) → length (valuesOf l) ≡ length (idsOf l)
@@ -210,7 +207,7 @@ values-length [] = refl
 values-length (x ∷ l) = ap suc (values-length l)
 
 pub equivalence-match : (ids reference : List ℤ) (l : List (ℤ × ℤ)) → length reference ≡ length ids → idsOf l ≡ ids
-    → Exactly (judgedBy ids (unlikeLine reference) (gives l) ≡ accepted) (TwoWay reference (valuesOf l))
+    → (judgedBy ids (unlikeLine reference) (gives l) ≡ accepted) ↔ (TwoWay reference (valuesOf l))
 equivalence-match ids reference l n c = by-match ids (unlikeLine reference) l (unlike-exactly reference (valuesOf l) (n ∙ ap length (sym c) ∙ sym (values-length l))) c
 
 -- a reference output under a renaming that keeps labels apart
@@ -219,7 +216,7 @@ map-at f [] i h = absurd (not-suc-le-zero h)
 map-at f (x ∷ l) zero h = refl
 map-at f (x ∷ l) (suc i) h = map-at f l i (omega arith)
 
-map-length : (f : ℤ → ℤ) (l : List ℤ) → length (map f l) ≡ length l
+pub map-length : (f : ℤ → ℤ) (l : List ℤ) → length (map f l) ≡ length l
 map-length f [] = refl
 map-length f (x ∷ l) = ap suc (map-length f l)
 

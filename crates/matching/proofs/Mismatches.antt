@@ -28,10 +28,24 @@ module _ (a b : List ℤ) (e : length a ≡ length b) (i : ℕ) (h : unequalLine
     pub unequal-later : not t ≡ false → unequalLine a b ≡ firstLine sameZ (i + 1 + 1) (drop (i + 1) a) (drop (i + 1) b)
     unequal-later f = h ∙ first-later sameZ (pos 0) (pos 0) a b e i l (sym test ∙ not-false t f)
 
--- ---- four labels that went through the machine's bits
-pub unlike-of : (x y v w : ℤ) {x′ y′ v′ w′ : ℤ} {s t : Bool} → x′ ≡ x → y′ ≡ y → v′ ≡ v → w′ ≡ w → s ≡ sameZ x′ y′ → t ≡ sameZ v′ w′
-    → not (Bool·beq s t) ≡ not (Bool·beq (sameZ x y) (sameZ v w))
-unlike-of x y v w p q m n f g = ap₂ (λ s t. not (Bool·beq s t)) (f ∙ ap₂ sameZ p q) (g ∙ ap₂ sameZ m n)
+-- ---- four numbers that went through the machine's bits: s and t are the tests of the first two and of the last two
+module _ (x y v w : ℤ) {x′ y′ v′ w′ : ℤ} (p : x′ ≡ x) (q : y′ ≡ y) (m : v′ ≡ v) (n : w′ ≡ w) {s t : Bool} (f : s ≡ sameZ x′ y′) (g : t ≡ sameZ v′ w′) where
+  tests : not (Bool·beq (sameZ x y) (sameZ v w)) ≡ not (Bool·beq s t)
+  tests = sym (ap₂ (λ s t. not (Bool·beq s t)) (f ∙ ap₂ sameZ p q) (g ∙ ap₂ sameZ m n))
+
+  when-same : (t : Bool) → not t ≡ not (Bool·beq true t)
+  when-same true = refl
+  when-same false = refl
+
+  when-apart : (t : Bool) → t ≡ not (Bool·beq false t)
+  when-apart true = refl
+  when-apart false = refl
+
+  pub unlike-same : s ≡ true → not t ≡ not (Bool·beq (sameZ x y) (sameZ v w))
+  unlike-same h = rw (tests, h) (when-same t)
+
+  pub unlike-apart : s ≡ false → t ≡ not (Bool·beq (sameZ x y) (sameZ v w))
+  unlike-apart h = rw (tests, h) (when-apart t)
 
 -- ---- the first line that disagrees in kind with an earlier one
 pub unlike-start : (a b : List ℤ) → unlikeLine a b ≡ failingLine (agrees a b) (length a - 0) 0
@@ -51,7 +65,7 @@ module _ (a b : List ℤ) (n i : ℕ) (h : unlikeLine a b ≡ failingLine (agree
         h ∙ fails-later (agrees a b) n i l (rw q at k)
 
     -- the test of lines i and j, by what was read
-    module _ {x y v w : ℤ} (p : x ≡ getD a i (pos 0)) (q : y ≡ getD a j (pos 0)) (r : v ≡ getD b i (pos 0)) (o : w ≡ getD b j (pos 0))
+    module _ {x y v w : ℤ} (p : x ≡ getD b i (pos 0)) (q : y ≡ getD b j (pos 0)) (r : v ≡ getD a i (pos 0)) (o : w ≡ getD a j (pos 0))
         {t : Bool} (s : t ≡ not (Bool·beq (sameZ x y) (sameZ v w))) where
       kind : t ≡ not (sameKind a b i j)
       unfolding sameKind

@@ -47,11 +47,12 @@ unequalLine reference claimed = firstLine sameZ 1 reference claimed
 
 -- 000 "Equivalence match": two lines agree in kind, "all vertices which have the same label in the system's output also have the same label in the reference output, and vice versa"
 unfoldable pub sameKind : List ℤ → List ℤ → ℕ → ℕ → Bool
-sameKind a b i j = Bool·beq (sameZ (getD a i (pos 0)) (getD a j (pos 0))) (sameZ (getD b i (pos 0)) (getD b j (pos 0)))
+sameKind labels claims i j =
+    Bool·beq (sameZ (getD claims i (pos 0)) (getD claims j (pos 0))) (sameZ (getD labels i (pos 0)) (getD labels j (pos 0)))
 
 -- line i agrees in kind with every earlier line
 unfoldable pub agrees : List ℤ → List ℤ → ℕ → Bool
-agrees a b i = every i (sameKind a b i)
+agrees labels claims i = every i (sameKind labels claims i)
 
 -- the first of so many places, from i on, that fails a test, as a line; 0 where there is none
 unfoldable pub failingLine : (ℕ → Bool) → ℕ → ℕ → ℕ
@@ -60,7 +61,7 @@ failingLine p (suc n) i = cond (p i) (failingLine p n (i + 1)) (i + 1)
 
 -- "The mismatch is the smallest line that disagrees in kind with some earlier line."
 unfoldable pub unlikeLine : List ℤ → List ℤ → ℕ
-unlikeLine a b = failingLine (agrees a b) (length a) 0
+unlikeLine labels claims = failingLine (agrees labels claims) (length labels) 0
 
 -- 000 "Epsilon match", of fractions
 abbrev pub Fraction : Type 0

@@ -78,7 +78,7 @@ fn read_coefficients(
         let line = cursor.coefficient_claim(claim);
         match line {
             CoefficientLine::End(_) => {
-                return verdict_of(ended(n, k, incomplete), mismatch);
+                return verdict_of(ended(ids, k, incomplete), mismatch);
             }
             CoefficientLine::Fault(number, _) => {
                 return Judged::Refused(Refusal::at(number, CLAIM_FILE, k + 1));
@@ -95,7 +95,7 @@ fn read_coefficients(
     if at < claim.len() {
         return Judged::Refused(Refusal::at(TOO_MANY, CLAIM_FILE, k + 1));
     }
-    verdict_of(ended(n, k, incomplete), mismatch)
+    verdict_of(ended(ids, k, incomplete), mismatch)
 }
 
 // A claim of at most so many lines, on vertices with these identifiers.

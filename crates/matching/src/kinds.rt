@@ -6,19 +6,22 @@ ghost use lib.ListN.{length};
 ghost use Rattle.basis.specs.Order.{sameZ};
 ghost use Rattle.matching.specs.Verdict.{unlikeLine};
 
-// x and y are the same in one list, and v and w are not in the other; or the other way round.
-fn unlike(x: i64, y: i64, v: i64, w: i64) -> bool
-    ensures { λ r. ⌜ r ≡ not (Bool·beq (sameZ x y) (sameZ v w)) ⌝ }
+// Two claims are the same and the labels of their vertices are not, or the other way round.
+fn unlike(claim: i64, earlier_claim: i64, label: i64, earlier_label: i64) -> bool
+    ensures { λ r. ⌜ r ≡ not (Bool·beq (sameZ claim «earlier_claim») (sameZ label «earlier_label»)) ⌝ }
 {
-    same(x, y) != same(v, w)
+    if same(claim, earlier_claim) {
+        return !same(label, earlier_label);
+    }
+    same(label, earlier_label)
 }
 
 // The smallest line that disagrees in kind with some earlier line, or 0.
-pub(crate) fn first_unlike(a: &[i64], b: &[i64]) -> usize
-    requires { ⌜ length (now a) ≡ length (now b) ⌝ }
-    ensures { λ r. ⌜ r ≡ unlikeLine (now (a .entry)) (now (b .entry)) ⌝ }
+pub(crate) fn first_unlike(labels: &[i64], claims: &[i64]) -> usize
+    requires { ⌜ length (now labels) ≡ length (now claims) ⌝ }
+    ensures { λ r. ⌜ r ≡ unlikeLine (now (labels .entry)) (now (claims .entry)) ⌝ }
 {
-    let n = a.len();
+    let n = labels.len();
     let mut i: usize = 0;
     let first = 'lines: loop {
         if n <= i {
@@ -26,7 +29,7 @@ pub(crate) fn first_unlike(a: &[i64], b: &[i64]) -> usize
         }
         let mut j: usize = 0;
         while j < i {
-            if unlike(a[i], a[j], b[i], b[j]) {
+            if unlike(claims[i], claims[j], labels[i], labels[j]) {
                 break 'lines i + 1;
             }
             j += 1;

@@ -36,15 +36,15 @@ pub(crate) fn covered(ids: &[i64], k: usize, id: i64, incomplete: usize) -> usiz
     k + 1
 }
 
-// The first incomplete line of a claim that ends after k lines: a missing line counts as the one after the last.
-pub(crate) fn ended(n: usize, k: usize, incomplete: usize) -> usize
-    ensures { λ r. ⌜ r ≡ endLine n k incomplete ⌝ }
+// The first incomplete line of a claim that ends after so many lines: a missing line counts as the one after the last.
+pub(crate) fn ended(ids: &[i64], lines: usize, incomplete: usize) -> usize
+    ensures { λ r. ⌜ r ≡ endLine (length (now (ids .entry))) lines incomplete ⌝ }
 {
     if incomplete != 0 {
         return incomplete;
     }
-    if k < n {
-        return k + 1;
+    if lines < ids.len() {
+        return lines + 1;
     }
     0
 }
@@ -72,7 +72,7 @@ pub(crate) fn read_numbers(most: usize, ids: &[i64], claim: &[u8], claimed: &mut
         let line = cursor.claim(claim);
         match line {
             EdgeLine::End(_) => {
-                return Read::Lines(ended(n, k, incomplete));
+                return Read::Lines(ended(ids, k, incomplete));
             }
             EdgeLine::Fault(number, _) => {
                 return Read::Fault(Refusal::at(number, CLAIM_FILE, k + 1));
@@ -89,5 +89,5 @@ pub(crate) fn read_numbers(most: usize, ids: &[i64], claim: &[u8], claimed: &mut
     if at < claim.len() {
         return Read::Fault(Refusal::at(TOO_MANY, CLAIM_FILE, k + 1));
     }
-    Read::Lines(ended(n, k, incomplete))
+    Read::Lines(ended(ids, k, incomplete))
 }

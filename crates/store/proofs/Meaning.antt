@@ -46,7 +46,7 @@ mem-targets (a ∷ l) u w = cases (eqb (a .0) u) (mem-targets l u w)
     cases true e = ap (λ (t : Bool). eqb w (a .1) || t) e
     cases false e = e
 
-and-swap : (p q : Bool) → (p && q) ≡ (q && p)
+pub and-swap : (p q : Bool) → (p && q) ≡ (q && p)
 and-swap true true = refl
 and-swap true false = refl
 and-swap false true = refl

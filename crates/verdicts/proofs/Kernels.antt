@@ -30,7 +30,7 @@ use Rattle.verdicts.specs.Steps.{Known, Roomy, Numbers, numbersOn, numbe
 use Rattle.verdicts.proofs.Running.{Ran, ran-known, ran-roomy, numbers-verdict}
 
 -- ---- BFS
-bfs-length : (g : Graph) (p : Found) → bfs.isThere p ≡ true → length (bfs.depthsFrom g p) ≡ g .vertices
+pub bfs-length : (g : Graph) (p : Found) → bfs.isThere p ≡ true → length (bfs.depthsFrom g p) ≡ g .vertices
 bfs-length g (At root) e = column-length (depthOf (g .vertices) (outward g) root) 0 (g .vertices)
 bfs-length g Missing e = clash e refl
 

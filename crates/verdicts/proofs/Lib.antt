@@ -4,3 +4,4 @@ pub mod Running
 pub mod Kernels
 pub mod Fractions
 pub mod Calls
+pub mod Meaning

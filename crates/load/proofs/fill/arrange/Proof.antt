@@ -44,7 +44,7 @@ same-length-4 : tie.Need-same-length-4
 same-length-4 c = search needs
 
 returns-2 : tie.Need-returns-2
-returns-2 c =
+returns-2 c = 
     arrange-short-back _ _ _ _ _ _ _ _ (c .before .before .before .before .before .before .before .before .before .before .before .before .before .before .before .before .before .before .before .before .pre) _ _ _ (c .before .before .before .before .before .before .before .before .before .before .before .before .read-edges .ensures) _ (c .before .before .before .before .before .before .listed2 .given .1) _ (c .before .before .before .before .before .before .before .before .before .before .before .before .read-edges .kept .1 .1 .1 .1 .1 .0) _ (c .before .before .before .before .lacks .ensures) (c .before .before .before .if1 .left)
     _ (c .before .before .lacks2 .ensures) (c .before .if2 .taken) _ (c .plain2 .ensures)
 
@@ -53,13 +53,13 @@ add-sum-up c = search needs
 
 sum-up-requires : tie.Need-sum-up-requires
 sum-up-requires c κs = (
-  search needs,
-  arrange-sum-fits _ _ _ _ _ _ _ _ (c .before .before .before .before .before .before .before .before .before .before .before .before .before .before .before .before .before .before .before .before .pre) _ _ _ (c .before .before .before .before .before .before .before .before .before .before .before .before .read-edges .ensures) _ (c .before .before .before .before .before .before .listed2 .given .1) _ (c .before .before .before .before .before .before .before .before .before .before .before .before .read-edges .kept .1 .1 .1 .1 .1 .0) _ (c .before .before .before .before .lacks .ensures) (c .before .before .before .if1 .left)
-      _ (c .before .before .lacks2 .ensures) (c .before .if2 .left) _ (omega arith),
-)
+      search needs,
+      arrange-sum-fits _ _ _ _ _ _ _ _ (c .before .before .before .before .before .before .before .before .before .before .before .before .before .before .before .before .before .before .before .before .pre) _ _ _ (c .before .before .before .before .before .before .before .before .before .before .before .before .read-edges .ensures) _ (c .before .before .before .before .before .before .listed2 .given .1) _ (c .before .before .before .before .before .before .before .before .before .before .before .before .read-edges .kept .1 .1 .1 .1 .1 .0) _ (c .before .before .before .before .lacks .ensures) (c .before .before .before .if1 .left)
+          _ (c .before .before .lacks2 .ensures) (c .before .if2 .left) _ (omega arith),
+    )
 
 spread-requires : tie.Need-spread-requires
-spread-requires c κs =
+spread-requires c κs = 
     arrange-side _ _ _ _ _ _ _ _ (c .before .before .before .before .before .before .before .before .before .before .before .before .before .before .before .before .before .before .before .before .before .before .before .before .before .before .before .pre) _ _ _ (c .before .before .before .before .before .before .before .before .before .before .before .before .before .before .before .before .before .before .before .read-edges .ensures) _ (c .before .before .before .before .before .before .before .before .before .before .before .before .before .listed2 .given .1) _ (c .before .before .before .before .before .before .before .before .before .before .before .before .before .before .before .before .before .before .before .read-edges .kept .1 .1 .1 .1 .1 .0) _ (c .before .before .before .before .before .before .before .before .before .before .before .lacks .ensures) (c .before .before .before .before .before .before .before .before .before .before .if1 .left)
     _ (c .before .before .before .before .before .before .before .before .before .lacks2 .ensures) (c .before .before .before .before .before .before .before .before .if2 .left) _ (c .before .before .before .before .before .before .sum-up .ensures)
 
@@ -85,7 +85,7 @@ same-length-10 : tie.Need-same-length-10
 same-length-10 c = search needs
 
 returns-4 : tie.Need-returns-4
-returns-4 c =
+returns-4 c = 
     arrange-end _ _ _ _ _ _ _ _ (c .before .before .before .before .before .before .before .before .before .before .before .before .before .before .before .before .before .before .before .before .before .before .before .before .before .before .before .before .before .before .before .before .pre) _ _ _ (c .before .before .before .before .before .before .before .before .before .before .before .before .before .before .before .before .before .before .before .before .before .before .before .before .read-edges .ensures) _ (c .before .before .before .before .before .before .before .before .before .before .before .before .before .before .before .before .before .before .listed2 .given .1) _ (c .before .before .before .before .before .before .before .before .before .before .before .before .before .before .before .before .before .before .before .before .before .before .before .before .read-edges .kept .1 .1 .1 .1 .1 .0) _ (c .before .before .before .before .before .before .before .before .before .before .before .before .before .before .before .before .lacks .ensures) (c .before .before .before .before .before .before .before .before .before .before .before .before .before .before .before .if1 .left)
     _ (c .before .before .before .before .before .before .before .before .before .before .before .before .before .before .lacks2 .ensures) (c .before .before .before .before .before .before .before .before .before .before .before .before .before .if2 .left) _ (c .before .before .before .before .before .before .before .before .before .before .before .sum-up .ensures) _ _ (c .before .before .before .before .spread .ensures .0) (c .before .before .before .before .spread .ensures .1)
 

@@ -49,7 +49,7 @@ same-length-5 : tie.Need-same-length-5
 same-length-5 c = search needs
 
 returns-2 : tie.Need-returns-2
-returns-2 c =
+returns-2 c = 
     let l = c .before .before .before .before .before .before .before .before .store-edges .last in
     fill-end (c .before .before .before .before .before .before .before .before .before .before .before .before .before .before .before .before .before .before .before .before .before .before .before .before .before .before .before .before .before .args .limits) _ _ (now (c .before .before .before .before .before .before .before .before .before .before .before .before .before .before .before .before .before .before .before .before .before .before .before .before .before .before .before .before .before .args .edges)) _ _ _ _ _ (c .before .before .before .before .before .before .before .before .before .before .before .before .before .before .before .before .before .before .before .before .before .before .before .before .before .before .before .before .before .pre) (c .before .before .before .before .before .before .before .before .before .before .before .before .before .before .before .before .before .before .before .before .before .before .if1 .left) _ _ (c .before .before .before .before .before .before .before .before .before .before .before .before .before .before .before .before .before .before .before .before .read-vertices .ensures) _ (c .before .before .before .before .before .before .before .before .before .before .before .before .before .before .before .before .before .listed2 .given .1) _ (c .before .before .before .before .before .before .before .before .before .before .before .before .before .before .before .before .before .before .before .before .read-vertices .kept .1 .1 .0) _ (c .before .before .before .before .before .before .before .before .before .before .before .before .before .before .before .has-places .ensures) (c .before .before .before .before .before .before .before .before .before .before .before .before .before .before .if2 .taken) _ refl (c .before .before .before .before .before .before .before .before .store-edges .result) (l .1 .1 .1 .1 .0) (l .1 .1 .1 .1 .1 .0) (l .1 .1 .1 .1 .1 .1 .0) (l .1 .1 .1 .1 .1 .1 .1 .0) (c .before .before .before .before .before .before .before .before .store-edges .ensures)
 

@@ -23,7 +23,7 @@ enum-known-step : tie.Need-enum-known-step Inv-loop μ-loop
 enum-known-step c = search needs
 
 count-arc-requires : tie.Need-count-arc-requires Inv-loop μ-loop
-count-arc-requires c κs =
+count-arc-requires c κs = 
     let h : length (now (c .before .before .before .before .before .before .before .before .before .args .s)) < 2 ^ 64 = omega arith in
     (search gathering-there, search gathering-few)
 

@@ -4,36 +4,25 @@ use Prim.Native.Nat.{_*_, _^_, _≤_, _<_}
 use Rattle.matching.proofs.Closeness.{greater-yes, greater-no, less-yes, less-no}
 use Rattle.matching.proofs.close.between.Statement.{statement}
 use Rattle.matching.proofs.close.between.Tie as tie
-use Rattle.matching.proofs.close.between.Reads as reads
-use Rattle.matching.proofs.close.between.Lts as lts
-use Rattle.matching.proofs.close.is_greater.Reads as is-greater-reads
-use Rattle.matching.proofs.close.is_less.Reads as is-less-reads
-use Rattle.matching.proofs.close.order_scaled.Reads as order-scaled-reads
 
--- src/lib.rt:94:19
 order-scaled-requires : tie.Need-order-scaled-requires
 order-scaled-requires c κs = search needs
 
--- src/lib.rt:94:8
 is-greater-requires : tie.Need-is-greater-requires
 is-greater-requires c κs = search needs
 
--- src/lib.rt:95:9
 returns : tie.Need-returns
 returns c =
     let a = c .before .before .before .args in
     let h : a .d * a .n < a .low * 10 ^ a .k = greater-yes (a .low * 10 ^ a .k) (a .d * a .n) (c .before .before .order-scaled .ensures) (c .before .is-greater .ensures) (c .if1 .taken) in
     simp (lt-leb _ _ h)
 
--- src/lib.rt:97:16
 order-scaled-requires-2 : tie.Need-order-scaled-requires-2
 order-scaled-requires-2 c κs = search needs
 
--- src/lib.rt:97:8
 is-less-requires : tie.Need-is-less-requires
 is-less-requires c κs = search needs
 
--- src/lib.rt:98:9
 returns-2 : tie.Need-returns-2
 returns-2 c =
     let a = c .before .before .before .before .before .before .args in
@@ -41,7 +30,6 @@ returns-2 c =
     let h : a .high * 10 ^ a .k < a .d * a .n = less-yes (a .high * 10 ^ a .k) (a .d * a .n) (c .before .before .order-scaled2 .ensures) (c .before .is-less .ensures) (c .if2 .taken) in
     simp (le-leb _ _ g, lt-leb _ _ h)
 
--- src/lib.rt:90:1
 returns-3 : tie.Need-returns-3
 returns-3 c =
     let a = c .before .before .before .before .before .before .args in

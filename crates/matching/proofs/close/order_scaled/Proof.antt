@@ -7,8 +7,6 @@ use native.Mathlib.Nat.{div-add-mod', mod-lt, add-zero, pos-of-ne-zero}
 use Rattle.matching.proofs.Closeness.{next-digit, above, below, order-equal, order-greater}
 use Rattle.matching.proofs.close.order_scaled.Statement.{statement}
 use Rattle.matching.proofs.close.order_scaled.Tie as tie
-use Rattle.matching.proofs.close.order_scaled.Reads as reads
-use Rattle.matching.proofs.close.order_scaled.Lts as lts
 
 abbrev Inv-loop : tie.InvT-loop
 Inv-loop y n d k quo₀ rem₀ j₀ quo rem j = (j ≤ k) × (y * 10 ^ j ≡ quo * n + rem) × (rem < n)
@@ -16,20 +14,16 @@ Inv-loop y n d k quo₀ rem₀ j₀ quo rem j = (j ≤ k) × (y * 10 ^ j ≡ quo
 abbrev μ-loop : tie.MeasureT-loop
 μ-loop y n d k quo₀ rem₀ j₀ quo rem j = k - j
 
--- src/lib.rt:41:19
 div-quo : tie.Need-div-quo Inv-loop μ-loop
 div-quo c = search needs
 
--- src/lib.rt:42:19
 rem-rem : tie.Need-rem-rem Inv-loop μ-loop
 rem-rem c = search needs
 
--- src/lib.rt:44:5
 loop-holds : tie.Need-loop-holds Inv-loop μ-loop
 loop-holds c =
     (search needs, omega (arith, div-add-mod' (c .args .y) (c .args .n)), mod-lt (c .args .y) (c .pre .0))
 
--- src/lib.rt:46:13
 returns : tie.Need-returns Inv-loop μ-loop
 returns c =
     let a = c .before .before .before .args in
@@ -37,23 +31,18 @@ returns c =
     sym (above (a .y) (a .n) (a .d) (l .quo * 10 + l .rem * 10 / a .n) (l .rem * 10 % a .n) (l .j + 1) (a .k) (c .before .before .before .pre .0)
     (next-digit (a .y) (a .n) (l .quo) (l .rem) (l .j) (l .inv .1)) (omega arith) (search needs))
 
--- src/lib.rt:48:20
 mul-next : tie.Need-mul-next Inv-loop μ-loop
 mul-next c = search needs
 
--- src/lib.rt:49:21
 mul-digit : tie.Need-mul-digit Inv-loop μ-loop
 mul-digit c = search needs
 
--- src/lib.rt:49:21
 div-digit : tie.Need-div-digit Inv-loop μ-loop
 div-digit c = search needs
 
--- src/lib.rt:50:12
 sub-if2 : tie.Need-sub-if2 Inv-loop μ-loop
 sub-if2 c = search needs
 
--- src/lib.rt:51:13
 returns-2 : tie.Need-returns-2 Inv-loop μ-loop
 returns-2 c =
     let a = c .before .before .before .before .args in
@@ -61,41 +50,33 @@ returns-2 c =
     sym (above (a .y) (a .n) (a .d) (l .quo * 10 + l .rem * 10 / a .n) (l .rem * 10 % a .n) (l .j + 1) (a .k) (c .before .before .before .before .pre .0)
     (next-digit (a .y) (a .n) (l .quo) (l .rem) (l .j) (l .inv .1)) (omega arith) (search needs))
 
--- src/lib.rt:53:15
 add-quo : tie.Need-add-quo Inv-loop μ-loop
 add-quo c = search needs
 
--- src/lib.rt:54:15
 mul-rem : tie.Need-mul-rem Inv-loop μ-loop
 mul-rem c = search needs
 
--- src/lib.rt:54:15
 rem-rem-2 : tie.Need-rem-rem-2 Inv-loop μ-loop
 rem-rem-2 c = search needs
 
--- src/lib.rt:55:9
 add-j : tie.Need-add-j Inv-loop μ-loop
 add-j c = search needs
 
--- src/lib.rt:44:5
 loop-less : tie.Need-loop-less Inv-loop μ-loop
 loop-less c = search needs
 
--- src/lib.rt:44:5
 loop-again : tie.Need-loop-again Inv-loop μ-loop
 loop-again c =
     let a = c .before .before .before .before .args in
     let l = c .before .before .before .loop in
     (search needs, next-digit (a .y) (a .n) (l .quo) (l .rem) (l .j) (l .inv .1), mod-lt (l .rem * 10) (c .before .before .before .before .pre .0))
 
--- src/lib.rt:58:9
 returns-3 : tie.Need-returns-3 Inv-loop μ-loop
 returns-3 c =
     let a = c .before .before .before .args in
     let l = c .before .before .loop in
     sym (above (a .y) (a .n) (a .d) (l .quo) (l .rem) (l .j) (a .k) (c .before .before .before .pre .0) (l .inv .1) (search needs) (search needs))
 
--- src/lib.rt:61:9
 returns-4 : tie.Need-returns-4 Inv-loop μ-loop
 returns-4 c =
     let a = c .before .before .before .before .args in
@@ -103,7 +84,6 @@ returns-4 c =
     let k : l .j ≡ a .k = omega arith in
     sym (below (a .y) (a .n) (a .d) (l .quo) (l .rem) (a .k) (l .inv .2) (rw k at (l .inv .1)) (search needs))
 
--- src/lib.rt:64:9
 returns-5 : tie.Need-returns-5 Inv-loop μ-loop
 returns-5 c =
     let a = c .before .before .before .before .before .args in
@@ -112,7 +92,6 @@ returns-5 c =
     let q : l .quo ≡ a .d = omega arith in
     sym (order-equal {x = a .y * 10 ^ a .k} (rw k at (l .inv .1) ∙ rw (q, c .if5 .taken) (add-zero (a .d * a .n))))
 
--- src/lib.rt:37:1
 returns-6 : tie.Need-returns-6 Inv-loop μ-loop
 returns-6 c =
     let a = c .before .before .before .before .before .args in

@@ -8,9 +8,6 @@ use native.Mathlib.Numerals.{add-one}
 use Rattle.matching.proofs.Closeness.{cap-next, ten-more}
 use Rattle.matching.proofs.close.scaled_up.Statement.{statement}
 use Rattle.matching.proofs.close.scaled_up.Tie as tie
-use Rattle.matching.proofs.close.scaled_up.Reads as reads
-use Rattle.matching.proofs.close.scaled_up.Lts as lts
-use Rattle.matching.proofs.close.capped.Reads as capped-reads
 
 abbrev Inv-loop : tie.InvT-loop
 Inv-loop d k m₀ j₀ m j = (j ≤ k) × (m ≡ min (d * 10 ^ j) (10 ^ 18))
@@ -18,31 +15,24 @@ Inv-loop d k m₀ j₀ m j = (j ≤ k) × (m ≡ min (d * 10 ^ j) (10 ^ 18))
 abbrev μ-loop : tie.MeasureT-loop
 μ-loop d k m₀ j₀ m j = k - j
 
--- src/lib.rt:27:9
 capped-requires : tie.Need-capped-requires Inv-loop μ-loop
 capped-requires c κs = search needs
 
--- src/lib.rt:29:5
 loop-holds : tie.Need-loop-holds Inv-loop μ-loop
 loop-holds c = search needs
 
--- src/lib.rt:30:20
 mul-capped : tie.Need-mul-capped Inv-loop μ-loop
 mul-capped c = search needs
 
--- src/lib.rt:30:9
 capped-requires-2 : tie.Need-capped-requires-2 Inv-loop μ-loop
 capped-requires-2 c κs = search needs
 
--- src/lib.rt:31:9
 add-j : tie.Need-add-j Inv-loop μ-loop
 add-j c = search needs
 
--- src/lib.rt:29:5
 loop-less : tie.Need-loop-less Inv-loop μ-loop
 loop-less c = search needs
 
--- src/lib.rt:29:5
 loop-again : tie.Need-loop-again Inv-loop μ-loop
 loop-again c =
     let l = c .before .before .loop in
@@ -53,7 +43,6 @@ loop-again c =
           ∙ ap (λ (x : ℕ). min x (10 ^ 18)) (ten-more d (l .j)),
     )
 
--- src/lib.rt:24:1
 returns : tie.Need-returns Inv-loop μ-loop
 returns c =
     let k : c .before .loop .j ≡ c .before .before .before .args .k = omega arith in

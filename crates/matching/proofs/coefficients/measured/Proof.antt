@@ -2,51 +2,37 @@ use Rattle.matching.proofs.DecimalLines.{near-kept, near-surplus, near-
 use borrow.Author.Needs.{needs}
 use Rattle.matching.proofs.coefficients.measured.Statement.{statement}
 use Rattle.matching.proofs.coefficients.measured.Tie as tie
-use Rattle.matching.proofs.coefficients.measured.Reads as reads
-use Rattle.matching.proofs.coefficients.measured.Lts as lts
-use Rattle.matching.proofs.coefficients.near.Reads as near-reads
 
--- src/coefficients.rt:43:9
 returns : tie.Need-returns
 returns c = search near-kept
 
--- src/coefficients.rt:46:16
 add-result : tie.Need-add-result
 add-result c = search needs
 
--- src/coefficients.rt:46:9
 returns-2 : tie.Need-returns-2
 returns-2 c = search near-surplus
 
--- src/coefficients.rt:48:13
 mul-near : tie.Need-mul-near
 mul-near c = search needs
 
--- src/coefficients.rt:48:13
 shared-slice-read-near : tie.Need-shared-slice-read-near
 shared-slice-read-near c = search needs
 
--- src/coefficients.rt:48:28
 mul-near-2 : tie.Need-mul-near-2
 mul-near-2 c = search needs
 
--- src/coefficients.rt:48:28
 shared-slice-read-near-2 : tie.Need-shared-slice-read-near-2
 shared-slice-read-near-2 c = search needs
 
--- src/coefficients.rt:48:8
 near-requires : tie.Need-near-requires
 near-requires c κs = search needs
 
--- src/coefficients.rt:49:9
 returns-3 : tie.Need-returns-3
 returns-3 c = search near-yes
 
--- src/coefficients.rt:51:5
 add-result-2 : tie.Need-add-result-2
 add-result-2 c = search needs
 
--- src/coefficients.rt:37:1
 returns-4 : tie.Need-returns-4
 returns-4 c = search near-no
 

@@ -9,9 +9,6 @@ use Rattle.matching.proofs.Mismatches.{unlike-start, unlike-end, unlike
 use Rattle.matching.proofs.FirstLines.{bits-back}
 use Rattle.matching.proofs.kinds.first_unlike.Statement.{statement}
 use Rattle.matching.proofs.kinds.first_unlike.Tie as tie
-use Rattle.matching.proofs.kinds.first_unlike.Reads as reads
-use Rattle.matching.proofs.kinds.first_unlike.Lts as lts
-use Rattle.matching.proofs.kinds.unlike.Reads as unlike-reads
 
 abbrev Inv-loop : tie.InvT-loop
 Inv-loop a b n i j₀ j = (j ≤ i) × (every j (sameKind a b i) ≡ true)
@@ -25,87 +22,67 @@ Inv-lines a b n i₀ i = (i ≤ n) × (unlikeLine a b ≡ failingLine (agrees a 
 abbrev μ-lines : tie.MeasureT-lines
 μ-lines a b n i₀ i = n - i
 
--- src/kinds.rt:23:9
 lines-holds : tie.Need-lines-holds Inv-loop μ-loop Inv-lines μ-lines
 lines-holds c = (search needs, unlike-start _ _)
 
--- src/kinds.rt:28:9
 loop-holds : tie.Need-loop-holds Inv-loop μ-loop Inv-lines μ-lines
 loop-holds c = search (needs, every-none)
 
--- src/kinds.rt:29:23
 mul-unlike : tie.Need-mul-unlike Inv-loop μ-loop Inv-lines μ-lines
 mul-unlike c = search needs
 
--- src/kinds.rt:29:23
 shared-slice-copy-out-unlike :
     tie.Need-shared-slice-copy-out-unlike Inv-loop μ-loop Inv-lines μ-lines
 shared-slice-copy-out-unlike c = search needs
 
--- src/kinds.rt:29:29
 mul-unlike-2 : tie.Need-mul-unlike-2 Inv-loop μ-loop Inv-lines μ-lines
 mul-unlike-2 c = search needs
 
--- src/kinds.rt:29:29
 shared-slice-copy-out-unlike-2 :
     tie.Need-shared-slice-copy-out-unlike-2 Inv-loop μ-loop Inv-lines μ-lines
 shared-slice-copy-out-unlike-2 c = search needs
 
--- src/kinds.rt:29:35
 mul-unlike-3 : tie.Need-mul-unlike-3 Inv-loop μ-loop Inv-lines μ-lines
 mul-unlike-3 c = search needs
 
--- src/kinds.rt:29:35
 shared-slice-copy-out-unlike-3 :
     tie.Need-shared-slice-copy-out-unlike-3 Inv-loop μ-loop Inv-lines μ-lines
 shared-slice-copy-out-unlike-3 c = search needs
 
--- src/kinds.rt:29:41
 mul-unlike-4 : tie.Need-mul-unlike-4 Inv-loop μ-loop Inv-lines μ-lines
 mul-unlike-4 c = search needs
 
--- src/kinds.rt:29:41
 shared-slice-copy-out-unlike-4 :
     tie.Need-shared-slice-copy-out-unlike-4 Inv-loop μ-loop Inv-lines μ-lines
 shared-slice-copy-out-unlike-4 c = search needs
 
--- src/kinds.rt:29:16
 unlike-requires : tie.Need-unlike-requires Inv-loop μ-loop Inv-lines μ-lines
 unlike-requires c κs = search needs
 
--- src/kinds.rt:30:30
 add-first : tie.Need-add-first Inv-loop μ-loop Inv-lines μ-lines
 add-first c = search needs
 
--- src/kinds.rt:32:13
 add-j : tie.Need-add-j Inv-loop μ-loop Inv-lines μ-lines
 add-j c = search needs
 
--- src/kinds.rt:28:9
 loop-less : tie.Need-loop-less Inv-loop μ-loop Inv-lines μ-lines
 loop-less c = search needs
 
--- src/kinds.rt:28:9
 loop-again : tie.Need-loop-again Inv-loop μ-loop Inv-lines μ-lines
 loop-again c = search (needs, like-more, bits-back)
 
--- src/kinds.rt:34:9
 add-i : tie.Need-add-i Inv-loop μ-loop Inv-lines μ-lines
 add-i c = search needs
 
--- src/kinds.rt:23:9
 lines-less : tie.Need-lines-less Inv-loop μ-loop Inv-lines μ-lines
 lines-less c = search needs
 
--- src/kinds.rt:23:9
 lines-again : tie.Need-lines-again Inv-loop μ-loop Inv-lines μ-lines
 lines-again c = search (needs, unlike-later)
 
--- src/kinds.rt:17:1
 returns : tie.Need-returns Inv-loop μ-loop Inv-lines μ-lines
 returns c = search unlike-end
 
--- src/kinds.rt:17:1
 returns-2 : tie.Need-returns-2 Inv-loop μ-loop Inv-lines μ-lines
 returns-2 c = unlike-here _ _ _ _ (c .before .before .before .before .before .before .before .before .before .lines .inv .1) (search needs) _ (c .before .before .before .before .before .before .before .loop .inv .1) (bits-back _ (c .before .before .before .before .before .unlike-arg .given)) (bits-back _ (c .before .before .before .before .unlike-arg2 .given)) (bits-back _ (c .before .before .before .unlike-arg3 .given)) (bits-back _ (c .before .before .unlike-arg4 .given)) (c .before .unlike .ensures) (search needs) (c .if2 .taken)
 

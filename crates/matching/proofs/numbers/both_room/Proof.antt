@@ -1,14 +1,10 @@
 use Rattle.matching.proofs.FirstLines.{room-short, room-rest}
 use Rattle.matching.proofs.numbers.both_room.Statement.{statement}
 use Rattle.matching.proofs.numbers.both_room.Tie as tie
-use Rattle.matching.proofs.numbers.both_room.Reads as reads
-use Rattle.matching.proofs.numbers.both_room.Lts as lts
 
--- src/numbers.rt:85:9
 returns : tie.Need-returns
 returns c = search room-short
 
--- src/numbers.rt:81:1
 returns-2 : tie.Need-returns-2
 returns-2 c = search room-rest
 

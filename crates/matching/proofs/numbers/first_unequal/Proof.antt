@@ -9,9 +9,6 @@ use Rattle.matching.proofs.Mismatches.{unequal-end, unequal-here, unequ
 use Rattle.matching.proofs.FirstLines.{bits-back}
 use Rattle.matching.proofs.numbers.first_unequal.Statement.{statement}
 use Rattle.matching.proofs.numbers.first_unequal.Tie as tie
-use Rattle.matching.proofs.numbers.first_unequal.Reads as reads
-use Rattle.matching.proofs.numbers.first_unequal.Lts as lts
-use Rattle.basis.proofs.order.same.Reads as same-reads
 
 abbrev Inv-loop : tie.InvT-loop
 Inv-loop a b i₀ i = (i ≤ length a) × (unequalLine a b ≡ firstLine sameZ (i + 1) (drop i a) (drop i b))
@@ -19,51 +16,39 @@ Inv-loop a b i₀ i = (i ≤ length a) × (unequalLine a b ≡ firstLine sameZ (
 abbrev μ-loop : tie.MeasureT-loop
 μ-loop a b i₀ i = length a - i
 
--- src/numbers.rt:31:5
 loop-holds : tie.Need-loop-holds Inv-loop μ-loop
 loop-holds c = (search needs, refl)
 
--- src/numbers.rt:32:18
 mul-same : tie.Need-mul-same Inv-loop μ-loop
 mul-same c = search needs
 
--- src/numbers.rt:32:18
 shared-slice-copy-out-same : tie.Need-shared-slice-copy-out-same Inv-loop μ-loop
 shared-slice-copy-out-same c = search needs
 
--- src/numbers.rt:32:24
 mul-same-2 : tie.Need-mul-same-2 Inv-loop μ-loop
 mul-same-2 c = search needs
 
--- src/numbers.rt:32:24
 shared-slice-copy-out-same-2 : tie.Need-shared-slice-copy-out-same-2 Inv-loop μ-loop
 shared-slice-copy-out-same-2 c = search needs
 
--- src/numbers.rt:32:13
 same-requires : tie.Need-same-requires Inv-loop μ-loop
 same-requires c κs = search needs
 
--- src/numbers.rt:33:20
 add-result : tie.Need-add-result Inv-loop μ-loop
 add-result c = search needs
 
--- src/numbers.rt:33:13
 returns : tie.Need-returns Inv-loop μ-loop
 returns c = search (unequal-here, bits-back)
 
--- src/numbers.rt:35:9
 add-i : tie.Need-add-i Inv-loop μ-loop
 add-i c = search needs
 
--- src/numbers.rt:31:5
 loop-less : tie.Need-loop-less Inv-loop μ-loop
 loop-less c = search needs
 
--- src/numbers.rt:31:5
 loop-again : tie.Need-loop-again Inv-loop μ-loop
 loop-again c = search (needs, unequal-later, bits-back)
 
--- src/numbers.rt:26:1
 returns-2 : tie.Need-returns-2 Inv-loop μ-loop
 returns-2 c = search unequal-end
 

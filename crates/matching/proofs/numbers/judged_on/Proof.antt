@@ -2,36 +2,25 @@ use Rattle.matching.proofs.Judging.{read-fault, read-incomplete, read-c
 use borrow.Author.Needs.{needs}
 use Rattle.matching.proofs.numbers.judged_on.Statement.{statement}
 use Rattle.matching.proofs.numbers.judged_on.Tie as tie
-use Rattle.matching.proofs.numbers.judged_on.Reads as reads
-use Rattle.matching.proofs.numbers.judged_on.Lts as lts
-use Rattle.matching.proofs.numbers.mismatch.Reads as mismatch-reads
-use Rattle.matching.proofs.numbers.verdict_of.Reads as verdict-of-reads
 
--- src/numbers.rt:70:21
 enum-known-read : tie.Need-enum-known-read
 enum-known-read c = search needs
 
--- src/numbers.rt:71:21
 enum-known-read-2 : tie.Need-enum-known-read-2
 enum-known-read-2 c = search needs
 
--- src/numbers.rt:73:17
 returns : tie.Need-returns
 returns c = search read-incomplete
 
--- src/numbers.rt:75:27
 mismatch-requires : tie.Need-mismatch-requires
 mismatch-requires c κs = search needs
 
--- src/numbers.rt:75:13
 verdict-of-requires : tie.Need-verdict-of-requires
 verdict-of-requires c κs = search needs
 
--- src/numbers.rt:65:1
 returns-2 : tie.Need-returns-2
 returns-2 c = search read-fault
 
--- src/numbers.rt:65:1
 returns-3 : tie.Need-returns-3
 returns-3 c = search read-complete
 

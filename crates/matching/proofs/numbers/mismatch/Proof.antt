@@ -2,32 +2,22 @@ use Rattle.matching.proofs.Judging.{by-exact, by-equivalence}
 use borrow.Author.Needs.{needs}
 use Rattle.matching.proofs.numbers.mismatch.Statement.{statement}
 use Rattle.matching.proofs.numbers.mismatch.Tie as tie
-use Rattle.matching.proofs.numbers.mismatch.Reads as reads
-use Rattle.matching.proofs.numbers.mismatch.Lts as lts
-use Rattle.matching.proofs.kinds.first_unlike.Reads as first-unlike-reads
-use Rattle.matching.proofs.numbers.first_unequal.Reads as first-unequal-reads
 
--- src/numbers.rt:46:24
 enum-told : tie.Need-enum-told
 enum-told c = search needs
 
--- src/numbers.rt:46:24
 first-unequal-requires : tie.Need-first-unequal-requires
 first-unequal-requires c κs = search needs
 
--- src/numbers.rt:47:30
 enum-told-2 : tie.Need-enum-told-2
 enum-told-2 c = search needs
 
--- src/numbers.rt:47:30
 first-unlike-requires : tie.Need-first-unlike-requires
 first-unlike-requires c κs = search needs
 
--- src/numbers.rt:41:1
 returns : tie.Need-returns
 returns c = search by-exact
 
--- src/numbers.rt:41:1
 returns-2 : tie.Need-returns-2
 returns-2 c = search by-equivalence
 

@@ -3,43 +3,31 @@ use Rattle.matching.proofs.FirstLines.{cover-kept, cover-surplus, cover
 use borrow.Author.Needs.{needs}
 use Rattle.matching.proofs.reading.covered.Statement.{statement}
 use Rattle.matching.proofs.reading.covered.Tie as tie
-use Rattle.matching.proofs.reading.covered.Reads as reads
-use Rattle.matching.proofs.reading.covered.Lts as lts
-use Rattle.basis.proofs.order.same.Reads as same-reads
 
--- src/reading.rt:28:9
 returns : tie.Need-returns
 returns c = search cover-kept
 
--- src/reading.rt:31:16
 add-result : tie.Need-add-result
 add-result c = search needs
 
--- src/reading.rt:31:9
 returns-2 : tie.Need-returns-2
 returns-2 c = search cover-surplus
 
--- src/reading.rt:33:13
 mul-same : tie.Need-mul-same
 mul-same c = search needs
 
--- src/reading.rt:33:13
 shared-slice-copy-out-same : tie.Need-shared-slice-copy-out-same
 shared-slice-copy-out-same c = search needs
 
--- src/reading.rt:33:8
 same-requires : tie.Need-same-requires
 same-requires c κs = search needs
 
--- src/reading.rt:34:9
 returns-3 : tie.Need-returns-3
 returns-3 c = search (cover-same, toZ-ofZ, bits-back)
 
--- src/reading.rt:36:5
 add-result-2 : tie.Need-add-result-2
 add-result-2 c = search needs
 
--- src/reading.rt:23:1
 returns-4 : tie.Need-returns-4
 returns-4 c = search (cover-other, toZ-ofZ, bits-back)
 

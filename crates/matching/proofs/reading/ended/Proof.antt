@@ -2,22 +2,16 @@ use Rattle.matching.proofs.FirstLines.{end-kept, end-missing, end-whole
 use borrow.Author.Needs.{needs}
 use Rattle.matching.proofs.reading.ended.Statement.{statement}
 use Rattle.matching.proofs.reading.ended.Tie as tie
-use Rattle.matching.proofs.reading.ended.Reads as reads
-use Rattle.matching.proofs.reading.ended.Lts as lts
 
--- src/reading.rt:44:9
 returns : tie.Need-returns
 returns c = search end-kept
 
--- src/reading.rt:47:16
 add-result : tie.Need-add-result
 add-result c = search needs
 
--- src/reading.rt:47:9
 returns-2 : tie.Need-returns-2
 returns-2 c = search end-missing
 
--- src/reading.rt:40:1
 returns-3 : tie.Need-returns-3
 returns-3 c = search end-whole
 

@@ -6,13 +6,6 @@ use Rattle.matching.proofs.NumberLines.{Numbers, numbers-none, numbers-
 use Rattle.matching.proofs.FirstLines.{bits-back}
 use Rattle.matching.proofs.reading.read_numbers.Statement.{statement}
 use Rattle.matching.proofs.reading.read_numbers.Tie as tie
-use Rattle.matching.proofs.reading.read_numbers.Reads as reads
-use Rattle.matching.proofs.reading.read_numbers.Lts as lts
-use Rattle.basis.proofs.refusal.Refusal.at.Reads as at-reads
-use Rattle.matching.proofs.reading.covered.Reads as covered-reads
-use Rattle.matching.proofs.reading.ended.Reads as ended-reads
-use Rattle.matching.proofs.reading.keep.Reads as keep-reads
-use Rattle.text.proofs.line.Cursor.claim.Reads as claim-reads
 
 abbrev Inv-loop : tie.InvT-loop
 Inv-loop most ids claim claimed₀ n cursor₀ k₀ incomplete₀ claimed cursor k incomplete = Numbers most ids claim (length claimed₀) claimed (cursor .at) k incomplete
@@ -20,99 +13,75 @@ Inv-loop most ids claim claimed₀ n cursor₀ k₀ incomplete₀ claimed cursor
 abbrev μ-loop : tie.MeasureT-loop
 μ-loop most ids claim claimed₀ n cursor₀ k₀ incomplete₀ claimed cursor k incomplete = most - k
 
--- src/reading.rt:71:5
 loop-holds : tie.Need-loop-holds Inv-loop μ-loop
 loop-holds c = numbers-none _ _ _ _
 
--- src/reading.rt:72:13
 claim-requires : tie.Need-claim-requires Inv-loop μ-loop
 claim-requires c κs = search needs
 
--- src/reading.rt:75:36
 enum-told : tie.Need-enum-told Inv-loop μ-loop
 enum-told c = search needs
 
--- src/reading.rt:75:36
 ended-requires : tie.Need-ended-requires Inv-loop μ-loop
 ended-requires c κs = search needs
 
--- src/reading.rt:75:17
 same-length : tie.Need-same-length Inv-loop μ-loop
 same-length c = search needs
 
--- src/reading.rt:75:17
 returns : tie.Need-returns Inv-loop μ-loop
 returns c = search numbers-end
 
--- src/reading.rt:77:29
 enum-known-line : tie.Need-enum-known-line Inv-loop μ-loop
 enum-known-line c = search needs
 
--- src/reading.rt:78:68
 add-at : tie.Need-add-at Inv-loop μ-loop
 add-at c = search needs
 
--- src/reading.rt:78:36
 at-requires : tie.Need-at-requires Inv-loop μ-loop
 at-requires c κs = search needs
 
--- src/reading.rt:78:17
 same-length-2 : tie.Need-same-length-2 Inv-loop μ-loop
 same-length-2 c = search needs
 
--- src/reading.rt:78:17
 returns-2 : tie.Need-returns-2 Inv-loop μ-loop
 returns-2 c = search numbers-fault
 
--- src/reading.rt:80:28
 enum-known-line-2 : tie.Need-enum-known-line-2 Inv-loop μ-loop
 enum-known-line-2 c = search needs
 
--- src/reading.rt:81:17
 covered-requires : tie.Need-covered-requires Inv-loop μ-loop
 covered-requires c κs = search needs
 
--- src/reading.rt:82:17
 keep-requires : tie.Need-keep-requires Inv-loop μ-loop
 keep-requires c κs = search needs
 
--- src/reading.rt:84:17
 add-k : tie.Need-add-k Inv-loop μ-loop
 add-k c = search needs
 
--- src/reading.rt:71:5
 loop-less : tie.Need-loop-less Inv-loop μ-loop
 loop-less c = search needs
 
--- src/reading.rt:71:5
 loop-again : tie.Need-loop-again Inv-loop μ-loop
 loop-again c = numbers-next _ _ _ (c .before .before .before .before .before .before .before .before .before .loop .inv) (search needs) (c .before .before .before .before .before .before .before .claim .ensures) _ _ _ (c .before .before .before .before .before .line2 .given .1) (c .before .before .before .before .before .before .before .before .before .before .before .pre) (c .before .before .before .covered .ensures) (c .before .keep .ensures)
 
--- src/reading.rt:90:62
 add-at-2 : tie.Need-add-at-2 Inv-loop μ-loop
 add-at-2 c = search needs
 
--- src/reading.rt:90:28
 at-requires-2 : tie.Need-at-requires-2 Inv-loop μ-loop
 at-requires-2 c κs = search needs
 
--- src/reading.rt:90:9
 same-length-3 : tie.Need-same-length-3 Inv-loop μ-loop
 same-length-3 c = search needs
 
--- src/reading.rt:90:9
 returns-3 : tie.Need-returns-3 Inv-loop μ-loop
 returns-3 c = search numbers-over
 
--- src/reading.rt:92:17
 ended-requires-2 : tie.Need-ended-requires-2 Inv-loop μ-loop
 ended-requires-2 c κs = search needs
 
--- src/reading.rt:63:1
 same-length-4 : tie.Need-same-length-4 Inv-loop μ-loop
 same-length-4 c = search needs
 
--- src/reading.rt:63:1
 returns-4 : tie.Need-returns-4 Inv-loop μ-loop
 returns-4 c = search numbers-full
 

@@ -2,27 +2,19 @@ use Rattle.verdicts.proofs.Settling.{both-terms}
 use borrow.Author.Needs.{needs}
 use Rattle.verdicts.proofs.claims.refuse_terms.Statement.{statement}
 use Rattle.verdicts.proofs.claims.refuse_terms.Tie as tie
-use Rattle.verdicts.proofs.claims.refuse_terms.Reads as reads
-use Rattle.verdicts.proofs.claims.refuse_terms.Lts as lts
-use Rattle.basis.proofs.area.clear.Reads as clear-reads
 
--- src/claims.rt:64:5
 clear-requires : tie.Need-clear-requires
 clear-requires c κs = search needs
 
--- src/claims.rt:65:5
 clear-requires-2 : tie.Need-clear-requires-2
 clear-requires-2 c κs = search needs
 
--- src/claims.rt:61:1
 same-length : tie.Need-same-length
 same-length c = search needs
 
--- src/claims.rt:61:1
 same-length-2 : tie.Need-same-length-2
 same-length-2 c = search needs
 
--- src/claims.rt:61:1
 returns : tie.Need-returns
 returns c = search both-terms
 

@@ -2,36 +2,25 @@ use Rattle.verdicts.proofs.Settling.{both-terms, kept-stays, kept-goes}
 use borrow.Author.Needs.{needs}
 use Rattle.verdicts.proofs.claims.settle_terms.Statement.{statement}
 use Rattle.verdicts.proofs.claims.settle_terms.Tie as tie
-use Rattle.verdicts.proofs.claims.settle_terms.Reads as reads
-use Rattle.verdicts.proofs.claims.settle_terms.Lts as lts
-use Rattle.basis.proofs.area.clear.Reads as clear-reads
-use Rattle.verdicts.proofs.claims.is_refused.Reads as is-refused-reads
 
--- src/claims.rt:45:9
 is-refused-requires : tie.Need-is-refused-requires
 is-refused-requires c κs = search needs
 
--- src/claims.rt:46:9
 returns : tie.Need-returns
 returns c = search (both-terms, kept-stays)
 
--- src/claims.rt:48:5
 clear-requires : tie.Need-clear-requires
 clear-requires c κs = search needs
 
--- src/claims.rt:49:5
 clear-requires-2 : tie.Need-clear-requires-2
 clear-requires-2 c κs = search needs
 
--- src/claims.rt:42:1
 same-length : tie.Need-same-length
 same-length c = search needs
 
--- src/claims.rt:42:1
 same-length-2 : tie.Need-same-length-2
 same-length-2 c = search needs
 
--- src/claims.rt:42:1
 returns-2 : tie.Need-returns-2
 returns-2 c = search (both-terms, kept-goes)
 

@@ -4,78 +4,55 @@ use lib.Seq.{length-take-le}
 use borrow.Author.Needs.{needs}
 use Rattle.verdicts.proofs.claims.terms_on.Statement.{statement}
 use Rattle.verdicts.proofs.claims.terms_on.Tie as tie
-use Rattle.verdicts.proofs.claims.terms_on.Reads as reads
-use Rattle.verdicts.proofs.claims.terms_on.Lts as lts
-use Rattle.basis.proofs.refusal.Refusal.plain.Reads as plain-reads
-use Rattle.matching.proofs.coefficients.judge_coefficients.Reads as judge-coefficients-reads
-use Rattle.verdicts.proofs.claims.refuse_terms.Reads as refuse-terms-reads
-use Rattle.verdicts.proofs.claims.settle_terms.Reads as settle-terms-reads
 
--- src/claims.rt:113:25
 enum-known-answer : tie.Need-enum-known-answer
 enum-known-answer c = search needs
 
--- src/claims.rt:113:31
 refuse-terms-requires : tie.Need-refuse-terms-requires
 refuse-terms-requires c κs = search needs
 
--- src/claims.rt:115:16
 enum-told : tie.Need-enum-told
 enum-told c = search needs
 
--- src/claims.rt:116:37
 plain-requires : tie.Need-plain-requires
 plain-requires c κs = search needs
 
--- src/claims.rt:116:17
 refuse-terms-requires-2 : tie.Need-refuse-terms-requires-2
 refuse-terms-requires-2 c κs = search needs
 
--- src/claims.rt:116:17
 same-length : tie.Need-same-length
 same-length c = search needs
 
--- src/claims.rt:116:17
 same-length-2 : tie.Need-same-length-2
 same-length-2 c = search needs
 
--- src/claims.rt:116:17
 returns : tie.Need-returns
 returns c = search terms-short
 
--- src/claims.rt:118:51
 slice-aggregate-judge-coefficients : tie.Need-slice-aggregate-judge-coefficients
 slice-aggregate-judge-coefficients c = sym (length-take-le _ _ (search known-ids))
 
--- src/claims.rt:118:17
 judge-coefficients-requires : tie.Need-judge-coefficients-requires
 judge-coefficients-requires c κs = search needs
 
--- src/claims.rt:119:13
 settle-terms-requires : tie.Need-settle-terms-requires
 settle-terms-requires c κs = search needs
 
--- src/claims.rt:98:1
 same-length-3 : tie.Need-same-length-3
 same-length-3 c = search needs
 
--- src/claims.rt:98:1
 same-length-4 : tie.Need-same-length-4
 same-length-4 c = search needs
 
--- src/claims.rt:98:1
 returns-2 : tie.Need-returns-2
 returns-2 c = search terms-refused
 
--- src/claims.rt:98:1
 same-length-5 : tie.Need-same-length-5
 same-length-5 c = search needs
 
--- src/claims.rt:98:1
 same-length-6 : tie.Need-same-length-6
 same-length-6 c = search needs
 
--- src/claims.rt:98:1
 returns-3 : tie.Need-returns-3
 returns-3 c = search terms-done
 

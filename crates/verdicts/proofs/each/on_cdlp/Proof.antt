@@ -3,41 +3,29 @@ use Rattle.verdicts.proofs.Kernels.{cdlp-known, cdlp-roomy, cdlp-cleare
 use borrow.Author.Needs.{needs}
 use Rattle.verdicts.proofs.each.on_cdlp.Statement.{statement}
 use Rattle.verdicts.proofs.each.on_cdlp.Tie as tie
-use Rattle.verdicts.proofs.each.on_cdlp.Reads as reads
-use Rattle.verdicts.proofs.each.on_cdlp.Lts as lts
-use Rattle.cdlp.proofs.cdlp.Reads as cdlp-reads
-use Rattle.verdicts.proofs.claims.numbers_on.Reads as numbers-on-reads
 
--- src/each.rt:130:9
 cdlp-requires : tie.Need-cdlp-requires
 cdlp-requires c κs = search needs
 
--- src/each.rt:143:5
 numbers-on-requires : tie.Need-numbers-on-requires
 numbers-on-requires c κs =
     let a = c .before .before .before .before .before .before .before .before .before .before .before .before .before .before .before .before .before .before .before .before .before .before in let e = c .before .before .before .before .before .before .before .before .before .cdlp .ensures in let p = toZ-ofZ (a .fits .iterations) in (cdlp-known _ _ p _ _ _ _ e, (cdlp-roomy _ _ p _ _ _ _ e (a .pre .0 .0), a .pre .0 .1))
 
--- src/each.rt:108:1
 same-length : tie.Need-same-length
 same-length c = search needs
 
--- src/each.rt:108:1
 same-length-2 : tie.Need-same-length-2
 same-length-2 c = search needs
 
--- src/each.rt:108:1
 same-length-3 : tie.Need-same-length-3
 same-length-3 c = search needs
 
--- src/each.rt:108:1
 same-length-4 : tie.Need-same-length-4
 same-length-4 c = search needs
 
--- src/each.rt:108:1
 same-length-5 : tie.Need-same-length-5
 same-length-5 c = search needs
 
--- src/each.rt:108:1
 returns : tie.Need-returns
 returns c =
     let a = c .before .before .before .before .before .before .before .before .before .before .before .before .before .before .before .before .before .before .before .before .before .before .before .before .before in let e = c .before .before .before .before .before .before .before .before .before .before .before .before .cdlp .ensures in let p = toZ-ofZ (a .fits .iterations) in (cdlp-verdict _ _ p _ _ _ _ e (a .pre .0 .0) (a .pre .1) _ _ _ (c .before .before .numbers-on .ensures), cdlp-cleared _ _ p _ _ _ _ e)

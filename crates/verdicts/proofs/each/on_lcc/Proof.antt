@@ -2,33 +2,23 @@ use Rattle.verdicts.proofs.Fractions.{lcc-known, lcc-roomy, lcc-cleared
 use borrow.Author.Needs.{needs}
 use Rattle.verdicts.proofs.each.on_lcc.Statement.{statement}
 use Rattle.verdicts.proofs.each.on_lcc.Tie as tie
-use Rattle.verdicts.proofs.each.on_lcc.Reads as reads
-use Rattle.verdicts.proofs.each.on_lcc.Lts as lts
-use Rattle.lcc.proofs.lcc.lcc.Reads as lcc-reads
-use Rattle.verdicts.proofs.claims.terms_on.Reads as terms-on-reads
 
--- src/each.rt:176:9
 lcc-requires : tie.Need-lcc-requires
 lcc-requires c κs = search needs
 
--- src/each.rt:187:5
 terms-on-requires : tie.Need-terms-on-requires
 terms-on-requires c κs =
     let a = c .before .before .before .before .before .before .before .before .before .before .before .before .before .before .before .before .before .before .before .before in let e = c .before .before .before .before .before .before .before .before .lcc .ensures in (lcc-known _ _ _ _ e, lcc-roomy _ _ _ _ e (a .pre .0))
 
--- src/each.rt:156:1
 same-length : tie.Need-same-length
 same-length c = search needs
 
--- src/each.rt:156:1
 same-length-2 : tie.Need-same-length-2
 same-length-2 c = search needs
 
--- src/each.rt:156:1
 same-length-3 : tie.Need-same-length-3
 same-length-3 c = search needs
 
--- src/each.rt:156:1
 returns : tie.Need-returns
 returns c = (search lcc-verdict, search lcc-cleared)
 

@@ -2,37 +2,26 @@ use Rattle.verdicts.proofs.Kernels.{wcc-known, wcc-roomy, wcc-cleared, 
 use borrow.Author.Needs.{needs}
 use Rattle.verdicts.proofs.each.on_wcc.Statement.{statement}
 use Rattle.verdicts.proofs.each.on_wcc.Tie as tie
-use Rattle.verdicts.proofs.each.on_wcc.Reads as reads
-use Rattle.verdicts.proofs.each.on_wcc.Lts as lts
-use Rattle.verdicts.proofs.claims.numbers_on.Reads as numbers-on-reads
-use Rattle.wcc.proofs.wcc.Reads as wcc-reads
 
--- src/each.rt:84:9
 wcc-requires : tie.Need-wcc-requires
 wcc-requires c κs = search needs
 
--- src/each.rt:95:5
 numbers-on-requires : tie.Need-numbers-on-requires
 numbers-on-requires c κs =
     let a = c .before .before .before .before .before .before .before .before .before .before .before .before .before .before .before .before .before .before in let e = c .before .before .before .before .before .before .before .wcc .ensures in (wcc-known _ _ _ _ e, (wcc-roomy _ _ _ _ e (a .pre .0 .0), a .pre .0 .1))
 
--- src/each.rt:63:1
 same-length : tie.Need-same-length
 same-length c = search needs
 
--- src/each.rt:63:1
 same-length-2 : tie.Need-same-length-2
 same-length-2 c = search needs
 
--- src/each.rt:63:1
 same-length-3 : tie.Need-same-length-3
 same-length-3 c = search needs
 
--- src/each.rt:63:1
 same-length-4 : tie.Need-same-length-4
 same-length-4 c = search needs
 
--- src/each.rt:63:1
 returns : tie.Need-returns
 returns c = (search wcc-verdict, (search wcc-cleared, search wcc-cleared-too))
 

@@ -2,57 +2,40 @@ use Rattle.verdicts.proofs.Calls.{unknown-all}
 use borrow.Author.Needs.{needs}
 use Rattle.verdicts.proofs.verdict.refuse_unknown.Statement.{statement}
 use Rattle.verdicts.proofs.verdict.refuse_unknown.Tie as tie
-use Rattle.verdicts.proofs.verdict.refuse_unknown.Reads as reads
-use Rattle.verdicts.proofs.verdict.refuse_unknown.Lts as lts
-use Rattle.basis.proofs.area.clear.Reads as clear-reads
-use Rattle.basis.proofs.area.clear_signed.Reads as clear-signed-reads
-use Rattle.basis.proofs.refusal.Refusal.plain.Reads as plain-reads
 
--- src/verdict.rt:52:5
 clear-signed-requires : tie.Need-clear-signed-requires
 clear-signed-requires c κs = search needs
 
--- src/verdict.rt:53:5
 clear-signed-requires-2 : tie.Need-clear-signed-requires-2
 clear-signed-requires-2 c κs = search needs
 
--- src/verdict.rt:54:5
 clear-requires : tie.Need-clear-requires
 clear-requires c κs = search needs
 
--- src/verdict.rt:55:5
 clear-requires-2 : tie.Need-clear-requires-2
 clear-requires-2 c κs = search needs
 
--- src/verdict.rt:56:5
 clear-requires-3 : tie.Need-clear-requires-3
 clear-requires-3 c κs = search needs
 
--- src/verdict.rt:57:21
 plain-requires : tie.Need-plain-requires
 plain-requires c κs = search needs
 
--- src/verdict.rt:49:1
 same-length : tie.Need-same-length
 same-length c = search needs
 
--- src/verdict.rt:49:1
 same-length-2 : tie.Need-same-length-2
 same-length-2 c = search needs
 
--- src/verdict.rt:49:1
 same-length-3 : tie.Need-same-length-3
 same-length-3 c = search needs
 
--- src/verdict.rt:49:1
 same-length-4 : tie.Need-same-length-4
 same-length-4 c = search needs
 
--- src/verdict.rt:49:1
 same-length-5 : tie.Need-same-length-5
 same-length-5 c = search needs
 
--- src/verdict.rt:49:1
 returns : tie.Need-returns
 returns c = search unknown-all
 

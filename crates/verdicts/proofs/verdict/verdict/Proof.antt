@@ -7,35 +7,25 @@ use Rattle.verdicts.specs.Call.{mostLines, verdictCall}
 use borrow.Author.Needs.{needs}
 use Rattle.verdicts.proofs.verdict.verdict.Statement.{statement}
 use Rattle.verdicts.proofs.verdict.verdict.Tie as tie
-use Rattle.verdicts.proofs.verdict.verdict.Reads as reads
-use Rattle.verdicts.proofs.verdict.verdict.Lts as lts
-use Rattle.verdicts.proofs.verdict.verdict_within.Reads as verdict-within-reads
 
--- src/verdict.rt:186:5
 verdict-within-requires : tie.Need-verdict-within-requires
 verdict-within-requires c κs = search needs
 
--- src/verdict.rt:168:1
 same-length : tie.Need-same-length
 same-length c = search needs
 
--- src/verdict.rt:168:1
 same-length-2 : tie.Need-same-length-2
 same-length-2 c = search needs
 
--- src/verdict.rt:168:1
 same-length-3 : tie.Need-same-length-3
 same-length-3 c = search needs
 
--- src/verdict.rt:168:1
 same-length-4 : tie.Need-same-length-4
 same-length-4 c = search needs
 
--- src/verdict.rt:168:1
 same-length-5 : tie.Need-same-length-5
 same-length-5 c = search needs
 
--- src/verdict.rt:168:1
 returns : tie.Need-returns
 returns c = c .before .before .before .before .before .before .before .before .verdict-within .ensures ∙ ap (λ (z : ℤ). verdictCall mostLines (lent (c .before .before .before .before .before .before .before .before .before .before .before .before .before .before .before .before .before .before .before .before .before .before .args .size) (now (c .before .before .before .before .before .before .before .before .before .before .before .before .before .before .before .before .before .before .before .before .before .before .args .ids)) (now (c .before .before .before .before .before .before .before .before .before .before .before .before .before .before .before .before .before .before .before .before .before .before .args .out-offsets)) (now (c .before .before .before .before .before .before .before .before .before .before .before .before .before .before .before .before .before .before .before .before .before .before .args .out-targets)) (now (c .before .before .before .before .before .before .before .before .before .before .before .before .before .before .before .before .before .before .before .before .before .before .args .in-offsets)) (now (c .before .before .before .before .before .before .before .before .before .before .before .before .before .before .before .before .before .before .before .before .before .before .args .in-sources))) (c .before .before .before .before .before .before .before .before .before .before .before .before .before .before .before .before .before .before .before .before .before .before .args .kernel) z (now (c .before .before .before .before .before .before .before .before .before .before .before .before .before .before .before .before .before .before .before .before .before .before .args .claim)) (now (c .before .before .before .before .before .before .before .before .before .before .before .before .before .before .before .before .before .before .before .before .before .before .args .result)) (now (c .before .before .before .before .before .before .before .before .before .before .before .before .before .before .before .before .before .before .before .before .before .before .args .claimed)) (now (c .before .before .before .before .before .before .before .before .before .before .before .before .before .before .before .before .before .before .before .before .before .before .args .first)) (now (c .before .before .before .before .before .before .before .before .before .before .before .before .before .before .before .before .before .before .before .before .before .before .args .second)) (now (c .before .before .before .before .before .before .before .before .before .before .before .before .before .before .before .before .before .before .before .before .before .before .args .third))) (toZ-ofZ (c .before .before .before .before .before .before .before .before .before .before .before .before .before .before .before .before .before .before .before .before .before .before .fits .parameter))
 

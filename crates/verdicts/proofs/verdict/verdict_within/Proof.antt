@@ -3,178 +3,127 @@ use Rattle.verdicts.proofs.Calls.{roomy, verdict-unknown, verdict-bfs, 
 use borrow.Author.Needs.{needs}
 use Rattle.verdicts.proofs.verdict.verdict_within.Statement.{statement}
 use Rattle.verdicts.proofs.verdict.verdict_within.Tie as tie
-use Rattle.verdicts.proofs.verdict.verdict_within.Reads as reads
-use Rattle.verdicts.proofs.verdict.verdict_within.Lts as lts
-use Rattle.basis.proofs.area.clear.Reads as clear-reads
-use Rattle.basis.proofs.area.clear_signed.Reads as clear-signed-reads
-use Rattle.verdicts.proofs.each.on_bfs.Reads as on-bfs-reads
-use Rattle.verdicts.proofs.each.on_cdlp.Reads as on-cdlp-reads
-use Rattle.verdicts.proofs.each.on_lcc.Reads as on-lcc-reads
-use Rattle.verdicts.proofs.each.on_wcc.Reads as on-wcc-reads
-use Rattle.verdicts.proofs.verdict.has_room.Reads as has-room-reads
-use Rattle.verdicts.proofs.verdict.refuse_unknown.Reads as refuse-unknown-reads
 
--- src/verdict.rt:80:9
 has-room-requires : tie.Need-has-room-requires
 has-room-requires c κs = search needs
 
--- src/verdict.rt:89:9
 clear-requires : tie.Need-clear-requires
 clear-requires c κs = search needs
 
--- src/verdict.rt:90:9
 clear-requires-2 : tie.Need-clear-requires-2
 clear-requires-2 c κs = search needs
 
--- src/verdict.rt:91:9
 on-bfs-requires : tie.Need-on-bfs-requires
 on-bfs-requires c κs = let h = roomy _ _ _ _ _ _ (c .before .before .before .before .before .before .before .before .before .before .before .before .has-room .ensures) in (h .0, h .1 .0)
 
--- src/verdict.rt:91:9
 same-length : tie.Need-same-length
 same-length c = search needs
 
--- src/verdict.rt:91:9
 same-length-2 : tie.Need-same-length-2
 same-length-2 c = search needs
 
--- src/verdict.rt:91:9
 same-length-3 : tie.Need-same-length-3
 same-length-3 c = search needs
 
--- src/verdict.rt:91:9
 same-length-4 : tie.Need-same-length-4
 same-length-4 c = search needs
 
--- src/verdict.rt:91:9
 same-length-5 : tie.Need-same-length-5
 same-length-5 c = search needs
 
--- src/verdict.rt:91:9
 returns : tie.Need-returns
 returns c = verdict-bfs _ _ _ _ _ _ _ _ _ _ (c .before .before .before .before .before .before .before .before .before .before .before .before .before .before .before .before .before .has-room .ensures) (toZ-ofZ (c .before .before .before .before .before .before .before .before .before .before .before .before .before .before .before .before .before .before .before .before .before .before .before .before .before .before .fits .parameter)) (c .before .before .before .before .before .before .before .before .before .before .before .before .before .before .before .before .if1 .taken) (c .before .before .before .before .on-bfs .ensures .0) (c .before .before .before .before .on-bfs .ensures .1) (c .before .before .before .before .before .before .before .before .before .before .before .before .before .before .clear .ensures) (c .before .before .before .before .before .before .before .before .before .before .clear2 .ensures)
 
--- src/verdict.rt:108:9
 clear-requires-3 : tie.Need-clear-requires-3
 clear-requires-3 c κs = search needs
 
--- src/verdict.rt:109:9
 on-wcc-requires : tie.Need-on-wcc-requires
 on-wcc-requires c κs = let h = roomy _ _ _ _ _ _ (c .before .before .before .before .before .before .before .before .before .before .has-room .ensures) in (h .0, (h .1 .0, h .1 .1))
 
--- src/verdict.rt:109:9
 same-length-6 : tie.Need-same-length-6
 same-length-6 c = search needs
 
--- src/verdict.rt:109:9
 same-length-7 : tie.Need-same-length-7
 same-length-7 c = search needs
 
--- src/verdict.rt:109:9
 same-length-8 : tie.Need-same-length-8
 same-length-8 c = search needs
 
--- src/verdict.rt:109:9
 same-length-9 : tie.Need-same-length-9
 same-length-9 c = search needs
 
--- src/verdict.rt:109:9
 same-length-10 : tie.Need-same-length-10
 same-length-10 c = search needs
 
--- src/verdict.rt:109:9
 returns-2 : tie.Need-returns-2
 returns-2 c = verdict-wcc _ _ _ _ _ _ _ _ _ _ (c .before .before .before .before .before .before .before .before .before .before .before .before .before .before .before .before .before .has-room .ensures) (c .before .before .before .before .before .before .before .before .before .before .before .before .before .before .before .before .if1 .left) (c .before .before .before .before .before .before .before .before .before .before .before .before .before .before .before .if2 .taken) (c .before .before .before .before .before .before .on-wcc .ensures .0) (c .before .before .before .before .before .before .on-wcc .ensures .1) (c .before .before .before .before .before .before .before .before .before .before .before .before .before .clear3 .ensures)
 
--- src/verdict.rt:127:9
 on-cdlp-requires : tie.Need-on-cdlp-requires
 on-cdlp-requires c κs = let h = roomy _ _ _ _ _ _ (c .before .before .before .before .before .before .before .before .has-room .ensures) in (h .0, h .1)
 
--- src/verdict.rt:127:9
 same-length-11 : tie.Need-same-length-11
 same-length-11 c = search needs
 
--- src/verdict.rt:127:9
 same-length-12 : tie.Need-same-length-12
 same-length-12 c = search needs
 
--- src/verdict.rt:127:9
 same-length-13 : tie.Need-same-length-13
 same-length-13 c = search needs
 
--- src/verdict.rt:127:9
 same-length-14 : tie.Need-same-length-14
 same-length-14 c = search needs
 
--- src/verdict.rt:127:9
 same-length-15 : tie.Need-same-length-15
 same-length-15 c = search needs
 
--- src/verdict.rt:127:9
 returns-3 : tie.Need-returns-3
 returns-3 c = verdict-cdlp _ _ _ _ _ _ _ _ _ _ (c .before .before .before .before .before .before .before .before .before .before .before .before .before .before .before .before .before .has-room .ensures) (toZ-ofZ (c .before .before .before .before .before .before .before .before .before .before .before .before .before .before .before .before .before .before .before .before .before .before .before .before .before .before .fits .parameter)) (c .before .before .before .before .before .before .before .before .before .before .before .before .before .before .before .before .if1 .left) (c .before .before .before .before .before .before .before .before .before .before .before .before .before .before .before .if2 .left) (c .before .before .before .before .before .before .before .before .before .before .before .before .before .before .if3 .taken) (c .before .before .before .before .before .before .before .before .on-cdlp .ensures .0) (c .before .before .before .before .before .before .before .before .on-cdlp .ensures .1)
 
--- src/verdict.rt:146:9
 clear-signed-requires : tie.Need-clear-signed-requires
 clear-signed-requires c κs = search needs
 
--- src/verdict.rt:147:9
 clear-signed-requires-2 : tie.Need-clear-signed-requires-2
 clear-signed-requires-2 c κs = search needs
 
--- src/verdict.rt:148:9
 on-lcc-requires : tie.Need-on-lcc-requires
 on-lcc-requires c κs = let h = roomy _ _ _ _ _ _ (c .before .before .before .before .before .before .before .before .before .before .before .before .before .has-room .ensures) in ((h .1 .0, h .1 .1), h .1 .2)
 
--- src/verdict.rt:148:9
 same-length-16 : tie.Need-same-length-16
 same-length-16 c = search needs
 
--- src/verdict.rt:148:9
 same-length-17 : tie.Need-same-length-17
 same-length-17 c = search needs
 
--- src/verdict.rt:148:9
 same-length-18 : tie.Need-same-length-18
 same-length-18 c = search needs
 
--- src/verdict.rt:148:9
 same-length-19 : tie.Need-same-length-19
 same-length-19 c = search needs
 
--- src/verdict.rt:148:9
 same-length-20 : tie.Need-same-length-20
 same-length-20 c = search needs
 
--- src/verdict.rt:148:9
 returns-4 : tie.Need-returns-4
 returns-4 c = verdict-lcc _ _ _ _ _ _ _ _ _ _ (c .before .before .before .before .before .before .before .before .before .before .before .before .before .before .before .before .before .before .before .before .has-room .ensures) (c .before .before .before .before .before .before .before .before .before .before .before .before .before .before .before .before .before .before .before .if1 .left) (c .before .before .before .before .before .before .before .before .before .before .before .before .before .before .before .before .before .before .if2 .left) (c .before .before .before .before .before .before .before .before .before .before .before .before .before .before .before .before .before .if3 .left) (c .before .before .before .before .before .before .before .before .before .before .before .before .before .before .before .before .if4 .taken) (c .before .before .before .before .before .before .on-lcc .ensures .0) (c .before .before .before .before .before .before .before .before .before .before .before .before .before .before .clear-signed .ensures) (c .before .before .before .before .before .before .before .before .before .before .before .clear-signed2 .ensures) (c .before .before .before .before .before .before .on-lcc .ensures .1)
 
--- src/verdict.rt:164:5
 refuse-unknown-requires : tie.Need-refuse-unknown-requires
 refuse-unknown-requires c κs = search needs
 
--- src/verdict.rt:61:1
 same-length-21 : tie.Need-same-length-21
 same-length-21 c = search needs
 
--- src/verdict.rt:61:1
 same-length-22 : tie.Need-same-length-22
 same-length-22 c = search needs
 
--- src/verdict.rt:61:1
 same-length-23 : tie.Need-same-length-23
 same-length-23 c = search needs
 
--- src/verdict.rt:61:1
 same-length-24 : tie.Need-same-length-24
 same-length-24 c = search needs
 
--- src/verdict.rt:61:1
 same-length-25 : tie.Need-same-length-25
 same-length-25 c = search needs
 
--- src/verdict.rt:61:1
 returns-5 : tie.Need-returns-5
 returns-5 c = verdict-unknown _ _ _ _ _ _ _ _ _ _ (c .before .before .before .before .before .before .before .before .before .before .before .before .before .before .before .before .before .if1 .left) (c .before .before .before .before .before .before .before .before .before .before .before .before .before .before .before .before .if2 .left) (c .before .before .before .before .before .before .before .before .before .before .before .before .before .before .before .if3 .left) (c .before .before .before .before .before .before .before .before .before .before .before .before .before .before .if4 .left) (c .before .before .before .before .before .before .before .before .refuse-unknown .ensures)
 

@@ -1,0 +1,103 @@
+-- What a verdict means, kernel by kernel. Assumes nothing.
+use mathlib.Core.Path.{_≡_, refl, sym, ap, _∙_}
+use mathlib.Core.Bool.{Bool, true, false, cond}
+use mathlib.Core.Logic.{_↔_}
+use mathlib.Core.List.{List, [], map}
+use Prim.Native.Nat.{ℕ, _≤_}
+use lib.Dec.{eqb}
+use lib.IntN.{ℤ, pos, natAbs}
+use lib.ListN.{length}
+use Rattle.basis.specs.Refusal.{Said, gives}
+use Rattle.basis.proofs.Tests.{bool-cases}
+use Rattle.text.specs.Decimal.{decimalOf}
+use Rattle.text.specs.declared.decimal.Decimal.{Decimal}
+use Rattle.graph.specs.Find.{placeIn}
+use Rattle.graph.specs.Sound.{Graph, names, soundGraph}
+use Rattle.graph.proofs.Sounds.{Sound, names-length}
+use Rattle.kernels.specs.Answer.{kernelSays}
+use Rattle.bfs.specs.Call.{isThere, depthsFrom}
+use Rattle.wcc.specs.Component.{wccOf}
+use Rattle.wcc.proofs.Meaning.{wcc-length}
+use Rattle.cdlp.specs.Promise.{goodRounds}
+use Rattle.cdlp.specs.Rounds.{cdlpOf}
+use Rattle.cdlp.proofs.Runs.{cdlp-length}
+use Rattle.matching.specs.Claim.{numberLines, coefficientLines, idsOf, valuesOf}
+use Rattle.matching.specs.Verdict.{Verdict, near}
+use Rattle.matching.proofs.Meaning.{accepted, Alike, TwoWay, map-length, exact-match, equivalence-match, epsilon-match}
+use Rattle.matching.proofs.Listing.{Line, claimText, linesOf, listed, AllFit, AllSpelled, exact-own, equivalence-own, epsilon-own}
+use Rattle.verdicts.specs.Reference.{Reference, coefficients, bfsReference, wccReference, cdlpReference, lccReference}
+use Rattle.verdicts.specs.Call.{Outcome, roomFor, verdictSays, leftBy, callOn, unknownCall, verdictCall}
+use Rattle.verdicts.proofs.Kernels.{bfs-length}
+
+-- a graph that is sound, a parameter that is good and room enough: what is said is the claim's verdict
+says-judged : (k : Reference) → k .given ≡ true → verdictSays k true true ≡ k .judged
+unfolding verdictSays kernelSays
+says-judged k e = rw e
+
+-- ---- a complete claim, of lines l, is accepted exactly when it matches at every vertex
+module _ (most : ℕ) (g : Graph) (s : List ℕ) where
+  module _ (l : List (ℤ × ℤ)) (read : numberLines most s ≡ gives l) (complete : idsOf l ≡ names g) where
+    pub bfs-accepted : (root : ℤ) → isThere (placeIn (names g) root) ≡ true
+        → (verdictSays (bfsReference most g s root) true true ≡ accepted) ↔ (valuesOf l ≡ depthsFrom g (placeIn (names g) root))
+    bfs-accepted root e = rw (says-judged (bfsReference most g s root) e, read) (exact-match (names g) (depthsFrom g (placeIn (names g) root)) l complete)
+
+    pub cdlp-accepted : (iterations : ℤ) → goodRounds iterations ≡ true
+        → (verdictSays (cdlpReference most g s iterations) true true ≡ accepted) ↔ (valuesOf l ≡ cdlpOf g (natAbs iterations))
+    cdlp-accepted iterations e = rw (says-judged (cdlpReference most g s iterations) e, read) (exact-match (names g) (cdlpOf g (natAbs iterations)) l complete)
+
+    pub wcc-accepted : Sound g → (verdictSays (wccReference most g s) true true ≡ accepted) ↔ (TwoWay (wccOf g) (valuesOf l))
+    wcc-accepted sound =
+        rw (says-judged (wccReference most g s) refl, read)
+        (equivalence-match (names g) (wccOf g) l (wcc-length g sound ∙ sym (names-length g sound)) complete)
+
+  pub lcc-accepted : (any : Decimal) (l : List (ℤ × Decimal)) → coefficientLines most s ≡ gives l → idsOf l ≡ names g
+      → (verdictSays (lccReference most g s) true true ≡ accepted) ↔ (Alike near (0, 1) any (coefficients g) (valuesOf l))
+  lcc-accepted any l read complete = rw (says-judged (lccReference most g s) refl, read) (epsilon-match any (names g) (coefficients g) l complete)
+
+-- ---- the claim that lists the kernel's own result is accepted
+module _ (most : ℕ) (g : Graph) (sound : Sound g) (few : g .vertices ≤ most) (fits : AllFit (names g)) where
+  names-few : length (names g) ≤ most
+  names-few = rw (names-length g sound) few
+
+  pub bfs-own : (root : ℤ) → isThere (placeIn (names g) root) ≡ true → AllFit (depthsFrom g (placeIn (names g) root))
+      → verdictSays (bfsReference most g (claimText (listed (names g) (depthsFrom g (placeIn (names g) root)))) root) true true ≡ accepted
+  bfs-own root e f =
+      let values = depthsFrom g (placeIn (names g) root) in
+      says-judged (bfsReference most g (claimText (listed (names g) values)) root) e
+      ∙ exact-own most (names g) names-few fits values (names-length g sound ∙ sym (bfs-length g (placeIn (names g) root) e)) f
+
+  pub cdlp-own : (iterations : ℤ) → goodRounds iterations ≡ true → AllFit (cdlpOf g (natAbs iterations))
+      → verdictSays (cdlpReference most g (claimText (listed (names g) (cdlpOf g (natAbs iterations)))) iterations) true true ≡ accepted
+  cdlp-own iterations e f =
+      let values = cdlpOf g (natAbs iterations) in
+      says-judged (cdlpReference most g (claimText (listed (names g) values)) iterations) e
+      ∙ exact-own most (names g) names-few fits values (names-length g sound ∙ sym (cdlp-length g sound (natAbs iterations))) f
+
+  -- under any renaming that keeps labels apart
+  pub wcc-own : (f : ℤ → ℤ) → ((x y : ℤ) → f x ≡ f y → x ≡ y) → AllFit (map f (wccOf g))
+      → verdictSays (wccReference most g (claimText (listed (names g) (map f (wccOf g))))) true true ≡ accepted
+  wcc-own f apart fit =
+      says-judged (wccReference most g (claimText (listed (names g) (map f (wccOf g))))) refl
+      ∙ equivalence-own most (names g) names-few fits (map f (wccOf g)) (names-length g sound ∙ sym (wcc-length g sound) ∙ sym (map-length f (wccOf g))) fit f apart (wccOf g) (wcc-length g sound ∙ sym (names-length g sound)) refl
+
+  -- with any decimals, in any spelling, that are close to the coefficients
+  pub lcc-own : (any : Decimal) (l : List (Line Decimal)) → AllSpelled decimalOf l → length l ≤ most → idsOf (linesOf l) ≡ names g
+      → Alike near (0, 1) any (coefficients g) (valuesOf (linesOf l)) → verdictSays (lccReference most g (claimText l)) true true ≡ accepted
+  lcc-own any l h f e a =
+      says-judged (lccReference most g (claimText l)) refl ∙ epsilon-own most (names g) names-few fits any (coefficients g) l h f e a
+
+-- ---- what is said does not depend on the areas lent, as long as both calls have room or both lack it
+pub areas-apart : (most : ℕ) (g : Graph) (kernel : ℕ) (parameter : ℤ) (s : List ℕ) (R C R′ C′ : List ℤ) (F S T F′ S′ T′ : List ℕ)
+    → roomFor (g .vertices) R C F S T ≡ roomFor (g .vertices) R′ C′ F′ S′ T′
+    → verdictCall most g kernel parameter s R C F S T .said ≡ verdictCall most g kernel parameter s R′ C′ F′ S′ T′ .said
+unfolding verdictCall callOn leftBy unknownCall
+areas-apart most g kernel parameter s R C R′ C′ F S T F′ S′ T′ e = by (eqb kernel 1) (eqb kernel 2) (eqb kernel 3) (eqb kernel 4)
+  where
+    by : (a b c d : Bool)
+        → (cond a (callOn (bfsReference most g s parameter) g R C F S T) (cond b (callOn (wccReference most g s) g R C F S T) (cond c (callOn (cdlpReference most g s parameter) g R C F S T) (cond d (callOn (lccReference most g s) g R C F S T) (unknownCall R C F S T))))) .said
+        ≡ (cond a (callOn (bfsReference most g s parameter) g R′ C′ F′ S′ T′) (cond b (callOn (wccReference most g s) g R′ C′ F′ S′ T′) (cond c (callOn (cdlpReference most g s parameter) g R′ C′ F′ S′ T′) (cond d (callOn (lccReference most g s) g R′ C′ F′ S′ T′) (unknownCall R′ C′ F′ S′ T′))))) .said
+    by true b c d = ap (verdictSays (bfsReference most g s parameter) (soundGraph g)) e
+    by false true c d = ap (verdictSays (wccReference most g s) (soundGraph g)) e
+    by false false true d = ap (verdictSays (cdlpReference most g s parameter) (soundGraph g)) e
+    by false false false true = ap (verdictSays (lccReference most g s) (soundGraph g)) e
+    by false false false false = refl
