@@ -3,8 +3,7 @@ pub mod Columns
 pub mod Arcs
 pub mod Passes
 pub mod Edges
-pub mod Running
+pub mod Sums
 pub mod Order
 pub mod Built
 pub mod Meaning
-pub mod Fits

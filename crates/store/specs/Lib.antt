@@ -2,4 +2,3 @@
 pub mod Held
 pub mod Steps
 pub mod Passes
-pub mod Spread
