@@ -4,8 +4,8 @@ use mathlib.Core.Bool.{Bool, true, false, cond, _&&_, false≢true}
 use mathlib.Core.List.{List, [], _∷_}
 use Prim.Native.Nat.{ℕ, zero, suc, _+_, _≤_, _<_}
 use native.Mathlib.Omega.{arith}
-use lib.IntN.{ℤ}
-use lib.ListN.{length}
+use lib.IntN.{ℤ, pos}
+use lib.ListN.{length, replicate}
 use lib.Dec.{eqb, leb}
 use borrow.Author.Tests.{leb-true, le-leb, eqb-true, eqb-false}
 use Rattle.basis.specs.declared.refusal.Refusal.{Refusal}
@@ -24,9 +24,10 @@ use Rattle.matching.specs.Claim.{before, linesFrom, numberLines, coefficientLin
 use Rattle.matching.specs.Verdict.{Verdict, near, firstLine, incompleteLine, agrees, failingLine, unlikeLine, verdictOf, judgedBy}
 use Rattle.verdicts.specs.Reference.{Reference, coefficients, bfsReference, wccReference, cdlpReference, lccReference}
 use Rattle.verdicts.specs.Call as Call
-use Rattle.trace.specs.Code.{placed, wide, Small, Readable}
+use Rattle.trace.specs.Code.{placed, hostCode, wide, narrow, Small, Readable}
 use Rattle.trace.specs.Verdict.{threeOf, judgeTold, judgeTells}
-use Rattle.trace.specs.Host.{isKernel, referenceFor, judgedAs}
+use Rattle.trace.specs.Host.{deskLines, isKernel, referenceFor, judgedAs}
+use Rattle.trace.specs.Steps.{deskJudged}
 use Rattle.trace.proofs.Codes.{readable-given, readable-refused}
 use Rattle.trace.proofs.Lines.{Faulty, line-faulty}
 
@@ -227,3 +228,15 @@ module _ (g : Graph) (kernel : ℕ) (parameter : ℤ) (s : List ℕ) (R₀ C₀ 
       → judgeTold k R C F S T ≡ judgeTells (Call.verdictCall Call.mostLines g kernel z s R₀ C₀ F₀ S₀ T₀)
   unfolding judgeTells
   judge-told k h z q = rw (h, f, sym q, sym e)
+
+-- ---- the call in areas of desk size
+module _ (g : Graph) (kernel : ℕ) (parameter : ℤ) (s : List ℕ) (x : Said Verdict) (R C : List ℤ) (F S T : List ℕ)
+    (e : Call.outcome x R C F S T
+    ≡ Call.verdictCall deskLines g kernel parameter s (replicate 1024 (pos 0)) (replicate 1024 (pos 0)) (replicate 1024 0) (replicate 1024 0) (replicate 1024 0))
+    (r : Refusal) (f : r ≡ threeOf x) where
+  pub desk-small : Small narrow r
+  desk-small = rw (f, ap (λ o. o .said) e) (call-small deskLines g kernel parameter s _ _ _ _ _ narrow (omega arith) (omega arith))
+
+  pub desk-told : (k : ℕ) → k ≡ hostCode r → (z : ℤ) → parameter ≡ z → k ≡ hostCode (threeOf (deskJudged g kernel z s))
+  unfolding deskJudged
+  desk-told k h z q = h ∙ ap hostCode (f ∙ ap threeOf (ap (λ o. o .said) e ∙ ap (λ y. deskJudged g kernel y s) q))

@@ -27,7 +27,10 @@ use Rattle.load.proofs.Meaning.{load-sound}
 use Rattle.bfs.specs.Call.{depthsFrom}
 use Rattle.wcc.specs.Component.{wccOf}
 use Rattle.cdlp.specs.Rounds.{cdlpOf}
-use Rattle.verdicts.specs.Reference.{bfsReference, wccReference, cdlpReference, lccReference}
+use Rattle.verdicts.specs.Reference.{coefficients, bfsReference, wccReference, cdlpReference, lccReference}
+use Rattle.matching.specs.Verdict.{Fraction}
+use Rattle.lcc.specs.Lcc.{numerator, denominator, numerators, denominators}
+use Rattle.basis.specs.Area.{column}
 use Rattle.trace.specs.Host.{desk, deskLines, listsSaid, graphOf, isKernel, isKnown, referenceFor, judgedAs, hostSays, hostVerdict}
 use Rattle.trace.specs.Steps.{deskRoom, deskJudged}
 use Rattle.trace.proofs.Loads.{arcs-few, loaded-readable}
@@ -100,8 +103,19 @@ module _ (most : ℕ) (g h : Sound.Graph) (s : List ℕ) (parameter : ℤ) (n : 
   cdlp-same : cdlpReference most g s parameter ≡ cdlpReference most h s parameter
   cdlp-same = rw (rounds-same (natAbs parameter), i)
 
+  coefficients-same : coefficients g ≡ coefficients h
+  coefficients-same =
+      ap (λ (x : ℕ → List ℕ). shown (g .vertices) x (inward g)) o ∙ ap (λ (x : ℕ → List ℕ). shown (g .vertices) (outward h) x) t
+      ∙ ap (λ (k : ℕ). shown k (outward h) (inward h)) n
+    where
+      shown : ℕ → (ℕ → List ℕ) → (ℕ → List ℕ) → List Fraction
+      shown k out into = column (λ v. (numerator k out into v, denominator k out into v)) 0 k
+
   lcc-same : lccReference most g s ≡ lccReference most h s
-  lcc-same = simp (o, t, i, n)
+  lcc-same =
+      let a : numerators g ≡ numerators h = cc in
+      let b : denominators g ≡ denominators h = cc in
+      rw (a, b, coefficients-same, i)
 
   pub reference-same : (kernel : ℕ) → referenceFor most g s kernel parameter ≡ referenceFor most h s kernel parameter
   unfolding referenceFor
@@ -186,5 +200,8 @@ module _ (vertices edges claim : List ℕ) (mode kernel : ℕ) (parameter : ℤ)
         go (refuses r) l e = refused-given e
         go (gives g) l s =
             let size-is : sizeOf g ≡ size = given-one s in
-            let graph : lent size ids oo ot io is ≡ graphLeft (sizeOf g) (loadCall desk mode deskRoom vertices edges) = rw (size-is, ← e) in
-            rw (host-given vertices edges claim mode kernel parameter (held t (isKnown mode kernel) p h) g l, ← graph, ← w) f
+            let left : Sound.Graph = graphLeft (sizeOf g) (loadCall desk mode deskRoom vertices edges) in
+            let graph : lent size ids oo ot io is ≡ left =
+            ap (graphLeft size) e ∙ ap (λ x. graphLeft x (loadCall desk mode deskRoom vertices edges)) (sym size-is) in
+            f ∙ ap (λ x. hostCode (threeOf x))
+            (ap (λ x. deskJudged x kernel z claim) graph ∙ ap (λ x. deskJudged left kernel x claim) w ∙ sym (host-given vertices edges claim mode kernel parameter (held t (isKnown mode kernel) p h) g l))

@@ -1,3 +1,5 @@
+use mir.Facts.{toZ-ofZ}
+use Rattle.trace.proofs.Claims.{desk-small, desk-told}
 use borrow.Author.Needs.{needs}
 use Rattle.trace.proofs.judging.judge_loaded.Statement.{statement}
 use Rattle.trace.proofs.judging.judge_loaded.Tie as tie
@@ -37,11 +39,11 @@ three-of-requires c κs = search needs
 
 -- src/judging.rt:112:5
 host-code-requires : tie.Need-host-code-requires
-host-code-requires c κs = ?
+host-code-requires c κs = search desk-small
 
 -- src/judging.rt:77:1
 returns : tie.Need-returns
-returns c = ?
+returns c = search (desk-told, toZ-ofZ)
 
 pub judge-loaded-spec : {M : Type 1} → statement M
 judge-loaded-spec =

@@ -1,3 +1,7 @@
+use mir.Facts.{toZ-ofZ}
+use native.Mathlib.Omega.{arith}
+use Rattle.trace.specs.Code.{narrow, Small}
+use Rattle.trace.proofs.Hosts.{host-unknown, host-refused-small, host-refused, host-judged}
 use borrow.Author.Needs.{needs}
 use Rattle.trace.proofs.judging.trace_verdict.Statement.{statement}
 use Rattle.trace.proofs.judging.trace_verdict.Tie as tie
@@ -19,11 +23,11 @@ plain-requires c κs = search needs
 
 -- src/judging.rt:128:9
 host-code-requires : tie.Need-host-code-requires
-host-code-requires c κs = ?
+host-code-requires c κs = rw (c .plain .ensures) (record { number = omega arith; file = omega arith; line = omega arith })
 
 -- src/judging.rt:128:9
 returns : tie.Need-returns
-returns c = ?
+returns c = search host-unknown
 
 -- src/judging.rt:144:9
 slice-aggregate-load-within : tie.Need-slice-aggregate-load-within
@@ -55,7 +59,9 @@ enum-known-loaded c = search needs
 
 -- src/judging.rt:151:31
 host-code-requires-2 : tie.Need-host-code-requires-2
-host-code-requires-2 c κs = ?
+host-code-requires-2 c κs =
+    let s : Small narrow (c .before .loaded .given .0 .0) = search host-refused-small in
+    record { number = omega arith; file = omega arith; line = omega arith }
 
 -- src/judging.rt:152:23
 enum-known-loaded-2 : tie.Need-enum-known-loaded-2
@@ -87,11 +93,11 @@ judge-loaded-requires c κs = search needs
 
 -- src/judging.rt:116:1
 returns-2 : tie.Need-returns-2
-returns-2 c = ?
+returns-2 c = search host-refused
 
 -- src/judging.rt:116:1
 returns-3 : tie.Need-returns-3
-returns-3 c = ?
+returns-3 c = search (host-judged, toZ-ofZ)
 
 pub trace-verdict-spec : {M : Type 1} → statement M
 trace-verdict-spec =
