@@ -1,0 +1,149 @@
+-- What the book's calls say fits a number. Assumes nothing.
+use mathlib.Core.Path.{_≡_, refl, sym, ap, _∙_}
+use mathlib.Core.Bool.{Bool, true, false, cond, _&&_}
+use mathlib.Core.List.{List}
+use Prim.Native.Nat.{ℕ, zero, suc, _+_, _^_, _≤_, _<_}
+use native.Mathlib.Omega.{arith}
+use lib.ListN.{length}
+use lib.Dec.{leb, ltb, eqb}
+use borrow.Author.Tests.{ltb-true}
+use Rattle.basis.specs.Refusal.{Said, gives, refuses, plain, noRoom, unsound, notThere}
+use Rattle.book.specs.Rules.{Next, stop, to, View, Found, found, follow, check, Heads, Step, already, merge, Joining, merged, same, Done, done, onward, walk, walkFrom, headOf, pair, headsOf, oneHead, sameGroup, sizeAt, groupSize, tally, isStop, groupCount, largest, limitOf, stepLimit, mergeable, mergeHeads, linkHeads, decide, openBook, writeBook, joinBook}
+use Rattle.book.specs.Two.{Areas, areas, nextIn, fits, two, twoBook}
+use Rattle.book.proofs.Checks.{fits-within}
+use Rattle.book.proofs.Calls.{size-inside}
+use Rattle.book.proofs.Tally.{tally-le}
+use Rattle.trace.specs.Code.{coded, wide, Readable, nothing}
+use Rattle.trace.specs.Book.{joinValue, headValue, sameValue, itself, bookTold, bookTells}
+use Rattle.trace.proofs.Codes.{onward-readable, readable-by, readable-given, readable-refused, readable-plain, readable-check, readable-values, readable-silent, readable-untold, untold}
+
+pair-readable : (s t : Said Found) → Readable wide s untold → Readable wide t untold → Readable wide (pair s t) untold
+pair-readable (gives f) (gives g) h k = readable-silent _ (omega arith)
+pair-readable (gives f) (refuses r) h k = let t = k .refusals r refl in readable-refused r (t .0) (t .1)
+pair-readable (refuses r) t h k = let t = h .refusals r refl in readable-refused r (t .0) (t .1)
+
+largest-le : (k s : ℕ) → largest k s ≤ k
+unfolding largest
+largest-le zero s = omega arith
+largest-le (suc k) s = go (leb (2 ^ suc k) s) (largest-le k s)
+  where
+    go : (t : Bool) → largest k s ≤ k → cond t (suc k) (largest k s) ≤ suc k
+    go true h = omega arith
+    go false h = omega arith
+
+-- a check of the book
+checked : {A : Type 0} {value : A → ℕ} (t : Bool) (number : ℕ) {s : Said A} → 0 < number → number ≤ 21 → (t ≡ true → Readable wide s value) → Readable wide (check t number s) value
+checked t number p q h = readable-check t number (omega arith) p q h
+
+-- a head is in the area, and 16 moves reach it at most
+module _ (next : ℕ → Next) (n : ℕ) (small : n ≤ 65536) where
+  walk-readable : (left moves at : ℕ) → at < n → moves + left ≤ 16 → Readable wide (walk next n left moves at) headValue
+  unfolding walk
+  walk-readable zero moves at l m = go (next at)
+    where
+      go : (x : Next) → Readable wide (follow x (gives (found at moves)) (λ p. refuses (plain unsound))) headValue
+      go stop = readable-given (found at moves) (omega arith)
+      go (to p) = readable-plain unsound (omega arith) (omega arith) (omega arith)
+  walk-readable (suc left) moves at l m = go (next at) (λ p k. walk-readable left (moves + 1) p k (omega arith))
+    where
+      go : (x : Next) → ((p : ℕ) → p < n → Readable wide (walk next n left (moves + 1) p) headValue)
+          → Readable wide (follow x (gives (found at moves)) (λ p. check (ltb p n) unsound (walk next n left (moves + 1) p))) headValue
+      go stop ih = readable-given (found at moves) (omega arith)
+      go (to p) ih = checked (ltb p n) unsound (omega arith) (omega arith) (λ e. ih p (ltb-true p n e))
+
+  walkFrom-readable : (v : ℕ) → ltb v n ≡ true → Readable wide (walkFrom next n v) headValue
+  unfolding walkFrom
+  walkFrom-readable v l = walk-readable 16 0 v (ltb-true v n l) (omega arith)
+
+  walkFrom-silent : (v : ℕ) → ltb v n ≡ true → Readable wide (walkFrom next n v) untold
+  walkFrom-silent v l = readable-untold (walkFrom-readable v l) (omega arith)
+
+module _ (ps ss : List ℕ) where
+  pub head-readable : (v : ℕ) → Readable wide (headOf (two ps ss) v) headValue
+  unfolding headOf two
+  head-readable v =
+      checked _ noRoom (omega arith) (omega arith)
+      (λ f. checked _ notThere (omega arith) (omega arith) (λ l. walkFrom-readable (nextIn ps) (length ps) (fits-within ps ss f) v l))
+
+  heads-readable : (u v : ℕ) → Readable wide (headsOf (two ps ss) u v) untold
+  unfolding headsOf two
+  heads-readable u v =
+      checked _ noRoom (omega arith) (omega arith)
+      (λ f. checked _ notThere (omega arith) (omega arith)
+      (λ k. checked _ notThere (omega arith) (omega arith)
+      (λ l. pair-readable _ _ (walkFrom-silent (nextIn ps) (length ps) (fits-within ps ss f) u k) (walkFrom-silent (nextIn ps) (length ps) (fits-within ps ss f) v l))))
+
+  pub same-readable : (u v : ℕ) → Readable wide (sameGroup (two ps ss) u v) sameValue
+  unfolding sameGroup
+  same-readable u v =
+      onward-readable (headsOf (two ps ss) u v) (heads-readable u v)
+      (λ p e. readable-given (eqb (p .first) (p .second)) (bit (eqb (p .first) (p .second))))
+    where
+      bit : (t : Bool) → sameValue t < wide
+      bit true = omega arith
+      bit false = omega arith
+
+  size-checked : (v : ℕ) → Readable wide (groupSize (two ps ss) v) untold
+  unfolding groupSize
+  size-checked v =
+      onward-readable (headOf (two ps ss) v) (readable-untold (head-readable v) (omega arith))
+      (λ f e. let a = two ps ss .size (f .head) in
+      checked (ltb 0 a && leb a (two ps ss .count)) unsound (omega arith) (omega arith) (λ t. readable-silent a (omega arith)))
+
+  pub size-readable : (v : ℕ) → Readable wide (groupSize (two ps ss) v) itself
+  unfolding two
+  size-readable v = readable-values (size-checked v) itself small
+    where
+      small : (s : ℕ) → groupSize (two ps ss) v ≡ gives s → s < wide
+      small s e = let t = size-inside (two ps ss) v s e in omega (arith, fits-within ps ss (t .0))
+
+  pub count-readable : Readable wide (groupCount (two ps ss)) itself
+  unfolding groupCount two
+  count-readable = checked _ noRoom (omega arith) (omega arith) (λ f. readable-given _ (small f))
+    where
+      small : fits ps ss ≡ true → tally (λ v. isStop (nextIn ps v)) (length ps) < wide
+      small f = omega (arith, fits-within ps ss f, tally-le (λ v. isStop (nextIn ps v)) (length ps))
+
+  pub limit-readable : (v : ℕ) → Readable wide (stepLimit (two ps ss) v) itself
+  unfolding stepLimit
+  limit-readable v =
+      onward-readable (groupSize (two ps ss) v) (readable-untold (size-readable v) (omega arith))
+      (λ s e. readable-given (largest 16 s) (omega (arith, largest-le 16 s)))
+
+  pub open-readable : Readable wide (openBook twoBook (areas ps ss) .said) nothing
+  unfolding openBook
+  open-readable = go (two ps ss .fit)
+    where
+      go : (t : Bool) → Readable wide (cond t (done (gives tt) (twoBook .opened (areas ps ss))) (done (refuses (plain noRoom)) (areas ps ss)) .said) nothing
+      go true = readable-given tt (omega arith)
+      go false = readable-plain noRoom (omega arith) (omega arith) (omega arith)
+
+  link-readable : (p : Heads) → Readable wide (linkHeads (two ps ss) p) untold
+  unfolding linkHeads
+  link-readable p =
+      let a = two ps ss .size (p .first) in
+      let b = two ps ss .size (p .second) in
+      go (eqb (p .first) (p .second)) (mergeable (two ps ss .count) a b) (mergeHeads a b (p .first) (p .second))
+    where
+      go : (t m : Bool) (x : Step) → Readable wide (cond t (gives already) (check m unsound (gives x))) untold
+      go true m x = readable-silent already (omega arith)
+      go false m x = checked m unsound (omega arith) (omega arith) (λ e. readable-silent x (omega arith))
+
+  written-readable : (s : Said Step) → Readable wide s untold → Readable wide (writeBook twoBook s (areas ps ss) .said) joinValue
+  unfolding writeBook
+  written-readable (gives already) h = readable-given same (omega arith)
+  written-readable (gives (merge top under total)) h = readable-given merged (omega arith)
+  written-readable (refuses r) h = let t = h .refusals r refl in readable-refused r (t .0) (t .1)
+
+  pub join-readable : (u v : ℕ) → Readable wide (joinBook twoBook (areas ps ss) u v .said) joinValue
+  unfolding joinBook decide
+  join-readable u v = written-readable _ (onward-readable (headsOf (two ps ss) u v) (heads-readable u v) (λ p e. link-readable p))
+
+-- a call that may write tells its answer and the areas
+module _ {A : Type 0} (value : A → ℕ) (d : Done A Areas) (s : Said A) (ps ss : List ℕ) (e : done s (areas ps ss) ≡ d) where
+  pub book-readable : Readable wide (d .said) value → Readable wide s value
+  book-readable h = readable-by (ap (λ x. x .said) e) h
+
+  pub book-told : (k : ℕ) → k ≡ coded s value → bookTold k ps ss ≡ bookTells value d
+  unfolding bookTells
+  book-told k f = rw (f, sym e)

@@ -1,0 +1,38 @@
+-- 01 "The group book": the seven calls, their answers as numbers.
+use Prim.Native.Nat.{ℕ, _+_, _*_}
+use mathlib.Core.Bool.{Bool, true, false}
+use mathlib.Core.List.{List}
+use Rattle.book.specs.Rules.{Found, Joining, merged, same, Done}
+use Rattle.book.specs.Two.{Areas}
+use Rattle.trace.specs.Code.{coded}
+
+-- 1 where a join merged two groups, 0 where it found one
+abbrev pub joinValue : Joining → ℕ
+joinValue merged = 1
+joinValue same = 0
+
+-- "head, with the number of moves from parent to parent that reach it": no walk has more than 16
+abbrev pub headValue : Found → ℕ
+headValue f = f .head * 100 + f .moves
+
+-- 1 where two vertices are in the same group
+abbrev pub sameValue : Bool → ℕ
+sameValue true = 1
+sameValue false = 0
+
+-- a size, a count or a step limit is its own number
+abbrev pub itself : ℕ → ℕ
+itself k = k
+
+-- the answer, and what stands in the two areas
+pub record BookTold : Type 0 where
+  pub answer : ℕ
+  pub parents : List ℕ
+  pub sizes : List ℕ
+
+abbrev pub bookTold : ℕ → List ℕ → List ℕ → BookTold
+bookTold answer parents sizes = record { answer = answer; parents = parents; sizes = sizes }
+
+-- what a call that may write leaves
+unfoldable pub bookTells : {A : Type 0} → (A → ℕ) → Done A Areas → BookTold
+bookTells value d = bookTold (coded (d .said) value) (d .area .parents) (d .area .sizes)

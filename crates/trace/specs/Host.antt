@@ -1,0 +1,75 @@
+-- 01 "Layers, desk program, host call": "A C or Rust host calls the verdict with byte slices for the two lists and the claim, and numbers".
+use Prim.Native.Nat.{ℕ}
+use mathlib.Core.Bool.{Bool, cond, _&&_}
+use mathlib.Core.List.{List}
+use lib.IntN.{ℤ}
+use lib.ListN.{length}
+use lib.Dec.{eqb, leb}
+use Rattle.basis.specs.Refusal.{Said, refuses, plain, unknownNumber}
+use Rattle.graph.specs.Arcs.{arcs, backward, parts, offsets}
+use Rattle.graph.specs.Sound.{Graph}
+use Rattle.load.specs.declared.Limits.{Limits}
+use Rattle.load.specs.Lines.{onward, said}
+use Rattle.load.specs.Files.{identifiers, edgesOf, allNumbered}
+use Rattle.load.specs.Load.{Lists, isUndirected}
+use Rattle.kernels.specs.Answer.{bfsNumber, wccNumber, cdlpNumber}
+use Rattle.matching.specs.Verdict.{Verdict}
+use Rattle.verdicts.specs.Reference.{Reference, bfsReference, wccReference, cdlpReference, lccReference}
+use Rattle.trace.specs.Code.{hostCode}
+use Rattle.trace.specs.Verdict.{threeOf}
+
+-- "Desk limits apply to all three files: 1,024, 2,048 and 1,024 lines."
+abbrev pub desk : Limits
+desk = record { vertices = 1024; edges = 2048 }
+
+abbrev pub deskLines : ℕ
+deskLines = 1024
+
+-- what the two lists say, the vertex file before the edge file
+unfoldable pub listsSaid : Bool → List ℕ → List ℕ → Said Lists
+listsSaid both vertices edges =
+    onward (identifiers (desk .vertices) vertices)
+    (λ ids. said (λ es. record { ids = ids; arcs = arcs both (allNumbered ids es) }) (edgesOf both (desk .edges) ids edges))
+
+-- their graph, with no place to spare
+unfoldable pub graphOf : Lists → Graph
+graphOf l =
+    let n = length (l .ids) in
+    record {
+      vertices = n;
+      arcs = length (l .arcs);
+      ids = l .ids;
+      outOffsets = offsets (l .arcs) n;
+      outTargets = parts (l .arcs) n;
+      inOffsets = offsets (backward (l .arcs)) n;
+      inSources = parts (backward (l .arcs)) n;
+    }
+
+-- "a mode or kernel number is unknown": here neither is
+abbrev pub isKernel : ℕ → Bool
+isKernel kernel = leb 1 kernel && leb kernel 4
+
+unfoldable pub isKnown : ℕ → ℕ → Bool
+isKnown mode kernel = leb mode 1 && isKernel kernel
+
+-- "kernel (1 BFS, 2 WCC, 3 CDLP, 4 LCC)"
+unfoldable pub referenceFor : ℕ → Graph → List ℕ → ℕ → ℤ → Reference
+referenceFor most g claim kernel parameter =
+    cond (eqb kernel bfsNumber) (bfsReference most g claim parameter)
+    (cond (eqb kernel wccNumber) (wccReference most g claim)
+    (cond (eqb kernel cdlpNumber) (cdlpReference most g claim parameter) (lccReference most g claim)))
+
+-- "10 or 11, claim"
+abbrev pub judgedAs : Reference → Said Verdict
+judgedAs k = cond (k .given) (k .judged) (refuses (plain (k .number)))
+
+-- "Order: 12, load, 10 or 11, claim."
+unfoldable pub hostSays : List ℕ → List ℕ → List ℕ → ℕ → ℕ → ℤ → Said Verdict
+hostSays vertices edges claim mode kernel parameter =
+    cond (isKnown mode kernel)
+    (onward (listsSaid (isUndirected mode) vertices edges) (λ l. judgedAs (referenceFor deskLines (graphOf l) claim kernel parameter)))
+    (refuses (plain unknownNumber))
+
+-- "The answer is number × 1,000,000 + file × 100,000 + line."
+unfoldable pub hostVerdict : List ℕ → List ℕ → List ℕ → ℕ → ℕ → ℤ → ℕ
+hostVerdict vertices edges claim mode kernel parameter = hostCode (threeOf (hostSays vertices edges claim mode kernel parameter))

@@ -1,0 +1,68 @@
+-- 01 "Kernels": the four kernels on a lent graph, their answers as numbers, 0 where the results stand in the areas.
+use Prim.Native.Nat.{ℕ}
+use mathlib.Core.List.{List}
+use lib.IntN.{ℤ}
+use Rattle.graph.specs.declared.Size.{Size}
+use Rattle.bfs.specs.Call as Bfs
+use Rattle.wcc.specs.Promise as Wcc
+use Rattle.cdlp.specs.Promise as Cdlp
+use Rattle.lcc.specs.Promise as Lcc
+use Rattle.trace.specs.Code.{coded, nothing}
+
+-- a graph's "stated counts"
+abbrev pub sized : ℕ → ℕ → Size
+sized vertices arcs = record { vertices = vertices; arcs = arcs }
+
+-- BFS: the answer, and what stands in the result and working areas
+pub record BfsTold : Type 0 where
+  pub answer : ℕ
+  pub depth : List ℤ
+  pub queue : List ℕ
+
+abbrev pub bfsTold : ℕ → List ℤ → List ℕ → BfsTold
+bfsTold answer depth queue = record { answer = answer; depth = depth; queue = queue }
+
+unfoldable pub bfsTells : Bfs.Outcome → BfsTold
+bfsTells o = bfsTold (coded (o .said) nothing) (o .depth) (o .queue)
+
+-- WCC
+pub record WccTold : Type 0 where
+  pub answer : ℕ
+  pub result : List ℤ
+  pub parents : List ℕ
+  pub sizes : List ℕ
+
+abbrev pub wccTold : ℕ → List ℤ → List ℕ → List ℕ → WccTold
+wccTold answer result parents sizes = record { answer = answer; result = result; parents = parents; sizes = sizes }
+
+unfoldable pub wccTells : Wcc.Outcome → WccTold
+wccTells o = wccTold (coded (o .said) nothing) (o .result) (o .parents) (o .sizes)
+
+-- CDLP
+pub record CdlpTold : Type 0 where
+  pub answer : ℕ
+  pub result : List ℤ
+  pub labels : List ℕ
+  pub next : List ℕ
+  pub counts : List ℕ
+
+abbrev pub cdlpTold : ℕ → List ℤ → List ℕ → List ℕ → List ℕ → CdlpTold
+cdlpTold answer result labels next counts =
+    record { answer = answer; result = result; labels = labels; next = next; counts = counts }
+
+unfoldable pub cdlpTells : Cdlp.Outcome → CdlpTold
+cdlpTells o = cdlpTold (coded (o .said) nothing) (o .result) (o .labels) (o .next) (o .counts)
+
+-- LCC
+pub record LccTold : Type 0 where
+  pub answer : ℕ
+  pub numerators : List ℕ
+  pub denominators : List ℕ
+  pub work : List ℕ
+
+abbrev pub lccTold : ℕ → List ℕ → List ℕ → List ℕ → LccTold
+lccTold answer numerators denominators work =
+    record { answer = answer; numerators = numerators; denominators = denominators; work = work }
+
+unfoldable pub lccTells : Lcc.Outcome → LccTold
+lccTells o = lccTold (coded (o .said) nothing) (o .numerators) (o .denominators) (o .work)

@@ -1,0 +1,21 @@
+-- What private functions' contracts cite: the verdict on a graph in local areas of desk size.
+use Prim.Native.Nat.{ℕ}
+use mathlib.Core.List.{List}
+use lib.IntN.{ℤ, pos}
+use lib.ListN.{replicate}
+use Rattle.basis.specs.Refusal.{Said}
+use Rattle.graph.specs.Sound.{Graph}
+use Rattle.load.specs.Load.{Room, roomOf}
+use Rattle.matching.specs.Verdict.{Verdict}
+use Rattle.verdicts.specs.Call.{verdictCall}
+use Rattle.trace.specs.Host.{deskLines}
+
+-- 1,024 identifiers, 1,025 offsets and 4,096 arcs each way
+abbrev pub deskRoom : Room
+deskRoom = roomOf 1024 1025 4096 1025 4096
+
+unfoldable pub deskJudged : Graph → ℕ → ℤ → List ℕ → Said Verdict
+deskJudged g kernel parameter claim =
+    let z = replicate 1024 (pos 0) in
+    let o = replicate {A = ℕ} 1024 0 in
+    verdictCall deskLines g kernel parameter claim z z o o o .said

@@ -1,0 +1,30 @@
+-- 01 "Claims and verdicts": the verdict on a lent graph at library limits, as a number.
+use Prim.Native.Nat.{ℕ}
+use mathlib.Core.List.{List}
+use lib.IntN.{ℤ}
+use Rattle.basis.specs.declared.refusal.Refusal.{Refusal}
+use Rattle.basis.specs.Refusal.{Said, gives, refuses, at}
+use Rattle.matching.specs.Verdict.{Verdict}
+use Rattle.verdicts.specs.Call.{Outcome}
+use Rattle.trace.specs.Code.{placed}
+
+-- number, file and line, of a verdict as of a refusal
+abbrev pub threeOf : Said Verdict → Refusal
+threeOf (gives v) = at (v .number) (v .file) (v .line)
+threeOf (refuses r) = r
+
+-- the answer, and what stands in the five areas
+pub record JudgeTold : Type 0 where
+  pub answer : ℕ
+  pub result : List ℤ
+  pub claimed : List ℤ
+  pub first : List ℕ
+  pub second : List ℕ
+  pub third : List ℕ
+
+abbrev pub judgeTold : ℕ → List ℤ → List ℤ → List ℕ → List ℕ → List ℕ → JudgeTold
+judgeTold answer result claimed first second third =
+    record { answer = answer; result = result; claimed = claimed; first = first; second = second; third = third }
+
+unfoldable pub judgeTells : Outcome → JudgeTold
+judgeTells o = judgeTold (placed (threeOf (o .said))) (o .result) (o .claimed) (o .first) (o .second) (o .third)
