@@ -1,5 +1,4 @@
 -- A claim that is written out reads back, and one that lists the reference output is accepted. Assumes nothing.
-<<<<<<< HEAD
 use mathlib.Core.Path.{_≡_, refl, sym, ap, _∙_}
 use mathlib.Core.Bool.{false}
 use mathlib.Core.List.{List, [], _∷_, _++_, map, append-assoc}
@@ -16,25 +15,6 @@ use Rattle.basis.specs.Scan.{mem}
 use Rattle.text.specs.Word.{Word, value, within, identOf}
 use Rattle.text.specs.Decimal.{decimalOf}
 use Rattle.text.specs.Line.{lf, space, past, twoOf, lineBy}
-=======
-use mathlib.Core.Path.{_≡_, refl, sym, ap, ap₂, _∙_}
-use mathlib.Core.Bool.{Bool, true, false, _||_}
-use mathlib.Core.List.{List, [], _∷_, _++_, map, append-assoc}
-use Prim.Native.Nat.{ℕ, zero, suc, _+_, _≤_, _<_}
-use native.Mathlib.Nat.{not-suc-le-zero}
-use native.Mathlib.Omega.{arith}
-use borrow.Author.Tests.{le-leb, eq-eqb, ne-eqb, eqb-false}
-use lib.Dec.{eqb}
-use lib.IntN.{ℤ, pos}
-use lib.ListN.{length, drop, length-drop}
-use mir.Syntax.{w64}
-use mir.Val.{SFits}
-use Rattle.basis.specs.Refusal.{Said, gives}
-use Rattle.basis.specs.Scan.{mem}
-use Rattle.text.specs.Word.{Word, value, within, identOf}
-use Rattle.text.specs.Decimal.{decimalOf}
-use Rattle.text.specs.Line.{line, lf, space, upTo, past, both, twoOf, lineBy}
->>>>>>> trace
 use Rattle.text.specs.declared.decimal.Decimal.{Decimal}
 use Rattle.text.proofs.Bytes.{mem-cut, mem-head, mem-tail, mem-join, upTo-cut, past-stop, past-more, drop-past}
 use Rattle.text.proofs.Lines.{line-end}

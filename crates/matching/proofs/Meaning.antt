@@ -1,9 +1,5 @@
 -- What the verdicts mean: a complete claim is accepted exactly when it matches, by 000's rule, at every vertex. Assumes nothing.
-<<<<<<< HEAD
 use mathlib.Core.Path.{_≡_, refl, sym, ap, _∙_, subst}
-=======
-use mathlib.Core.Path.{_≡_, refl, sym, ap, ap₂, _∙_, subst}
->>>>>>> trace
 use mathlib.Core.Bool.{Bool, true, false, cond, Bool·beq}
 use mathlib.Core.Logic.{_↔_}
 use mathlib.Core.List.{List, [], _∷_, map}
@@ -23,11 +19,7 @@ use Rattle.basis.proofs.Scans.{every-at, every-of}
 use Rattle.basis.proofs.Orders.{signed-order}
 use Rattle.text.specs.declared.decimal.Decimal.{Decimal}
 use Rattle.matching.specs.Claim.{idsOf, valuesOf}
-<<<<<<< HEAD
 use Rattle.matching.specs.Verdict.{Verdict, matched, incompleteAt, mismatchAt, Fraction, near, firstLine, incompleteLine, unequalLine, sameKind, agrees, failingLine, unlikeLine, farLine, verdictOf, judgedBy}
-=======
-use Rattle.matching.specs.Verdict.{Verdict, verdict, Fraction, near, firstLine, incompleteLine, unequalLine, sameKind, agrees, failingLine, unlikeLine, farLine, verdictOf, judgedBy}
->>>>>>> trace
 
 abbrev pub accepted : Said Verdict
 accepted = gives matched

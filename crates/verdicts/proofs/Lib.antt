@@ -4,8 +4,5 @@ pub mod Running
 pub mod Kernels
 pub mod Fractions
 pub mod Calls
-<<<<<<< HEAD
 pub mod Ranges
-=======
->>>>>>> trace
 pub mod Meaning

@@ -2,22 +2,12 @@
 use mathlib.Core.Path.{_≡_, refl, sym, ap, _∙_}
 use mathlib.Core.Bool.{Bool, true, false, cond}
 use mathlib.Core.Logic.{_↔_}
-<<<<<<< HEAD
 use mathlib.Core.List.{List, map}
 use Prim.Native.Nat.{ℕ, _≤_}
 use lib.Dec.{eqb}
 use lib.IntN.{ℤ, natAbs}
 use lib.ListN.{length}
 use Rattle.basis.specs.Refusal.{gives}
-=======
-use mathlib.Core.List.{List, [], map}
-use Prim.Native.Nat.{ℕ, _≤_}
-use lib.Dec.{eqb}
-use lib.IntN.{ℤ, pos, natAbs}
-use lib.ListN.{length}
-use Rattle.basis.specs.Refusal.{Said, gives}
-use Rattle.basis.proofs.Tests.{bool-cases}
->>>>>>> trace
 use Rattle.text.specs.Decimal.{decimalOf}
 use Rattle.text.specs.declared.decimal.Decimal.{Decimal}
 use Rattle.graph.specs.Find.{placeIn}
@@ -31,7 +21,6 @@ use Rattle.cdlp.specs.Promise.{goodRounds}
 use Rattle.cdlp.specs.Rounds.{cdlpOf}
 use Rattle.cdlp.proofs.Runs.{cdlp-length}
 use Rattle.matching.specs.Claim.{numberLines, coefficientLines, idsOf, valuesOf}
-<<<<<<< HEAD
 use Rattle.matching.specs.Verdict.{near}
 use Rattle.matching.proofs.Meaning.{accepted, Alike, TwoWay, map-length, exact-match, equivalence-match, epsilon-match}
 use Rattle.matching.proofs.Listing.{Line, claimText, linesOf, listed, AllFit, AllSpelled, exact-own, equivalence-own, epsilon-own}
@@ -39,21 +28,12 @@ use Rattle.verdicts.specs.Reference.{Reference, coefficients, bfsReferen
 use Rattle.verdicts.specs.Call.{roomFor, verdictSays, leftBy, callOn, unknownCall, verdictCall}
 use Rattle.verdicts.proofs.Kernels.{bfs-length}
 use Rattle.verdicts.proofs.Ranges.{bfs-fits, cdlp-fits}
-=======
-use Rattle.matching.specs.Verdict.{Verdict, near}
-use Rattle.matching.proofs.Meaning.{accepted, Alike, TwoWay, map-length, exact-match, equivalence-match, epsilon-match}
-use Rattle.matching.proofs.Listing.{Line, claimText, linesOf, listed, AllFit, AllSpelled, exact-own, equivalence-own, epsilon-own}
-use Rattle.verdicts.specs.Reference.{Reference, coefficients, bfsReference, wccReference, cdlpReference, lccReference}
-use Rattle.verdicts.specs.Call.{Outcome, roomFor, verdictSays, leftBy, callOn, unknownCall, verdictCall}
-use Rattle.verdicts.proofs.Kernels.{bfs-length}
->>>>>>> trace
 
 -- a graph that is sound, a parameter that is good and room enough: what is said is the claim's verdict
 says-judged : (k : Reference) → k .given ≡ true → verdictSays k true true ≡ k .judged
 unfolding verdictSays kernelSays
 says-judged k e = rw e
 
-<<<<<<< HEAD
 -- what a call on a sound graph with room in its areas says, by the kernel's number
 module _ (most : ℕ) (g : Graph) (parameter : ℤ) (s : List ℕ) (R C : List ℤ) (F S T : List ℕ) (sound : soundGraph g ≡ true) (room : roomFor (g .vertices) R C F S T ≡ true) where
   pub bfs-says : verdictCall most g 1 parameter s R C F S T .said ≡ verdictSays (bfsReference most g s parameter) true true
@@ -72,8 +52,6 @@ module _ (most : ℕ) (g : Graph) (parameter : ℤ) (s : List ℕ) (R C : List �
   unfolding verdictCall callOn leftBy
   lcc-says = rw (sound, room)
 
-=======
->>>>>>> trace
 -- ---- a complete claim, of lines l, is accepted exactly when it matches at every vertex
 module _ (most : ℕ) (g : Graph) (s : List ℕ) where
   module _ (l : List (ℤ × ℤ)) (read : numberLines most s ≡ gives l) (complete : idsOf l ≡ names g) where
@@ -99,7 +77,6 @@ module _ (most : ℕ) (g : Graph) (sound : Sound g) (few : g .vertices ≤ most)
   names-few : length (names g) ≤ most
   names-few = rw (names-length g sound) few
 
-<<<<<<< HEAD
   pub bfs-own : (root : ℤ) → isThere (placeIn (names g) root) ≡ true
       → verdictSays (bfsReference most g (claimText (listed (names g) (depthsFrom g (placeIn (names g) root)))) root) true true ≡ accepted
   bfs-own root e =
@@ -115,23 +92,6 @@ module _ (most : ℕ) (g : Graph) (sound : Sound g) (few : g .vertices ≤ most)
       ∙ exact-own most (names g) names-few fits values (names-length g sound ∙ sym (cdlp-length g sound (natAbs iterations))) (cdlp-fits g fits (natAbs iterations))
 
   -- under any renaming that keeps labels apart and in range, as that of no label (`wcc-fits`)
-=======
-  pub bfs-own : (root : ℤ) → isThere (placeIn (names g) root) ≡ true → AllFit (depthsFrom g (placeIn (names g) root))
-      → verdictSays (bfsReference most g (claimText (listed (names g) (depthsFrom g (placeIn (names g) root)))) root) true true ≡ accepted
-  bfs-own root e f =
-      let values = depthsFrom g (placeIn (names g) root) in
-      says-judged (bfsReference most g (claimText (listed (names g) values)) root) e
-      ∙ exact-own most (names g) names-few fits values (names-length g sound ∙ sym (bfs-length g (placeIn (names g) root) e)) f
-
-  pub cdlp-own : (iterations : ℤ) → goodRounds iterations ≡ true → AllFit (cdlpOf g (natAbs iterations))
-      → verdictSays (cdlpReference most g (claimText (listed (names g) (cdlpOf g (natAbs iterations)))) iterations) true true ≡ accepted
-  cdlp-own iterations e f =
-      let values = cdlpOf g (natAbs iterations) in
-      says-judged (cdlpReference most g (claimText (listed (names g) values)) iterations) e
-      ∙ exact-own most (names g) names-few fits values (names-length g sound ∙ sym (cdlp-length g sound (natAbs iterations))) f
-
-  -- under any renaming that keeps labels apart
->>>>>>> trace
   pub wcc-own : (f : ℤ → ℤ) → ((x y : ℤ) → f x ≡ f y → x ≡ y) → AllFit (map f (wccOf g))
       → verdictSays (wccReference most g (claimText (listed (names g) (map f (wccOf g))))) true true ≡ accepted
   wcc-own f apart fit =
