@@ -5,7 +5,7 @@ use mathlib.Core.Bool.{Bool, true, false, cond, _&&_}
 use mathlib.Core.List.{List, _++_}
 use native.Mathlib.Omega.{arith}
 use lib.IntN.{ℤ, pos}
-use lib.ListN.{length, take, drop, replicate}
+use lib.ListN.{length, take, drop, replicate, length-replicate}
 use lib.Seq.{length-take-le, length-front}
 use lib.Dec.{leb}
 use borrow.Author.Tests.{le-leb, lt-leb}
@@ -19,6 +19,8 @@ use Rattle.graph.specs.declared.find.Found.the-variants.{At, Missing}
 use Rattle.graph.specs.Part.{partOf}
 use Rattle.graph.specs.Find.{placeIn, bisected}
 use Rattle.graph.specs.Sound.{Graph, outward, names, soundGraph}
+use Rattle.graph.specs.Walk.{checked}
+use Rattle.graph.proofs.Walks.{check-area}
 use Rattle.graph.proofs.Sounds.{sound-of, names-length, outward-below, vertex-found}
 use Rattle.graph.proofs.Finds.{place-at}
 use Rattle.kernels.specs.Answer.{kernelSays}
@@ -98,3 +100,11 @@ module _ (g : Graph) (root : ℤ) where
         → bfsCall g root D Q ≡ outcome (gives tt) (padZ (length D) (depths (g .vertices) (outward g) v)) (cleared Q)
     unfolding bfsCall bfsSays kernelSays
     call-done v h p d q = rw (h, p, le-leb (g .vertices) (length D) d, le-leb (g .vertices) (length Q) q)
+
+-- the check of the graph left zeros in the queue
+queue-zero : (g : Graph) (root : ℤ) (D : List ℤ) (Q Q₁ : List ℕ) → Q₁ ≡ cleared Q → bfsCall g root D Q₁ ≡ bfsCall g root D Q
+unfolding bfsCall bfsSays
+queue-zero g root D Q Q₁ q = rw (q, length-replicate {A = ℕ} (length Q) 0)
+
+pub call-over : (g : Graph) (root : ℤ) (D : List ℤ) (Q Q₁ : List ℕ) {s : Bool} → checked s Q₁ ≡ checked (soundGraph g) (cleared Q) → bfsCall g root D Q₁ ≡ bfsCall g root D Q
+call-over g root D Q Q₁ e = queue-zero g root D Q Q₁ (check-area e)

@@ -9,7 +9,7 @@ use basis::refusal::UNSOUND;
 use graph::Size;
 use graph::find::Found;
 use graph::find::find;
-use graph::sound::sound;
+use graph::walk::sound_over;
 use kernels::Answer;
 use kernels::refused;
 use view::neighbours;
@@ -157,7 +157,15 @@ pub fn bfs(
     ensures { λ r. ⌜ outcome (says r) (now (depth .exit)) (now (queue .exit)) ≡ bfsCall (lent size (now (ids .entry)) (now («out_offsets» .entry)) (now («out_targets» .entry)) (now («in_offsets» .entry)) (now («in_sources» .entry))) root (now (depth .entry)) (now (queue .entry)) ⌝ }
 {
     let n = size.vertices;
-    if !sound(size, ids, out_offsets, out_targets, in_offsets, in_sources) {
+    if !sound_over(
+        size,
+        ids,
+        out_offsets,
+        out_targets,
+        in_offsets,
+        in_sources,
+        queue,
+    ) {
         return refuse(UNSOUND, depth, queue);
     }
     match find(&ids[..n], root) {

@@ -6,7 +6,7 @@ use mathlib.Core.List.{List, [], _++_}
 use native.Mathlib.Omega.{arith}
 use lib.IntN.{ℤ, pos, negsuc, natAbs}
 use lib.Signed.{ltZ, nonNeg}
-use lib.ListN.{length, replicate, take, drop}
+use lib.ListN.{length, replicate, take, drop, length-replicate}
 use lib.Seq.{length-take-le, length-front}
 use lib.Dec.{T, leb, ltb}
 use mir.Syntax.{w64}
@@ -17,6 +17,8 @@ use Rattle.basis.specs.Area.{cleared, clearedZ, padWith}
 use Rattle.basis.proofs.Tests.{clash, and-first, and-second}
 use Rattle.graph.specs.declared.Size.{Size}
 use Rattle.graph.specs.Sound.{Graph, lent, soundGraph}
+use Rattle.graph.specs.Walk.{checked}
+use Rattle.graph.proofs.Walks.{check-told, check-area}
 use Rattle.graph.proofs.Sounds.{Sound, sound-of}
 use Rattle.kernels.specs.Answer.{kernelSays}
 use Rattle.cdlp.specs.Rounds.{cdlpOf}
@@ -168,23 +170,51 @@ module _ (size : Size) (ids : List ℤ) (oo ot io is : List ℕ) (z : ℤ) (R : 
   abbrev g : Graph
   g = lent size ids oo ot io is
 
-  pub call-unsound : not s ≡ true → o ≡ leftBy (refuses (plain 9)) [] R L N C → o ≡ cdlpCall g z R L N C
+  ends-unsound : not s ≡ true → o ≡ leftBy (refuses (plain 9)) [] R L N C → o ≡ cdlpCall g z R L N C
   unfolding cdlpCall kernelSays leftBy
-  call-unsound h q = q ∙ rw (failed s (soundGraph g) e h)
+  ends-unsound h q = q ∙ rw (failed s (soundGraph g) e h)
 
   module _ (h : not s ≡ false) (z′ : ℤ) (same : z′ ≡ z) (a : Bool) (f : a ≡ goodRounds z′) where
-    pub call-outside : not a ≡ true → o ≡ leftBy (refuses (plain 11)) [] R L N C → o ≡ cdlpCall g z R L N C
+    ends-outside : not a ≡ true → o ≡ leftBy (refuses (plain 11)) [] R L N C → o ≡ cdlpCall g z R L N C
     unfolding cdlpCall kernelSays leftBy
-    call-outside k q = q ∙ rw (passed s (soundGraph g) e h, ← same, failed a (goodRounds z′) f k)
+    ends-outside k q = q ∙ rw (passed s (soundGraph g) e h, ← same, failed a (goodRounds z′) f k)
 
     module _ (k : not a ≡ false) (r : Bool) (i : r ≡ roomFor (size .vertices) R L N C) where
-      pub call-short : not r ≡ true → o ≡ leftBy (refuses (plain 8)) [] R L N C → o ≡ cdlpCall g z R L N C
+      ends-short : not r ≡ true → o ≡ leftBy (refuses (plain 8)) [] R L N C → o ≡ cdlpCall g z R L N C
       unfolding cdlpCall kernelSays leftBy
-      call-short l q = q ∙ rw (passed s (soundGraph g) e h, ← same, passed a (goodRounds z′) f k, failed r (roomFor (size .vertices) R L N C) i l)
+      ends-short l q = q ∙ rw (passed s (soundGraph g) e h, ← same, passed a (goodRounds z′) f k, failed r (roomFor (size .vertices) R L N C) i l)
 
-      pub call-done : not r ≡ false → o ≡ leftBy (gives tt) (cdlpOf g (natAbs z′)) R L N C → o ≡ cdlpCall g z R L N C
+      ends-done : not r ≡ false → o ≡ leftBy (gives tt) (cdlpOf g (natAbs z′)) R L N C → o ≡ cdlpCall g z R L N C
       unfolding cdlpCall kernelSays leftBy
-      call-done l q = q ∙ rw (passed s (soundGraph g) e h, ← same, passed a (goodRounds z′) f k, passed r (roomFor (size .vertices) R L N C) i l)
+      ends-done l q = q ∙ rw (passed s (soundGraph g) e h, ← same, passed a (goodRounds z′) f k, passed r (roomFor (size .vertices) R L N C) i l)
+
+-- the check of the graph left zeros in the counts
+call-over : (g : Graph) (z : ℤ) (R : List ℤ) (L N C C₁ : List ℕ) → C₁ ≡ cleared C → cdlpCall g z R L N C₁ ≡ cdlpCall g z R L N C
+unfolding cdlpCall leftBy roomFor
+call-over g z R L N C C₁ q = rw (q, length-replicate {A = ℕ} (length C) 0)
+
+-- the same with C₁, the counts that the check of the graph left
+module _ (size : Size) (ids : List ℤ) (oo ot io is : List ℕ) (z : ℤ) (R : List ℤ) (L N C C₁ : List ℕ) (o : Outcome)
+    (s : Bool) (e : checked s C₁ ≡ checked (soundGraph (lent size ids oo ot io is)) (cleared C)) where
+  abbrev graph : Graph
+  graph = lent size ids oo ot io is
+
+  over : cdlpCall graph z R L N C₁ ≡ cdlpCall graph z R L N C
+  over = call-over graph z R L N C C₁ (check-area e)
+
+  pub call-unsound : not s ≡ true → o ≡ leftBy (refuses (plain 9)) [] R L N C₁ → o ≡ cdlpCall graph z R L N C
+  call-unsound h q = ends-unsound size ids oo ot io is z R L N C₁ o s (check-told e) h q ∙ over
+
+  module _ (h : not s ≡ false) (z′ : ℤ) (same : z′ ≡ z) (a : Bool) (f : a ≡ goodRounds z′) where
+    pub call-outside : not a ≡ true → o ≡ leftBy (refuses (plain 11)) [] R L N C₁ → o ≡ cdlpCall graph z R L N C
+    call-outside k q = ends-outside size ids oo ot io is z R L N C₁ o s (check-told e) h z′ same a f k q ∙ over
+
+    module _ (k : not a ≡ false) (r : Bool) (i : r ≡ roomFor (size .vertices) R L N C₁) where
+      pub call-short : not r ≡ true → o ≡ leftBy (refuses (plain 8)) [] R L N C₁ → o ≡ cdlpCall graph z R L N C
+      call-short l q = ends-short size ids oo ot io is z R L N C₁ o s (check-told e) h z′ same a f k r i l q ∙ over
+
+      pub call-done : not r ≡ false → o ≡ leftBy (gives tt) (cdlpOf graph (natAbs z′)) R L N C₁ → o ≡ cdlpCall graph z R L N C
+      call-done l q = ends-done size ids oo ot io is z R L N C₁ o s (check-told e) h z′ same a f k r i l q ∙ over
 
 -- a number of rounds within the limit is a number
 pub rounds-cast : (z : ℤ) (a : Bool) → a ≡ goodRounds z → not a ≡ false → T (nonNeg z) × Fits w64 (natAbs z)

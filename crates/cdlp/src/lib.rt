@@ -8,7 +8,7 @@ use basis::refusal::BAD_ROUNDS;
 use basis::refusal::NO_ROOM;
 use basis::refusal::UNSOUND;
 use graph::Size;
-use graph::sound::sound;
+use graph::walk::sound_over;
 use kernels::Answer;
 use kernels::refused;
 use rounds::propagate;
@@ -129,7 +129,15 @@ pub fn cdlp(
 ) -> Answer
     ensures { λ r. ⌜ outcome (says r) (now (result .exit)) (now (labels .exit)) (now (next .exit)) (now (counts .exit)) ≡ cdlpCall (lent size (now (ids .entry)) (now («out_offsets» .entry)) (now («out_targets» .entry)) (now («in_offsets» .entry)) (now («in_sources» .entry))) iterations (now (result .entry)) (now (labels .entry)) (now (next .entry)) (now (counts .entry)) ⌝ }
 {
-    if !sound(size, ids, out_offsets, out_targets, in_offsets, in_sources) {
+    if !sound_over(
+        size,
+        ids,
+        out_offsets,
+        out_targets,
+        in_offsets,
+        in_sources,
+        counts,
+    ) {
         return refuse(UNSOUND, result, labels, next, counts);
     }
     if !allowed(iterations) {

@@ -1,7 +1,7 @@
 -- Laws of the steps of the soundness check: one for each answer that a step gives, by the tests that the code makes. Assumes nothing.
 use Prim.Native.Nat.{ℕ, suc, _+_, _-_, _/_, _≤_, _<_}
 use mathlib.Core.Path.{_≡_, refl, sym, ap, _∙_}
-use mathlib.Core.Bool.{Bool, true, false, not, _&&_}
+use mathlib.Core.Bool.{Bool, true, false, _&&_}
 use mathlib.Core.List.{List}
 use native.Mathlib.Omega.{arith}
 use native.Mathlib.Numerals.{add-one}
@@ -11,10 +11,10 @@ use lib.ListN.{length, getD, take, length-take}
 use lib.Seq.{getD-take}
 use lib.Dec.{leb, ltb}
 use lib.Signed.{ltZ}
-use borrow.Author.Tests.{lt-ltb, le-ltb, le-leb, lt-leb, eq-eqb, ne-eqb, not-false}
+use borrow.Author.Tests.{lt-ltb, le-ltb, le-leb, lt-leb, eq-eqb, ne-eqb}
 use Rattle.basis.specs.Order.{rising, risingBy}
 use Rattle.basis.specs.Scan.{every, each, mem}
-use Rattle.basis.proofs.Tests.{clash, false-of, and-second, and-both, and-off}
+use Rattle.basis.proofs.Tests.{and-first, and-second, and-off}
 use Rattle.basis.proofs.Scans.{every-at, every-more, every-fail, every-end, each-fail, each-every, mem-index, mem-none}
 use Rattle.basis.proofs.Orders.{risingBy-of, risingBy-fail, number-order}
 use Rattle.graph.specs.declared.Size.{Size}
@@ -22,10 +22,11 @@ use Rattle.graph.specs.declared.find.Found.{Found}
 use Rattle.graph.specs.declared.find.Found.the-variants.{At, Missing}
 use Rattle.graph.specs.Part.{partOf}
 use Rattle.graph.specs.Find.{bisectBy}
-use Rattle.graph.specs.Sound.{lent, soundIds, other, soundOffsets, soundPart, soundSide, mirrored, soundGraph}
-use Rattle.graph.specs.Steps.{idsRise, neverFall, soundParts, located, bisectFinds, answered}
+use Rattle.graph.specs.Sound.{Graph, lent, soundIds, other, soundOffsets, soundPart, soundSide, mirrored, reversed, soundGraph}
+use Rattle.graph.specs.Steps.{idsRise, neverFall, soundParts, soundSides, located, bisectFinds, answered}
+use Rattle.graph.specs.Walk.{Views, bothWays}
 use Rattle.graph.proofs.Parts.{part-far}
-use Rattle.graph.proofs.Sounds.{Sound, sound-of, side-from, part-rises}
+use Rattle.graph.proofs.Sounds.{part-rises}
 use Rattle.graph.proofs.Finds.{Halving, halving-here, halving-end, Right, bisect-finds}
 
 -- ---- neighbours in a list
@@ -136,9 +137,9 @@ module _ (n m : ℕ) (off tgt : List ℕ) where
       unfolding soundSide
       side-rest k t e = rw (lt-ltb n (length off) g, le-leb m (length tgt) h, k) e
 
-  pub side-parts : (t : Bool) → t ≡ soundSide n m off tgt → not t ≡ false → soundParts n off tgt ≡ true
+  side-parts : soundSide n m off tgt ≡ true → soundParts n off tgt ≡ true
   unfolding soundSide
-  side-parts t e h = and-second ((ltb n (length off) && leb m (length tgt)) && soundOffsets n m off) (soundParts n off tgt) (sym e ∙ not-false t h)
+  side-parts h = and-second ((ltb n (length off) && leb m (length tgt)) && soundOffsets n m off) (soundParts n off tgt) h
 
 -- ---- "the inward arcs are exactly the outward ones reversed"
 module _ (l : List ℕ) (x low high : ℕ) (h : Halving ltb 0 l x low high) where
@@ -191,32 +192,60 @@ module _ (n : ℕ) (from back : List ℕ) (from′ back′ : List ℕ) where
   mirrored-end u a b h = every-end (λ u. answered n back′ back u (partOf n from′ from u)) n u a b h
 
 -- ---- the whole graph: a clause that fails, and all of them
+graph-is : (g : Graph) → soundGraph g ≡ (soundSides g && reversed g)
+unfolding soundGraph soundSides
+graph-is g = refl
+
 module _ (size : Size) (ids : List ℤ) (oo ot io is : List ℕ) where
-  unsound : (Sound (lent size ids oo ot io is) → ⊥) → false ≡ soundGraph (lent size ids oo ot io is)
-  unsound h = sym (false-of (soundGraph (lent size ids oo ot io is)) (λ e. h (sound-of (lent size ids oo ot io is) e)))
+  pub sides-vertices : 65536 < size .vertices → false ≡ soundSides (lent size ids oo ot io is)
+  unfolding soundSides
+  sides-vertices h = rw (lt-leb (size .vertices) 65536 h)
 
-  pub graph-vertices : 65536 < size .vertices → false ≡ soundGraph (lent size ids oo ot io is)
-  graph-vertices h = unsound (λ s. let e = s .fewVertices in omega arith)
+  module _ (a : size .vertices ≤ 65536) where
+    pub sides-arcs : 2097152 < size .arcs → false ≡ soundSides (lent size ids oo ot io is)
+    unfolding soundSides
+    sides-arcs h = rw (le-leb (size .vertices) 65536 a, lt-leb (size .arcs) 2097152 h)
 
-  pub graph-arcs : 2097152 < size .arcs → false ≡ soundGraph (lent size ids oo ot io is)
-  graph-arcs h = unsound (λ s. let e = s .fewArcs in omega arith)
+    module _ (b : size .arcs ≤ 2097152) where
+      pub sides-ids : idsRise (size .vertices) ids ≡ false → false ≡ soundSides (lent size ids oo ot io is)
+      unfolding soundSides soundIds
+      sides-ids h = rw (le-leb (size .vertices) 65536 a, le-leb (size .arcs) 2097152 b, h)
 
-  pub graph-ids : idsRise (size .vertices) ids ≡ false → false ≡ soundGraph (lent size ids oo ot io is)
-  graph-ids h = unsound (λ s. clash (and-both (le-leb (size .vertices) (length ids) (s .idsRoom)) (s .idsRise)) h)
+      module _ (i : idsRise (size .vertices) ids ≡ true) where
+        pub sides-out : soundSide (size .vertices) (size .arcs) oo ot ≡ false → false ≡ soundSides (lent size ids oo ot io is)
+        unfolding soundSides soundIds
+        sides-out h = rw (le-leb (size .vertices) 65536 a, le-leb (size .arcs) 2097152 b, i, h)
 
-  pub graph-out : soundSide (size .vertices) (size .arcs) oo ot ≡ false → false ≡ soundGraph (lent size ids oo ot io is)
-  graph-out h = unsound (λ s. clash (side-from (s .outwardSide)) h)
+        pub sides-in : soundSide (size .vertices) (size .arcs) oo ot ≡ true → (t : Bool) → t ≡ soundSide (size .vertices) (size .arcs) io is
+            → t ≡ soundSides (lent size ids oo ot io is)
+        unfolding soundSides soundIds
+        sides-in h t e = rw (le-leb (size .vertices) 65536 a, le-leb (size .arcs) 2097152 b, i, h) e
 
-  pub graph-in : soundSide (size .vertices) (size .arcs) io is ≡ false → false ≡ soundGraph (lent size ids oo ot io is)
-  graph-in h = unsound (λ s. clash (side-from (s .inwardSide)) h)
+  pub graph-sides : soundSides (lent size ids oo ot io is) ≡ false → false ≡ soundGraph (lent size ids oo ot io is)
+  graph-sides h = rw (graph-is (lent size ids oo ot io is), h)
 
-  pub graph-back : mirrored (size .vertices) (partOf (size .vertices) oo ot) (partOf (size .vertices) io is) ≡ false
-      → false ≡ soundGraph (lent size ids oo ot io is)
-  graph-back h = unsound (λ s. clash (s .back) h)
+  module _ (s : soundSides (lent size ids oo ot io is) ≡ true) where
+    pub graph-back : mirrored (size .vertices) (partOf (size .vertices) oo ot) (partOf (size .vertices) io is) ≡ false
+        → false ≡ soundGraph (lent size ids oo ot io is)
+    graph-back h = rw (graph-is (lent size ids oo ot io is), s, h)
 
-  pub graph-rest : size .vertices ≤ 65536 → size .arcs ≤ 2097152 → idsRise (size .vertices) ids ≡ true
-      → soundSide (size .vertices) (size .arcs) oo ot ≡ true → soundSide (size .vertices) (size .arcs) io is ≡ true
-      → mirrored (size .vertices) (partOf (size .vertices) oo ot) (partOf (size .vertices) io is) ≡ true
-      → (t : Bool) → t ≡ mirrored (size .vertices) (partOf (size .vertices) io is) (partOf (size .vertices) oo ot) → t ≡ soundGraph (lent size ids oo ot io is)
-  unfolding soundGraph soundIds
-  graph-rest a b i c d h t e = rw (le-leb (size .vertices) 65536 a, le-leb (size .arcs) 2097152 b, i, c, d, h) e
+    pub graph-forth : mirrored (size .vertices) (partOf (size .vertices) oo ot) (partOf (size .vertices) io is) ≡ true
+        → (t : Bool) → t ≡ mirrored (size .vertices) (partOf (size .vertices) io is) (partOf (size .vertices) oo ot) → t ≡ soundGraph (lent size ids oo ot io is)
+    graph-forth h t e = rw (graph-is (lent size ids oo ot io is), s, h) e
+
+    sides-ways : (soundSide (size .vertices) (size .arcs) oo ot && soundSide (size .vertices) (size .arcs) io is) ≡ true
+    sides-ways =
+        and-second ((leb (size .vertices) 65536 && leb (size .arcs) 2097152) && soundIds (lent size ids oo ot io is))
+        (soundSide (size .vertices) (size .arcs) oo ot && soundSide (size .vertices) (size .arcs) io is) (unfold soundSides in s)
+
+    pub sides-outward : soundParts (size .vertices) oo ot ≡ true
+    sides-outward = side-parts (size .vertices) (size .arcs) oo ot (and-first (soundSide (size .vertices) (size .arcs) oo ot) (soundSide (size .vertices) (size .arcs) io is) sides-ways)
+
+    pub sides-inward : soundParts (size .vertices) io is ≡ true
+    sides-inward = side-parts (size .vertices) (size .arcs) io is (and-second (soundSide (size .vertices) (size .arcs) oo ot) (soundSide (size .vertices) (size .arcs) io is) sides-ways)
+
+    pub sides-views : Views (size .vertices) (partOf (size .vertices) oo ot) (partOf (size .vertices) io is)
+    sides-views = record { outward = sides-outward; inward = sides-inward }
+
+    pub graph-ways : (t : Bool) → t ≡ bothWays (size .vertices) (partOf (size .vertices) oo ot) (partOf (size .vertices) io is) → t ≡ soundGraph (lent size ids oo ot io is)
+    graph-ways t e = rw (graph-is (lent size ids oo ot io is), s) e

@@ -4,3 +4,4 @@ pub mod Arcs
 pub mod Sound
 pub mod Find
 pub mod Steps
+pub mod Walk

@@ -10,7 +10,7 @@ use Rattle.basis.specs.Scan.{every, each, mem}
 use Rattle.graph.specs.declared.find.Found.{Found}
 use Rattle.graph.specs.declared.find.Found.the-variants.{At, Missing}
 use Rattle.graph.specs.Part.{partOf}
-use Rattle.graph.specs.Sound.{soundPart}
+use Rattle.graph.specs.Sound.{Graph, mostVertices, mostArcs, soundIds, soundPart, soundSide}
 use Rattle.graph.specs.Find.{bisectBy}
 
 -- the first n of a list of identifiers are there and rise
@@ -24,6 +24,12 @@ neverFall n off = every n (λ v. leb (getD off v 0) (getD off (v + 1) 0))
 -- every vertex's part is sound
 abbrev pub soundParts : ℕ → List ℕ → List ℕ → Bool
 soundParts n off tgt = every n (λ v. soundPart n v (partOf n off tgt v))
+
+-- all of `soundGraph` but that the arcs are each other's reversed
+unfoldable pub soundSides : Graph → Bool
+soundSides g =
+    (leb (g .vertices) mostVertices && leb (g .arcs) mostArcs) && soundIds g
+    && (soundSide (g .vertices) (g .arcs) (g .outOffsets) (g .outTargets) && soundSide (g .vertices) (g .arcs) (g .inOffsets) (g .inSources))
 
 -- x is found in a list by bisection
 abbrev pub located : Found → Bool

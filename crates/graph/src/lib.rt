@@ -2,6 +2,7 @@
 pub mod find;
 pub mod part;
 pub mod sound;
+pub mod walk;
 
 // How many vertices and arcs a lent graph is said to have.
 pub struct Size {

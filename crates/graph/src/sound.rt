@@ -7,7 +7,7 @@ ghost use Rattle.basis.specs.Order.{rising};
 ghost use Rattle.basis.specs.Scan.{each};
 ghost use Rattle.graph.specs.Part.{partOf};
 ghost use Rattle.graph.specs.Sound.{lent, other, soundOffsets, soundPart, soundSide, mirrored, soundGraph};
-ghost use Rattle.graph.specs.Steps.{idsRise, neverFall, soundParts, bisectFinds, answered};
+ghost use Rattle.graph.specs.Steps.{idsRise, neverFall, soundParts, soundSides, bisectFinds, answered};
 use crate::Size;
 use crate::part::part;
 
@@ -202,8 +202,8 @@ fn side_answered(
     true
 }
 
-// A lent graph is sound.
-pub fn sound(
+// All of it but how the two ways belong together: the limits, the identifiers, and each way for itself.
+pub fn sides_sound(
     size: Size,
     ids: &[i64],
     out_offsets: &[usize],
@@ -211,7 +211,7 @@ pub fn sound(
     in_offsets: &[usize],
     in_sources: &[usize],
 ) -> bool
-    ensures { λ r. ⌜ r ≡ soundGraph (lent size (now (ids .entry)) (now («out_offsets» .entry)) (now («out_targets» .entry)) (now («in_offsets» .entry)) (now («in_sources» .entry))) ⌝ }
+    ensures { λ r. ⌜ r ≡ soundSides (lent size (now (ids .entry)) (now («out_offsets» .entry)) (now («out_targets» .entry)) (now («in_offsets» .entry)) (now («in_sources» .entry))) ⌝ }
 {
     let n = size.vertices;
     let m = size.arcs;
@@ -227,7 +227,22 @@ pub fn sound(
     if !side_sound(out_targets, out_offsets, n, m) {
         return false;
     }
-    if !side_sound(in_sources, in_offsets, n, m) {
+    side_sound(in_sources, in_offsets, n, m)
+}
+
+// A lent graph is sound.
+pub fn sound(
+    size: Size,
+    ids: &[i64],
+    out_offsets: &[usize],
+    out_targets: &[usize],
+    in_offsets: &[usize],
+    in_sources: &[usize],
+) -> bool
+    ensures { λ r. ⌜ r ≡ soundGraph (lent size (now (ids .entry)) (now («out_offsets» .entry)) (now («out_targets» .entry)) (now («in_offsets» .entry)) (now («in_sources» .entry))) ⌝ }
+{
+    let n = size.vertices;
+    if !sides_sound(size, ids, out_offsets, out_targets, in_offsets, in_sources) {
         return false;
     }
     if !side_answered(out_targets, out_offsets, in_sources, in_offsets, n) {

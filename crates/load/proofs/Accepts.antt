@@ -21,8 +21,8 @@ use Rattle.text.proofs.Bytes.{cut-at, upTo-none, mem-cut, upTo-cut, drop-past}
 use Rattle.graph.specs.Arcs.{Arc, arcs}
 use Rattle.graph.specs.Find.{placeIn}
 use Rattle.load.specs.declared.Limits.{Limits}
-use Rattle.load.specs.Lines.{Line, good, bad, linesFrom, linesOf, Before, first, after, onward, said, valuesFrom}
-use Rattle.load.specs.Files.{vertexTest, identifiers, abovePair, isAbove, isThere, edgeTest, edgesOf, allNumbered}
+use Rattle.lists.specs.Lines.{Line, good, bad, linesFrom, linesOf, Before, first, after, onward, said, valuesFrom}
+use Rattle.lists.specs.Files.{vertexTest, identifiers, abovePair, isAbove, isThere, edgeTest, edgesOf, allNumbered}
 use Rattle.load.specs.Load.{Lists, Room, isUndirected, vertexRoom, arcRoom, withRoom, arcsRead, listsRead, loaded}
 use Rattle.load.specs.Good.{joined, Says, FileSays, allGood, Passes, GoodVertices, GoodEdges, GoodLoad}
 use Rattle.load.proofs.Values.{Accepted, values-accepted, accepted-values}
@@ -70,6 +70,7 @@ module _ {A : Type 0} (word : List ℕ → Word A) (s : List ℕ) where
       says-none malformed next h = let z : _≡_ {A = ℕ} 0 1 = cc in omega arith
       says-none outside next h = let z : _≡_ {A = ℕ} 0 1 = cc in omega arith
       says-none (value v) next h = let z : _≡_ {A = ℕ} 0 1 = cc in omega arith
+
       go : (t u : Bool) → leb (length s) place ≡ t
           → cond t (none place) (cond u (lineSays place (place + length (upTo lf (drop place s)) + 1) (word (upTo lf (drop place s)))) (fault 2 place)) ≡ none p → drop place s ≡ []
       go true u q h = drop-of-length-le s (leb-true (length s) place q)
@@ -146,9 +147,9 @@ pass-first (z ∷ l) h = (refl, rises-pass z l h)
 pub vertices-accepted : (most : ℕ) (s : List ℕ) (ids : List ℤ) → (identifiers most s ≡ gives ids) ↔ GoodVertices most s ids
 vertices-accepted most s ids = (
   (λ e. let a = values-accepted vertexFile most vertexTest 0 first (linesOf vertexLine s) ids e (omega arith) in
-  record { lines = lines-say identOf s ids .0 (a .lines); few = let l = a .few in omega arith; rise = ids-rise ids (a .passes) }),
+      record { lines = lines-say identOf s ids .0 (a .lines); few = let l = a .few in omega arith; rise = ids-rise ids (a .passes) }),
   λ g. accepted-values vertexFile most vertexTest 0 first (linesOf vertexLine s) ids
-  (record { lines = lines-say identOf s ids .1 (g .lines); passes = pass-first ids (g .rise); few = let l = g .few in omega arith }),
+      (record { lines = lines-say identOf s ids .1 (g .lines); passes = pass-first ids (g .rise); few = let l = g .few in omega arith }),
 )
 
 -- ---- the edge file
@@ -181,7 +182,7 @@ module _ (both : Bool) (ids : List ℤ) where
   not-off : (t : Bool) → t ≡ false → not t ≡ true
   not-off t h = rw h
 
-  clauses-of : (before : Before (ℤ × ℤ)) (es : List (ℤ × ℤ)) → Passes (edgeTest both ids) before es → Clauses before es
+  clauses-of : (before : Before (ℤ × ℤ)) (es : List (ℤ × ℤ)) → Passes (edgeTest both (placeIn ids)) before es → Clauses before es
   unfolding each
   clauses-of first [] p = record { above = refl; apart = refl; smaller = refl; there = refl }
   clauses-of (after d) [] p = record { above = refl; apart = refl; smaller = refl; there = refl }
@@ -195,7 +196,7 @@ module _ (both : Bool) (ids : List ℤ) where
         there = and-both (and-both (t .from) (t .to)) (c .there);
       }
 
-  passes-of : (before : Before (ℤ × ℤ)) (es : List (ℤ × ℤ)) → Clauses before es → Passes (edgeTest both ids) before es
+  passes-of : (before : Before (ℤ × ℤ)) (es : List (ℤ × ℤ)) → Clauses before es → Passes (edgeTest both (placeIn ids)) before es
   unfolding each
   passes-of before [] c = tt
   passes-of before (e ∷ es) c =
@@ -219,24 +220,24 @@ module _ (both : Bool) (ids : List ℤ) where
       )
 
 -- an edge file gives edges exactly where it is a good file of them
-pub edges-accepted : (both : Bool) (most : ℕ) (ids : List ℤ) (s : List ℕ) (es : List (ℤ × ℤ)) → (edgesOf both most ids s ≡ gives es) ↔ GoodEdges both most ids s es
+pub edges-accepted : (both : Bool) (most : ℕ) (ids : List ℤ) (s : List ℕ) (es : List (ℤ × ℤ)) → (edgesOf both most (placeIn ids) s ≡ gives es) ↔ GoodEdges both most ids s es
 edges-accepted both most ids s es = (
-  (λ e. let a = values-accepted edgeFile most (edgeTest both ids) 0 first (linesOf edgeLine s) es e (omega arith) in
-  let c = clauses-of both ids first es (a .passes) in
-  record {
-    lines = lines-say (twoOf identOf identOf) s es .0 (a .lines);
-    few = let l = a .few in omega arith;
-    rise = c .above;
-    apart = c .apart;
-    smaller = c .smaller;
-    there = c .there;
-  }),
-  λ g. accepted-values edgeFile most (edgeTest both ids) 0 first (linesOf edgeLine s) es
-  (record {
-    lines = lines-say (twoOf identOf identOf) s es .1 (g .lines);
-    passes = passes-of both ids first es (record { above = g .rise; apart = g .apart; smaller = g .smaller; there = g .there });
-    few = let l = g .few in omega arith;
-  }),
+  (λ e. let a = values-accepted edgeFile most (edgeTest both (placeIn ids)) 0 first (linesOf edgeLine s) es e (omega arith) in
+      let c = clauses-of both ids first es (a .passes) in
+      record {
+        lines = lines-say (twoOf identOf identOf) s es .0 (a .lines);
+        few = let l = a .few in omega arith;
+        rise = c .above;
+        apart = c .apart;
+        smaller = c .smaller;
+        there = c .there;
+      }),
+  λ g. accepted-values edgeFile most (edgeTest both (placeIn ids)) 0 first (linesOf edgeLine s) es
+      (record {
+        lines = lines-say (twoOf identOf identOf) s es .1 (g .lines);
+        passes = passes-of both ids first es (record { above = g .rise; apart = g .apart; smaller = g .smaller; there = g .there });
+        few = let l = g .few in omega arith;
+      }),
 )
 
 -- ---- the load
@@ -263,8 +264,8 @@ module _ (limits : Limits) (mode : ℕ) (room : Room) (vertices edges : List ℕ
       let b = onward-gives (withRoom (hasPlaces (a .0)) (a .0)) _ g (a .2) in
       let r = room-gives (hasPlaces (a .0)) (a .0) (b .0) (b .1) in
       let c = onward-gives (arcsRead both (limits .edges) (b .0) edges (room .outTargets) (room .inSources)) _ g (b .2) in
-      let d = onward-gives (edgesOf both (limits .edges) (b .0) edges) _ (c .0) (c .1) in
-      let k = room-gives (arcRoom (room .outTargets) (room .inSources) (length (arcs both (allNumbered (b .0) (d .0))))) (arcs both (allNumbered (b .0) (d .0))) (c .0) (d .2) in
+      let d = onward-gives (edgesOf both (limits .edges) (placeIn (b .0)) edges) _ (c .0) (c .1) in
+      let k = room-gives (arcRoom (room .outTargets) (room .inSources) (length (arcs both (allNumbered (placeIn (b .0)) (d .0))))) (arcs both (allNumbered (placeIn (b .0)) (d .0))) (c .0) (d .2) in
       let q : _≡_ {A = Lists} (record { ids = b .0; arcs = c .0 }) g = (let e = c .2 in cc) in
       let p : hasPlaces (b .0) ≡ true = subst (λ (l : List ℤ). hasPlaces l ≡ true) (r .1) (r .0) in
       let n = length (b .0) in
@@ -295,7 +296,7 @@ module _ (limits : Limits) (mode : ℕ) (room : Room) (vertices edges : List ℕ
       let n = length (g .ids) in
       let p : hasPlaces (g .ids) ≡ true =
       and-both (le-leb n (room .ids) (l .idsFit)) (and-both (lt-ltb n (room .outOffsets) (l .outOffsetsFit)) (lt-ltb n (room .inOffsets) (l .inOffsetsFit))) in
-      let t : arcRoom (room .outTargets) (room .inSources) (length (arcs both (allNumbered (g .ids) (l .list)))) ≡ true =
+      let t : arcRoom (room .outTargets) (room .inSources) (length (arcs both (allNumbered (placeIn (g .ids)) (l .list)))) ≡ true =
       rw (← l .arcsAre) (and-both (le-leb (length (g .arcs)) (room .outTargets) (l .outTargetsFit)) (le-leb (length (g .arcs)) (room .inSources) (l .inSourcesFit))) in
       rw (
         le-leb mode 1 (l .known),

@@ -1,4 +1,4 @@
--- Loads by computation: the sheet's graph of 01, a small undirected one, and a file for each refusal. Bytes: 45 `-`, 48 to 57 the digits, 32 a space, 10 LF.
+-- Loads by computation: the sheet's graph of 01, a small undirected one, and some that are refused. Bytes: 45 `-`, 48 to 57 the digits, 32 a space, 10 LF.
 use mathlib.Core.Path.{_≡_, refl}
 use mathlib.Core.Bool.{true, false}
 use mathlib.Core.List.{List, [], _∷_, _++_}
@@ -10,8 +10,8 @@ use Rattle.basis.specs.Area.{column}
 use Rattle.text.specs.Word.{within}
 use Rattle.text.specs.Line.{lineBy, twoOf}
 use Rattle.graph.specs.Find.{placeFrom}
-use Rattle.load.specs.Lines.{linesFrom, valuesFrom}
-use Rattle.load.specs.Files.{edgeTest}
+use Rattle.lists.specs.Lines.{linesFrom, valuesFrom}
+use Rattle.lists.specs.Files.{edgeTest}
 use Rattle.load.specs.Load.{roomOf, arcsRead, listsRead, loaded, outcome, outcomeOf, loadCall, library}
 
 -- -3 / 2 / 5 / 9 / 20
@@ -32,3 +32,56 @@ directed : loadCall library 1 (roomOf 6 7 6 6 5) vertices edges
     (2 ∷ 1 ∷ 1 ∷ 2 ∷ 3 ∷ [])
 unfolding vertices edges each mem column within lineBy twoOf placeFrom linesFrom valuesFrom edgeTest arcsRead listsRead loaded outcomeOf loadCall
 directed = refl
+
+-- the same files read as undirected: 5 2 has the larger number first
+turned : loadCall library 0 (roomOf 1 1 1 1 1) vertices edges ≡ outcome (refuses (plain 8)) (pos 0 ∷ []) (0 ∷ []) (0 ∷ []) (0 ∷ []) (0 ∷ [])
+unfolding vertices edges each mem column within lineBy twoOf placeFrom linesFrom valuesFrom edgeTest arcsRead listsRead loaded outcomeOf loadCall
+turned = refl
+
+larger-first : loaded library 0 (roomOf 5 6 9 6 9) vertices edges ≡ refuses (at 6 2 3)
+unfolding vertices edges each mem within lineBy twoOf placeFrom linesFrom valuesFrom edgeTest arcsRead listsRead loaded
+larger-first = refl
+
+-- 1 / 2 / 3, with the edges 1 2 / 1 3: each stores two arcs
+three : List ℕ
+three = 49 ∷ 10 ∷ 50 ∷ 10 ∷ 51 ∷ 10 ∷ []
+
+star : List ℕ
+star = 49 ∷ 32 ∷ 50 ∷ 10 ∷ 49 ∷ 32 ∷ 51 ∷ 10 ∷ []
+
+undirected : loadCall library 0 (roomOf 3 4 5 4 4) three star
+    ≡ outcome (gives (record { vertices = 3; arcs = 4 }))
+    (pos 1 ∷ pos 2 ∷ pos 3 ∷ [])
+    (0 ∷ 2 ∷ 3 ∷ 4 ∷ [])
+    (1 ∷ 2 ∷ 0 ∷ 0 ∷ 0 ∷ [])
+    (0 ∷ 2 ∷ 3 ∷ 4 ∷ [])
+    (1 ∷ 2 ∷ 0 ∷ 0 ∷ [])
+unfolding three star each mem column within lineBy twoOf placeFrom linesFrom valuesFrom edgeTest arcsRead listsRead loaded outcomeOf loadCall
+undirected = refl
+
+-- "empty lists load"
+empty : loadCall library 1 (roomOf 0 1 0 1 0) [] [] ≡ outcome (gives (record { vertices = 0; arcs = 0 })) [] (0 ∷ []) [] (0 ∷ []) []
+unfolding each mem column within lineBy twoOf placeFrom linesFrom valuesFrom edgeTest arcsRead listsRead loaded outcomeOf loadCall
+empty = refl
+
+-- a mode that is unknown (12); one vertex too many, whatever stands in its line (1); no room for the arcs (8)
+unknown-mode : loaded library 2 (roomOf 3 4 4 4 4) three star ≡ refuses (plain 12)
+unfolding three star loaded
+unknown-mode = refl
+
+too-many : loaded (record { vertices = 2; edges = 2 }) 0 (roomOf 3 4 4 4 4) (49 ∷ 10 ∷ 50 ∷ 10 ∷ 45 ∷ []) star ≡ refuses (at 1 1 3)
+unfolding star each mem within lineBy twoOf placeFrom linesFrom valuesFrom edgeTest arcsRead listsRead loaded
+too-many = refl
+
+no-room : loaded library 0 (roomOf 3 4 4 4 3) three star ≡ refuses (plain 8)
+unfolding three star each mem within lineBy twoOf placeFrom linesFrom valuesFrom edgeTest arcsRead listsRead loaded
+no-room = refl
+
+-- 1 4 names a vertex that isn't there (7); 1 2 twice is not above (4)
+not-there : loaded library 0 (roomOf 3 4 4 4 4) three (49 ∷ 32 ∷ 52 ∷ 10 ∷ []) ≡ refuses (at 7 2 1)
+unfolding three each mem within lineBy twoOf placeFrom linesFrom valuesFrom edgeTest arcsRead listsRead loaded
+not-there = refl
+
+twice : loaded library 0 (roomOf 3 4 4 4 4) three (49 ∷ 32 ∷ 50 ∷ 10 ∷ 49 ∷ 32 ∷ 50 ∷ 10 ∷ []) ≡ refuses (at 4 2 2)
+unfolding three each mem within lineBy twoOf placeFrom linesFrom valuesFrom edgeTest arcsRead listsRead loaded
+twice = refl

@@ -16,22 +16,26 @@ use Rattle.basis.specs.Area.{pad}
 use Rattle.basis.specs.Order.{risingZ}
 use Rattle.basis.proofs.Tests.{and-first, and-second}
 use Rattle.text.specs.Line.{edgeLine}
+use Rattle.graph.specs.Find.{placeIn}
 use Rattle.graph.specs.Arcs.{Arc, arcs, backward, parts, start, offsets}
 use Rattle.store.specs.Held.{inArcs}
+use Rattle.store.specs.Spread.{arcCount}
 use Rattle.store.proofs.Columns.{column-ext}
 use Rattle.store.proofs.Arcs.{start-length}
 use Rattle.store.proofs.Passes.{below-in, length-backward}
 use Rattle.store.proofs.Order.{Valid, valid-ends}
 use Rattle.store.proofs.Built.{offsets-length, both-parts, parts-seconds}
-use Rattle.load.specs.declared.lines.Listed.{Listed}
-use Rattle.load.specs.declared.lines.Listed.the-variants.{Lines, Refused}
-use Rattle.load.specs.Lines.{linesOf, first, onward, said}
-use Rattle.load.specs.Files.{edgeTest, edgesOf, allNumbered}
+use Rattle.lists.specs.declared.Listed.{Listed}
+use Rattle.lists.specs.declared.Listed.the-variants.{Lines, Refused}
+use Rattle.lists.specs.Lines.{linesOf, first, onward, said}
+use Rattle.lists.specs.Files.{edgeTest, edgesOf, allNumbered}
 use Rattle.load.specs.Load.{arcRoom, withRoom, arcsRead}
-use Rattle.load.specs.Steps.{arcCount, edgesRead, Arranged, arranged, arrangedBy, arrangedLeft, Filled, filled, filledBy}
+use Rattle.load.specs.Steps.{edgesRead, Arranged, arranged, arrangedBy, arrangedLeft, Filled, filled, filledBy}
 use Rattle.load.proofs.Values.{values-accepted}
 use Rattle.load.proofs.Valids.{valid-edges}
-use Rattle.load.proofs.Arranges.{drop-same, length-seconds, arc-count, said-gives, said-refuses}
+use Rattle.store.proofs.Fits.{arc-count}
+use Rattle.lists.proofs.Fronts.{drop-same}
+use Rattle.load.proofs.Arranges.{length-seconds, said-gives, said-refuses}
 
 -- ---- the arcs of a file are those of its edges, and the order of the two rooms does not matter
 said-room : {A B : Type 0} (f : A → B) (t : Bool) (x : A) → withRoom t (f x) ≡ said f (withRoom t x)
@@ -51,41 +55,41 @@ and-swap false false = refl
 module _ (both : Bool) (most : ℕ) (ids : List ℤ) (s : List ℕ) where
   pub arcs-edges : (t t′ : ℕ) → arcsRead both most ids s t t′ ≡ said (arcs both) (edgesRead both most ids s t t′)
   unfolding arcsRead edgesRead
-  arcs-edges t t′ = go (edgesOf both most ids s)
+  arcs-edges t t′ = go (edgesOf both most (placeIn ids) s)
     where
-      go : (x : Said (List (ℤ × ℤ))) → onward x (λ es. withRoom (arcRoom t t′ (length (arcs both (allNumbered ids es)))) (arcs both (allNumbered ids es)))
-          ≡ said (arcs both) (onward x (λ es. withRoom (arcRoom t t′ (length (arcs both (allNumbered ids es)))) (allNumbered ids es)))
-      go (gives es) = said-room (arcs both) (arcRoom t t′ (length (arcs both (allNumbered ids es)))) (allNumbered ids es)
+      go : (x : Said (List (ℤ × ℤ))) → onward x (λ es. withRoom (arcRoom t t′ (length (arcs both (allNumbered (placeIn ids) es)))) (arcs both (allNumbered (placeIn ids) es)))
+          ≡ said (arcs both) (onward x (λ es. withRoom (arcRoom t t′ (length (arcs both (allNumbered (placeIn ids) es)))) (allNumbered (placeIn ids) es)))
+      go (gives es) = said-room (arcs both) (arcRoom t t′ (length (arcs both (allNumbered (placeIn ids) es)))) (allNumbered (placeIn ids) es)
       go (refuses r) = refl
 
   pub edges-swap : (t t′ : ℕ) → edgesRead both most ids s t t′ ≡ edgesRead both most ids s t′ t
   unfolding edgesRead
-  edges-swap t t′ = go (edgesOf both most ids s)
+  edges-swap t t′ = go (edgesOf both most (placeIn ids) s)
     where
-      go : (x : Said (List (ℤ × ℤ))) → onward x (λ es. withRoom (arcRoom t t′ (length (arcs both (allNumbered ids es)))) (allNumbered ids es))
-          ≡ onward x (λ es. withRoom (arcRoom t′ t (length (arcs both (allNumbered ids es)))) (allNumbered ids es))
+      go : (x : Said (List (ℤ × ℤ))) → onward x (λ es. withRoom (arcRoom t t′ (length (arcs both (allNumbered (placeIn ids) es)))) (allNumbered (placeIn ids) es))
+          ≡ onward x (λ es. withRoom (arcRoom t′ t (length (arcs both (allNumbered (placeIn ids) es)))) (allNumbered (placeIn ids) es))
       go (gives es) =
-          ap (λ (b : Bool). withRoom b (allNumbered ids es)) (and-swap (leb (length (arcs both (allNumbered ids es))) t) (leb (length (arcs both (allNumbered ids es))) t′))
+          ap (λ (b : Bool). withRoom b (allNumbered (placeIn ids) es)) (and-swap (leb (length (arcs both (allNumbered (placeIn ids) es))) t) (leb (length (arcs both (allNumbered (placeIn ids) es))) t′))
       go (refuses r) = refl
 
   -- edges that were read with room are valid
   module _ (rise : risingZ ids ≡ true) (t t′ : ℕ) (es : List Arc) (e : edgesRead both most ids s t t′ ≡ gives es) where
-    taken : (l : List (ℤ × ℤ)) × (edgesOf both most ids s ≡ gives l) × (allNumbered ids l ≡ es) × (arcRoom t t′ (length (arcs both es)) ≡ true)
+    taken : (l : List (ℤ × ℤ)) × (edgesOf both most (placeIn ids) s ≡ gives l) × (allNumbered (placeIn ids) l ≡ es) × (arcRoom t t′ (length (arcs both es)) ≡ true)
     unfolding edgesRead
-    taken = go (edgesOf both most ids s) refl e
+    taken = go (edgesOf both most (placeIn ids) s) refl e
       where
-        go : (x : Said (List (ℤ × ℤ))) → edgesOf both most ids s ≡ x
-            → onward x (λ es. withRoom (arcRoom t t′ (length (arcs both (allNumbered ids es)))) (allNumbered ids es)) ≡ gives es
-            → (l : List (ℤ × ℤ)) × (edgesOf both most ids s ≡ gives l) × (allNumbered ids l ≡ es) × (arcRoom t t′ (length (arcs both es)) ≡ true)
+        go : (x : Said (List (ℤ × ℤ))) → edgesOf both most (placeIn ids) s ≡ x
+            → onward x (λ es. withRoom (arcRoom t t′ (length (arcs both (allNumbered (placeIn ids) es)))) (allNumbered (placeIn ids) es)) ≡ gives es
+            → (l : List (ℤ × ℤ)) × (edgesOf both most (placeIn ids) s ≡ gives l) × (allNumbered (placeIn ids) l ≡ es) × (arcRoom t t′ (length (arcs both es)) ≡ true)
         go (gives l) q h =
-            let r = room-true (arcRoom t t′ (length (arcs both (allNumbered ids l)))) (allNumbered ids l) es h in
+            let r = room-true (arcRoom t t′ (length (arcs both (allNumbered (placeIn ids) l)))) (allNumbered (placeIn ids) l) es h in
             (l, q, r .1, subst (λ (x : List Arc). arcRoom t t′ (length (arcs both x)) ≡ true) (r .1) (r .0))
         go (refuses r) q h = let z : _≡_ {A = ℕ} 0 1 = cc in absurd (let o : ⊥ = omega arith in o)
 
     pub read-valid : Valid both (length ids) es
     read-valid =
         subst (Valid both (length ids)) (taken .2)
-        (valid-edges ids rise both first (taken .0) (values-accepted edgeFile most (edgeTest both ids) 0 first (linesOf edgeLine s) (taken .0) (taken .1) (omega arith) .passes))
+        (valid-edges ids rise both first (taken .0) (values-accepted edgeFile most (edgeTest both (placeIn ids)) 0 first (linesOf edgeLine s) (taken .0) (taken .1) (omega arith) .passes))
 
     pub read-fits : arcCount both (length es) ≤ t
     read-fits = let l = leb-true (length (arcs both es)) t (and-first (leb (length (arcs both es)) t) (leb (length (arcs both es)) t′) (taken .3)) in omega (arith, arc-count both es)

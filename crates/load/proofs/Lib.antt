@@ -1,12 +1,10 @@
--- Laws that belong to no one function.
-pub mod Examples
-pub mod Reading
-pub mod Runs
-pub mod Gathers
+-- Laws of a load, and what it means.
 pub mod Values
 pub mod Valids
+pub mod Lookups
 pub mod Arranges
 pub mod Fills
 pub mod Loads
 pub mod Accepts
 pub mod Meaning
+pub mod Examples

@@ -7,7 +7,7 @@ use native.Mathlib.Omega.{arith}
 use native.Mathlib.Nat.{zero-add}
 use borrow.Author.Tests.{le-leb, lt-leb, lt-ltb, le-ltb, leb-true, ltb-true}
 use lib.ListN.{length, take, drop, replicate, length-replicate}
-use lib.Seq.{sets, length-sets, take-at, length-take-le}
+use lib.Seq.{take-at, take-all}
 use lib.Dec.{eqb, leb, ltb}
 use lib.IntN.{ℤ, pos}
 use lib.Signed.{ltZ}
@@ -22,15 +22,16 @@ use Rattle.graph.specs.Arcs.{Arc, arcs, backward, parts, offsets}
 use Rattle.load.specs.declared.Limits.{Limits}
 use Rattle.load.specs.declared.Loaded.{Loaded}
 use Rattle.load.specs.declared.Loaded.the-variants as L
-use Rattle.load.specs.declared.lines.Listed.{Listed}
-use Rattle.load.specs.declared.lines.Listed.the-variants.{Lines, Refused}
-use Rattle.load.specs.Lines.{linesOf, Before, first, after, onward, said}
-use Rattle.load.specs.Files.{vertexTest, identifiers}
+use Rattle.lists.specs.declared.Listed.{Listed}
+use Rattle.lists.specs.declared.Listed.the-variants.{Lines, Refused}
+use Rattle.lists.specs.Lines.{linesOf, Before, first, after, onward, said}
+use Rattle.lists.specs.Files.{vertexTest, identifiers}
+use Rattle.lists.specs.Calls.{listedSays, Vertexes, vertexOutcome, idsArea, vertexCall}
 use Rattle.load.specs.Load.{says, Lists, Room, roomOf, isUndirected, vertexRoom, withRoom, arcsRead, listsRead, loaded, Outcome, outcome, outcomeOf, loadCall}
-use Rattle.load.specs.Steps.{idsInto, idsLeft, Blank, Filled, filled, filledBy, filledLeft, outcomeBy, outcomeLeft, Zeros, Emptied}
+use Rattle.load.specs.Steps.{Blank, Filled, filled, filledBy, filledLeft, outcomeBy, outcomeLeft, Emptied}
 use Rattle.load.specs.Good.{Passes}
 use Rattle.load.proofs.Values.{values-accepted}
-use Rattle.load.proofs.Arranges.{put-front, said-gives, said-refuses}
+use Rattle.load.proofs.Arranges.{said-gives, said-refuses}
 
 -- ---- places for identifiers and offsets
 module _ (n ids oo io : ℕ) where
@@ -80,7 +81,7 @@ module _ (room : Room) (ids : List ℤ) (a : List ℤ) (h : a ≡ padZ (room .id
           → outcome p i a b c d ≡ outcome q i′ a′ b′ c′ d′
       outcome-of e f g h i j = cc
 
--- ---- the filling of five areas of zeros
+-- ---- the filling of five areas
 module _ (limits : Limits) (mode : ℕ) (v e : List ℕ) (ids : List ℤ) (oo ot io is : List ℕ) where
   abbrev room : Room
   room = roomOf (length ids) (length oo) (length ot) (length io) (length is)
@@ -92,27 +93,23 @@ module _ (limits : Limits) (mode : ℕ) (v e : List ℕ) (ids : List ℤ) (oo ot
   unfolding loaded
   fill-mode h r q = rw (lt-leb mode 1 h, q)
 
-  module _ (zeros : Zeros ids oo ot io is) (h : mode ≤ 1) (x : Listed) (a : List ℤ) (told : idsLeft x a ≡ said (idsInto ids 0) (identifiers (limits .vertices) v)) where
+  module _ (h : mode ≤ 1) (x : Listed) (a : List ℤ) (told : vertexOutcome (listedSays x) a ≡ vertexCall (limits .vertices) v (length ids)) where
+    answered : (r : Said ℕ) → listedSays x ≡ r → r ≡ said length (identifiers (limits .vertices) v)
+    answered r q = sym q ∙ ap (λ (y : Vertexes). y .answer) told
+
     pub fill-refused : (r : Refusal) → x ≡ Refused r → refuses r ≡ result
     unfolding loaded listsRead
-    fill-refused r q =
-        rw (le-leb mode 1 h, said-refuses (idsInto ids 0) (identifiers (limits .vertices) v) r (ap (λ y. idsLeft y a) (sym q) ∙ told))
+    fill-refused r q = rw (le-leb mode 1 h, said-refuses length (identifiers (limits .vertices) v) r (answered (refuses r) (ap listedSays q)))
 
     module _ (n : ℕ) (q : x ≡ Lines n) (la : ℕ) (kept : la ≡ length ids) (t : Bool) (et : t ≡ vertexRoom la (length oo) (length io) n) where
-      taken : (l : List ℤ) × (identifiers (limits .vertices) v ≡ gives l) × ((n, a) ≡ idsInto ids 0 l)
-      taken = said-gives (idsInto ids 0) (identifiers (limits .vertices) v) (n, a) (ap (λ y. idsLeft y a) (sym q) ∙ told)
+      taken : (l : List ℤ) × (identifiers (limits .vertices) v ≡ gives l) × (n ≡ length l)
+      taken = said-gives length (identifiers (limits .vertices) v) n (answered (gives n) (ap listedSays q))
 
       abbrev list : List ℤ
       list = taken .0
 
-      count : n ≡ length list
-      count = ap (λ (y : ℕ × List ℤ). y .0) (taken .2) ∙ zero-add (length list)
-
-      stored : a ≡ sets ids 0 list
-      stored = ap (λ (y : ℕ × List ℤ). y .1) (taken .2)
-
       same-room : vertexRoom (length ids) (length oo) (length io) (length list) ≡ t
-      same-room = ap₂ (λ (k m : ℕ). vertexRoom k (length oo) (length io) m) (sym kept) (sym count) ∙ sym et
+      same-room = ap₂ (λ (k m : ℕ). vertexRoom k (length oo) (length io) m) (sym kept) (sym (taken .2)) ∙ sym et
 
       pub fill-short : t ≡ false → (r : Refusal) → r ≡ plain noRoom → refuses r ≡ result
       unfolding loaded listsRead
@@ -126,10 +123,12 @@ module _ (limits : Limits) (mode : ℕ) (v e : List ℕ) (ids : List ℤ) (oo ot
         both-fit = and-second (leb n la) (ltb n (length oo) && ltb n (length io)) (sym et ∙ f)
 
         padded : a ≡ padZ (length ids) list
-        padded = stored ∙ put-front (pos 0) list ids (zeros .noIds) (let c = count in let g = fits in omega arith)
+        padded =
+            ap (λ (y : Vertexes). y .ids) told ∙ ap (idsArea (length ids)) (taken .1)
+            ∙ ap (padZ (length ids)) (take-all (length ids) list (let c = taken .2 in let g = fits in omega arith))
 
         front : take n a ≡ list
-        front = ap (take n) padded ∙ take-at list (replicate (length ids - length list) (pos 0)) n (sym count)
+        front = ap (take n) padded ∙ take-at list (replicate (length ids - length list) (pos 0)) n (sym (taken .2))
 
         pub fill-places : n ≤ la
         fill-places = let g = fits in omega arith
@@ -140,19 +139,15 @@ module _ (limits : Limits) (mode : ℕ) (v e : List ℕ) (ids : List ℤ) (oo ot
           lent = eb ∙ front
 
           lent-long : length b ≡ n
-          lent-long = ap length lent ∙ sym count
+          lent-long = ap length lent ∙ sym (taken .2)
 
-          pub fill-blank : Blank b oo ot io is
+          pub fill-blank : Blank b oo io
           fill-blank =
               record {
                 rise = subst (λ (l : List ℤ). risingZ l ≡ true) (sym lent)
                     (ids-rise list (values-accepted vertexFile (limits .vertices) vertexTest 0 first (linesOf vertexLine v) list (taken .1) (omega arith) .passes));
                 places = let l = ltb-true n (length oo) (and-first (ltb n (length oo)) (ltb n (length io)) both-fit) in omega (arith, lent-long);
                 backPlaces = let l = ltb-true n (length io) (and-second (ltb n (length oo)) (ltb n (length io)) both-fit) in omega (arith, lent-long);
-                clearOffsets = zeros .noOutOffsets;
-                clearTargets = zeros .noOutTargets;
-                clearBackOffsets = zeros .noInOffsets;
-                clearBackTargets = zeros .noInSources;
               }
 
           pub fill-end : (r : Loaded) (oo′ ot′ io′ is′ : List ℕ)
@@ -165,50 +160,22 @@ module _ (limits : Limits) (mode : ℕ) (v e : List ℕ) (ids : List ℤ) (oo ot
               (five-areas room list a padded r oo′ ot′ io′ is′ (arcsRead (eqb mode 0) (limits .edges) list e (length ot) (length is))
               (g ∙ ap (λ (l : List ℤ). said (filledBy (length l) (length oo) (length ot) (length io) (length is)) (arcsRead (eqb mode 0) (limits .edges) l e (length ot) (length is))) lent))
 
--- ---- the whole call: cleared, filled, and cleared again where it was refused
-emptied : {A : Type 0} (z : A) (a b : List A) → b ≡ replicate (length a) z → (length b ≡ length a) × (b ≡ replicate (length b) z)
-emptied z a b e =
-    let l : length b ≡ length a = ap length e ∙ length-replicate (length a) z in
-    (l, e ∙ ap (λ (k : ℕ). replicate k z) (sym l))
-
-module _ (ids : List ℤ) (oo ot io is : List ℕ) (ids₁ : List ℤ) (oo₁ ot₁ io₁ is₁ : List ℕ)
-    (em : Emptied ids oo ot io is ids₁ oo₁ ot₁ io₁ is₁) where
-  pub empty-zeros : Zeros ids₁ oo₁ ot₁ io₁ is₁
-  empty-zeros =
-      record {
-        noIds = emptied (pos 0) ids ids₁ (em .emptyIds) .1;
-        noOutOffsets = emptied 0 oo oo₁ (em .emptyOutOffsets) .1;
-        noOutTargets = emptied 0 ot ot₁ (em .emptyOutTargets) .1;
-        noInOffsets = emptied 0 io io₁ (em .emptyInOffsets) .1;
-        noInSources = emptied 0 is is₁ (em .emptyInSources) .1;
-      }
-
+-- ---- the whole call: filled, and cleared where it was refused
+module _ (limits : Limits) (mode : ℕ) (v e : List ℕ) (ids : List ℤ) (oo ot io is : List ℕ) (x : Loaded) (ids₁ : List ℤ) (oo₁ ot₁ io₁ is₁ : List ℕ)
+    (told : outcomeLeft x ids₁ oo₁ ot₁ io₁ is₁
+    ≡ said (outcomeBy (roomOf (length ids) (length oo) (length ot) (length io) (length is))) (loaded limits mode (roomOf (length ids) (length oo) (length ot) (length io) (length is)) v e)) where
   abbrev wide : Room
   wide = roomOf (length ids) (length oo) (length ot) (length io) (length is)
 
-  abbrev filledRoom : Room
-  filledRoom = roomOf (length ids₁) (length oo₁) (length ot₁) (length io₁) (length is₁)
+  pub load-graph : (size : Size) → x ≡ L.Graph size → outcome (gives size) ids₁ oo₁ ot₁ io₁ is₁ ≡ loadCall limits mode wide v e
+  unfolding loadCall
+  load-graph size q =
+      let g = said-gives (outcomeBy wide) (loaded limits mode wide v e) (outcome (gives size) ids₁ oo₁ ot₁ io₁ is₁) (ap (λ y. outcomeLeft y ids₁ oo₁ ot₁ io₁ is₁) (sym q) ∙ told) in
+      g .2 ∙ ap (outcomeOf wide) (sym (g .1))
 
-  rooms-agree : filledRoom ≡ wide
-  rooms-agree =
-      rooms (emptied (pos 0) ids ids₁ (em .emptyIds) .0) (emptied 0 oo oo₁ (em .emptyOutOffsets) .0) (emptied 0 ot ot₁ (em .emptyOutTargets) .0)
-      (emptied 0 io io₁ (em .emptyInOffsets) .0) (emptied 0 is is₁ (em .emptyInSources) .0)
-    where
-      rooms : {a b c d e a′ b′ c′ d′ e′ : ℕ} → a ≡ a′ → b ≡ b′ → c ≡ c′ → d ≡ d′ → e ≡ e′ → roomOf a b c d e ≡ roomOf a′ b′ c′ d′ e′
-      rooms p q r s t = cc
-
-  module _ (limits : Limits) (mode : ℕ) (v e : List ℕ) (x : Loaded) (ids₂ : List ℤ) (oo₂ ot₂ io₂ is₂ : List ℕ)
-      (told : outcomeLeft x ids₂ oo₂ ot₂ io₂ is₂ ≡ said (outcomeBy filledRoom) (loaded limits mode filledRoom v e)) where
-    pub load-graph : (size : Size) → x ≡ L.Graph size → outcome (gives size) ids₂ oo₂ ot₂ io₂ is₂ ≡ loadCall limits mode wide v e
-    unfolding loadCall
-    load-graph size q =
-        let g = said-gives (outcomeBy filledRoom) (loaded limits mode filledRoom v e) (outcome (gives size) ids₂ oo₂ ot₂ io₂ is₂) (ap (λ y. outcomeLeft y ids₂ oo₂ ot₂ io₂ is₂) (sym q) ∙ told) in
-        g .2 ∙ ap (outcomeOf filledRoom) (sym (g .1)) ∙ ap (λ (r : Room). outcomeOf r (loaded limits mode r v e)) rooms-agree
-
-    pub load-refused : (r : Refusal) → x ≡ L.Refused r → length ids₂ ≡ length ids₁ → length oo₂ ≡ length oo₁ → length ot₂ ≡ length ot₁ → length io₂ ≡ length io₁ → length is₂ ≡ length is₁
-        → (ids₃ : List ℤ) (oo₃ ot₃ io₃ is₃ : List ℕ) → Emptied ids₂ oo₂ ot₂ io₂ is₂ ids₃ oo₃ ot₃ io₃ is₃ → outcome (refuses r) ids₃ oo₃ ot₃ io₃ is₃ ≡ loadCall limits mode wide v e
-    unfolding loadCall outcomeOf
-    load-refused r q li loo lot lio lis ids₃ oo₃ ot₃ io₃ is₃ f =
-        let g = said-refuses (outcomeBy filledRoom) (loaded limits mode filledRoom v e) r (ap (λ y. outcomeLeft y ids₂ oo₂ ot₂ io₂ is₂) (sym q) ∙ told) in
-        rw (f .emptyIds, f .emptyOutOffsets, f .emptyOutTargets, f .emptyInOffsets, f .emptyInSources, li, loo, lot, lio, lis)
-        (ap (outcomeOf filledRoom) (sym g) ∙ ap (λ (r : Room). outcomeOf r (loaded limits mode r v e)) rooms-agree)
+  pub load-refused : (r : Refusal) → x ≡ L.Refused r → length ids₁ ≡ length ids → length oo₁ ≡ length oo → length ot₁ ≡ length ot → length io₁ ≡ length io → length is₁ ≡ length is
+      → (ids₂ : List ℤ) (oo₂ ot₂ io₂ is₂ : List ℕ) → Emptied ids₁ oo₁ ot₁ io₁ is₁ ids₂ oo₂ ot₂ io₂ is₂ → outcome (refuses r) ids₂ oo₂ ot₂ io₂ is₂ ≡ loadCall limits mode wide v e
+  unfolding loadCall outcomeOf
+  load-refused r q li loo lot lio lis ids₂ oo₂ ot₂ io₂ is₂ f =
+      let g = said-refuses (outcomeBy wide) (loaded limits mode wide v e) r (ap (λ y. outcomeLeft y ids₁ oo₁ ot₁ io₁ is₁) (sym q) ∙ told) in
+      rw (f .emptyIds, f .emptyOutOffsets, f .emptyOutTargets, f .emptyInOffsets, f .emptyInSources, li, loo, lot, lio, lis) (ap (outcomeOf wide) (sym g))

@@ -26,17 +26,18 @@ use Rattle.graph.specs.declared.Size.{Size}
 use Rattle.graph.specs.Arcs.{Arc, arcs}
 use Rattle.graph.specs.Find.{placeIn}
 use Rattle.graph.specs.Sound.{Graph, outward, inward, soundIds, soundGraph}
+use Rattle.store.proofs.Fits.{arc-count}
 use Rattle.store.proofs.Order.{Valid}
 use Rattle.store.proofs.Meaning.{and-swap, hasArc, storedGraph, stored-sound, stored-outward, stored-inward}
 use Rattle.load.specs.declared.Limits.{Limits}
-use Rattle.load.specs.Lines.{Line, good, bad, linesFrom, linesOf, first, said}
-use Rattle.load.specs.Files.{vertexTest, identifiers, isThere, numberOf, edgeTest, edgesOf, numbered, allNumbered}
+use Rattle.lists.specs.Lines.{Line, good, bad, linesFrom, linesOf, first, said}
+use Rattle.lists.specs.Files.{vertexTest, identifiers, isThere, numberOf, edgeTest, edgesOf, numbered, allNumbered}
 use Rattle.load.specs.Load.{Lists, Room, isUndirected, sizeOf, loaded, Outcome, outcomeOf, loadCall}
-use Rattle.load.specs.Steps.{arcCount}
+use Rattle.store.specs.Spread.{arcCount}
 use Rattle.load.specs.Good.{GoodEdges, GoodLoad, hasEdge, listsArc, graphLeft, FirstFault}
 use Rattle.load.proofs.Values.{Numbered, values-accepted, values-refused}
 use Rattle.load.proofs.Valids.{there, valid-edges}
-use Rattle.load.proofs.Arranges.{length-numbered, arc-count}
+use Rattle.load.proofs.Arranges.{length-numbered}
 use Rattle.load.proofs.Accepts.{vertices-accepted, edges-accepted, load-accepted}
 
 -- ---- a refused file
@@ -49,6 +50,7 @@ module _ {A : Type 0} (word : List ℕ → Word A) (s : List ℕ) where
       says malformed next h = let a : 2 ≡ n = cc in omega arith
       says outside next h = let a : 3 ≡ n = cc in omega arith
       says (value v) next h = let o : _≡_ {A = ℕ} 0 1 = cc in omega arith
+
       go : (t u : Bool) → cond t (none place) (cond u (lineSays place (place + length (upTo lf (drop place s)) + 1) (word (upTo lf (drop place s)))) (fault 2 place)) ≡ fault n p → ⊥
       go true u h = let o : _≡_ {A = ℕ} 0 1 = cc in omega arith
       go false true h = says (word (upTo lf (drop place s))) (place + length (upTo lf (drop place s)) + 1) h
@@ -69,10 +71,10 @@ module _ {A : Type 0} (word : List ℕ → Word A) (s : List ℕ) where
 pub vertices-refused : (most : ℕ) (s : List ℕ) (r : Refusal) → identifiers most s ≡ refuses r → FirstFault vertexFile most vertexTest 0 first (linesOf vertexLine s) r
 vertices-refused most s r h = values-refused vertexFile most vertexTest 0 first (linesOf vertexLine s) r (lines-numbered identOf s (suc (length s)) 0) h
 
-pub edges-refused : (both : Bool) (most : ℕ) (ids : List ℤ) (s : List ℕ) (r : Refusal) → edgesOf both most ids s ≡ refuses r
-    → FirstFault edgeFile most (edgeTest both ids) 0 first (linesOf edgeLine s) r
+pub edges-refused : (both : Bool) (most : ℕ) (ids : List ℤ) (s : List ℕ) (r : Refusal) → edgesOf both most (placeIn ids) s ≡ refuses r
+    → FirstFault edgeFile most (edgeTest both (placeIn ids)) 0 first (linesOf edgeLine s) r
 edges-refused both most ids s r h =
-    values-refused edgeFile most (edgeTest both ids) 0 first (linesOf edgeLine s) r (lines-numbered (twoOf identOf identOf) s (suc (length s)) 0) h
+    values-refused edgeFile most (edgeTest both (placeIn ids)) 0 first (linesOf edgeLine s) r (lines-numbered (twoOf identOf identOf) s (suc (length s)) 0) h
 
 -- ---- the arcs of an edge list, by identifiers
 or-four : (a b c d : Bool) → (a || (b || (c || d))) ≡ ((a || c) || (b || d))
@@ -91,16 +93,16 @@ module _ (ids : List ℤ) (rise : risingZ ids ≡ true) (u w : ℕ) (hu : u < le
       rw (p .1) at (same-places signed-order (pos 0) ids rise (numberOf (placeIn ids id)) v (p .0) h)
 
   same-edge : (e : ℤ × ℤ) → isThere (placeIn ids (e .0)) ≡ true → isThere (placeIn ids (e .1)) ≡ true
-      → (eqb (numbered ids e .0) u && eqb w (numbered ids e .1)) ≡ (sameZ (e .0) (name u) && sameZ (e .1) (name w))
-  same-edge e a b = rw (same-first (e .0) u hu a, same-first (e .1) w hw b, eqb-swap w (numbered ids e .1))
+      → (eqb (numbered (placeIn ids) e .0) u && eqb w (numbered (placeIn ids) e .1)) ≡ (sameZ (e .0) (name u) && sameZ (e .1) (name w))
+  same-edge e a b = rw (same-first (e .0) u hu a, same-first (e .1) w hw b, eqb-swap w (numbered (placeIn ids) e .1))
 
   same-back : (e : ℤ × ℤ) → isThere (placeIn ids (e .0)) ≡ true → isThere (placeIn ids (e .1)) ≡ true
-      → (eqb (numbered ids e .1) u && eqb w (numbered ids e .0)) ≡ (sameZ (e .0) (name w) && sameZ (e .1) (name u))
+      → (eqb (numbered (placeIn ids) e .1) u && eqb w (numbered (placeIn ids) e .0)) ≡ (sameZ (e .0) (name w) && sameZ (e .1) (name u))
   same-back e a b =
-      rw (same-first (e .0) w hw a, same-first (e .1) u hu b, eqb-swap w (numbered ids e .0)) (and-swap (eqb (numbered ids e .1) u) (eqb (numbered ids e .0) w))
+      rw (same-first (e .0) w hw a, same-first (e .1) u hu b, eqb-swap w (numbered (placeIn ids) e .0)) (and-swap (eqb (numbered (placeIn ids) e .1) u) (eqb (numbered (placeIn ids) e .0) w))
 
   has-listed : (both : Bool) (es : List (ℤ × ℤ)) → each (λ e. isThere (placeIn ids (e .0)) && isThere (placeIn ids (e .1))) es ≡ true
-      → hasArc (arcs both (allNumbered ids es)) u w ≡ listsArc both es (name u) (name w)
+      → hasArc (arcs both (allNumbered (placeIn ids) es)) u w ≡ listsArc both es (name u) (name w)
   unfolding hasArc hasEdge each
   has-listed false [] h = refl
   has-listed true [] h = refl
@@ -111,9 +113,9 @@ module _ (ids : List ℤ) (rise : risingZ ids ≡ true) (u w : ℕ) (hu : u < le
       go both (same-edge e a b) (same-back e a b)
       (has-listed both es (and-second (isThere (placeIn ids (e .0)) && isThere (placeIn ids (e .1))) (each (λ e. isThere (placeIn ids (e .0)) && isThere (placeIn ids (e .1))) es) h))
     where
-      go : (t : Bool) → (eqb (numbered ids e .0) u && eqb w (numbered ids e .1)) ≡ (sameZ (e .0) (name u) && sameZ (e .1) (name w))
-          → (eqb (numbered ids e .1) u && eqb w (numbered ids e .0)) ≡ (sameZ (e .0) (name w) && sameZ (e .1) (name u))
-          → hasArc (arcs t (allNumbered ids es)) u w ≡ listsArc t es (name u) (name w) → hasArc (arcs t (allNumbered ids (e ∷ es))) u w ≡ listsArc t (e ∷ es) (name u) (name w)
+      go : (t : Bool) → (eqb (numbered (placeIn ids) e .0) u && eqb w (numbered (placeIn ids) e .1)) ≡ (sameZ (e .0) (name u) && sameZ (e .1) (name w))
+          → (eqb (numbered (placeIn ids) e .1) u && eqb w (numbered (placeIn ids) e .0)) ≡ (sameZ (e .0) (name w) && sameZ (e .1) (name u))
+          → hasArc (arcs t (allNumbered (placeIn ids) es)) u w ≡ listsArc t es (name u) (name w) → hasArc (arcs t (allNumbered (placeIn ids) (e ∷ es))) u w ≡ listsArc t (e ∷ es) (name u) (name w)
       go false p q i = rw (p, i) (or-three (sameZ (e .0) (name u) && sameZ (e .1) (name w)) (hasEdge es (name u) (name w)))
         where
           or-three : (x y : Bool) → (x || (y || false)) ≡ ((x || y) || false)
@@ -143,12 +145,12 @@ module _ (limits : Limits) (mode : ℕ) (room : Room) (vertices edges : List ℕ
   ok = load-accepted limits mode room vertices edges g .0 h
 
   abbrev es : List Arc
-  es = allNumbered (g .ids) (ok .list)
+  es = allNumbered (placeIn (g .ids)) (ok .list)
 
   valid : Valid both (length (g .ids)) es
   valid =
       valid-edges (g .ids) (ok .goodVertices .rise) both first (ok .list)
-      (values-accepted edgeFile (limits .edges) (edgeTest both (g .ids)) 0 first (linesOf edgeLine edges) (ok .list)
+      (values-accepted edgeFile (limits .edges) (edgeTest both (placeIn (g .ids))) 0 first (linesOf edgeLine edges) (ok .list)
       (edges-accepted both (limits .edges) (g .ids) edges (ok .list) .1 (ok .goodEdges)) (omega arith) .passes)
 
   abbrev stored : Graph

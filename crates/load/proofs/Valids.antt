@@ -18,8 +18,8 @@ use Rattle.graph.specs.declared.find.Found.{Found}
 use Rattle.graph.specs.declared.find.Found.the-variants.{At, Missing}
 use Rattle.graph.proofs.Finds.{place-at}
 use Rattle.store.proofs.Order.{All, Pairs, Fine, Smaller, Lex, Valid, lex-cons}
-use Rattle.load.specs.Lines.{Before, first, after}
-use Rattle.load.specs.Files.{abovePair, isAbove, isThere, numberOf, edgeTest, numbered, allNumbered}
+use Rattle.lists.specs.Lines.{Before, first, after}
+use Rattle.lists.specs.Files.{abovePair, isAbove, isThere, numberOf, edgeTest, numbered, allNumbered}
 use Rattle.load.specs.Good.{Passes}
 
 -- ---- what the test of an edge says
@@ -30,7 +30,7 @@ pub record Tested (both : Bool) (ids : List ℤ) (before : Before (ℤ × ℤ)) 
   pub from : isThere (placeIn ids (e .0)) ≡ true
   pub to : isThere (placeIn ids (e .1)) ≡ true
 
-pub test-passed : (both : Bool) (ids : List ℤ) (before : Before (ℤ × ℤ)) (e : ℤ × ℤ) → edgeTest both ids before e ≡ 0 → Tested both ids before e
+pub test-passed : (both : Bool) (ids : List ℤ) (before : Before (ℤ × ℤ)) (e : ℤ × ℤ) → edgeTest both (placeIn ids) before e ≡ 0 → Tested both ids before e
 unfolding edgeTest
 test-passed both ids before e h =
     go (sameZ (e .0) (e .1)) (both && ltZ (e .1) (e .0)) (isAbove before e) (isThere (placeIn ids (e .0))) (isThere (placeIn ids (e .1))) refl refl refl refl refl h
@@ -44,7 +44,7 @@ test-passed both ids before e h =
     go false false true true false a b c d f h = absurd (let z : ⊥ = omega arith in z)
     go false false true true true a b c d f h = record { apart = a; smaller = b; above = c; from = d; to = f }
 
-pub passed-test : (both : Bool) (ids : List ℤ) (before : Before (ℤ × ℤ)) (e : ℤ × ℤ) → Tested both ids before e → edgeTest both ids before e ≡ 0
+pub passed-test : (both : Bool) (ids : List ℤ) (before : Before (ℤ × ℤ)) (e : ℤ × ℤ) → Tested both ids before e → edgeTest both (placeIn ids) before e ≡ 0
 unfolding edgeTest
 passed-test both ids before e t = rw (t .apart, t .smaller, t .above, t .from, t .to)
 
@@ -70,19 +70,19 @@ module _ (ids : List ℤ) (rise : risingZ ids ≡ true) where
 
   -- ---- of an edge, and of an edge after another
   module _ (both : Bool) where
-    pub fine-edge : (before : Before (ℤ × ℤ)) (e : ℤ × ℤ) → Tested both ids before e → Fine (length ids) (numbered ids e)
+    pub fine-edge : (before : Before (ℤ × ℤ)) (e : ℤ × ℤ) → Tested both ids before e → Fine (length ids) (numbered (placeIn ids) e)
     fine-edge before e t =
         record {
           source = there (e .0) (t .from) .0;
           target = there (e .1) (t .to) .0;
-          apart = eqb-false (numbered ids e .0) (numbered ids e .1) (sym (same-numbers (e .0) (e .1) (t .from) (t .to)) ∙ t .apart);
+          apart = eqb-false (numbered (placeIn ids) e .0) (numbered (placeIn ids) e .1) (sym (same-numbers (e .0) (e .1) (t .from) (t .to)) ∙ t .apart);
         }
 
-  small-edge : (both : Bool) (before : Before (ℤ × ℤ)) (e : ℤ × ℤ) → Tested both ids before e → Smaller both (numbered ids e)
+  small-edge : (both : Bool) (before : Before (ℤ × ℤ)) (e : ℤ × ℤ) → Tested both ids before e → Smaller both (numbered (placeIn ids) e)
   small-edge false before e t = tt
   small-edge true before e t =
       let f = fine-edge true before e t .apart in
-      let l = ltb-false (numbered ids e .1) (numbered ids e .0) (sym (less-numbers (e .1) (e .0) (t .to) (t .from)) ∙ t .smaller) in
+      let l = ltb-false (numbered (placeIn ids) e .1) (numbered (placeIn ids) e .0) (sym (less-numbers (e .1) (e .0) (t .to) (t .from)) ∙ t .smaller) in
       omega arith
 
   lex-of : (d e : Arc) → (ltb (d .0) (e .0) || (eqb (d .0) (e .0) && ltb (d .1) (e .1))) ≡ true → Lex d e
@@ -95,12 +95,12 @@ module _ (ids : List ℤ) (rise : risingZ ids ≡ true) where
       go false true true hp hq hr t = let z = eqb-true (d .0) (e .0) hq in (omega arith, λ _. ltb-true (d .1) (e .1) hr)
 
   module _ (both : Bool) where
-    lex-edge : (c : Before (ℤ × ℤ)) (d e : ℤ × ℤ) → Tested both ids c d → Tested both ids (after d) e → Lex (numbered ids d) (numbered ids e)
+    lex-edge : (c : Before (ℤ × ℤ)) (d e : ℤ × ℤ) → Tested both ids c d → Tested both ids (after d) e → Lex (numbered (placeIn ids) d) (numbered (placeIn ids) e)
     lex-edge c d e s t =
-        lex-of (numbered ids d) (numbered ids e)
+        lex-of (numbered (placeIn ids) d) (numbered (placeIn ids) e)
         (rw (less-numbers (d .0) (e .0) (s .from) (t .from), same-numbers (d .0) (e .0) (s .from) (t .from), less-numbers (d .1) (e .1) (s .to) (t .to)) at (t .above))
 
-    pub valid-edges : (before : Before (ℤ × ℤ)) (es : List (ℤ × ℤ)) → Passes (edgeTest both ids) before es → Valid both (length ids) (allNumbered ids es)
+    pub valid-edges : (before : Before (ℤ × ℤ)) (es : List (ℤ × ℤ)) → Passes (edgeTest both (placeIn ids)) before es → Valid both (length ids) (allNumbered (placeIn ids) es)
     valid-edges before [] p = record { fine = tt; small = tt; pairs = tt }
     valid-edges before (e ∷ []) p =
         let t = test-passed both ids before e (p .0) in
@@ -112,5 +112,5 @@ module _ (ids : List ℤ) (rise : risingZ ids ≡ true) where
         record {
           fine = (fine-edge both before d s, v .fine);
           small = (small-edge both before d s, v .small);
-          pairs = lex-cons (numbered ids d) (numbered ids e) (allNumbered ids es) (lex-edge before d e s t) (v .pairs);
+          pairs = lex-cons (numbered (placeIn ids) d) (numbered (placeIn ids) e) (allNumbered (placeIn ids) es) (lex-edge before d e s t) (v .pairs);
         }

@@ -10,9 +10,9 @@ use lib.ListN.{length}
 use lib.Dec.{leb}
 use Rattle.basis.specs.Refusal.{Said, gives, refuses, at, tooMany}
 use Rattle.basis.specs.declared.refusal.Refusal.{Refusal}
-use Rattle.load.specs.Lines.{Line, good, bad, Before, after, said, unless, faultOf, valuesFrom}
+use Rattle.lists.specs.Lines.{Line, good, bad, Before, after, said, unless, faultOf, valuesFrom}
 use Rattle.load.specs.Good.{allGood, Passes, lastOf, FirstFault}
-use Rattle.load.proofs.Reading.{limit-none}
+use Rattle.lists.proofs.Reading.{limit-none}
 
 -- what an accepted file says
 pub record Accepted {A : Type 0} (most : ℕ) (test : Before A → A → ℕ) (k : ℕ) (before : Before A) (ls : List (Line A)) (vs : List A) : Type 0 where

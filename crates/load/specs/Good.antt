@@ -17,8 +17,8 @@ use Rattle.graph.specs.Arcs.{arcs}
 use Rattle.graph.specs.Sound.{Graph, lent}
 use Rattle.graph.specs.Find.{placeIn}
 use Rattle.load.specs.declared.Limits.{Limits}
-use Rattle.load.specs.Lines.{Line, good, Before, after, faultOf}
-use Rattle.load.specs.Files.{abovePair, isThere, allNumbered}
+use Rattle.lists.specs.Lines.{Line, good, Before, after, faultOf}
+use Rattle.lists.specs.Files.{abovePair, isThere, allNumbered}
 use Rattle.load.specs.Load.{Lists, Room, isUndirected, Outcome}
 
 -- "A line is ended by one LF": the bytes of a file with the given lines
@@ -63,7 +63,7 @@ pub record GoodLoad (limits : Limits) (mode : ℕ) (room : Room) (vertices edges
   pub inOffsetsFit : length (g .ids) < room .inOffsets
   pub list : List (ℤ × ℤ)
   pub goodEdges : GoodEdges (isUndirected mode) (limits .edges) (g .ids) edges list
-  pub arcsAre : g .arcs ≡ arcs (isUndirected mode) (allNumbered (g .ids) list)
+  pub arcsAre : g .arcs ≡ arcs (isUndirected mode) (allNumbered (placeIn (g .ids)) list)
   pub outTargetsFit : length (g .arcs) ≤ room .outTargets
   pub inSourcesFit : length (g .arcs) ≤ room .inSources
 

@@ -1,6 +1,4 @@
--- What the contracts of a load cite, in reading order.
-pub mod Lines
-pub mod Files
+-- What the contracts of a load cite, in reading order, and then what a load accepts.
 pub mod Load
-pub mod Steps
 pub mod Good
+pub mod Steps

@@ -8,12 +8,13 @@ use lib.Dec.{eqb, leb, ltb}
 use Rattle.basis.specs.Refusal.{Said, gives, refuses, plain, noRoom, unknownNumber}
 use Rattle.basis.specs.Area.{padWith}
 use Rattle.graph.specs.declared.Size.{Size}
+use Rattle.graph.specs.Find.{placeIn}
 use Rattle.graph.specs.Arcs.{Arc, arcs, backward, parts, offsets}
 use Rattle.load.specs.declared.Limits.{Limits}
 use Rattle.load.specs.declared.Loaded.{Loaded}
 use Rattle.load.specs.declared.Loaded.the-variants as L
-use Rattle.load.specs.Lines.{onward, said}
-use Rattle.load.specs.Files.{identifiers, edgesOf, allNumbered}
+use Rattle.lists.specs.Lines.{onward, said}
+use Rattle.lists.specs.Files.{identifiers, edgesOf, allNumbered}
 
 -- "a definition that gives this paper's number and values for each of its cases"
 abbrev pub says : Loaded → Said Size
@@ -51,7 +52,8 @@ withRoom enough x = cond enough (gives x) (refuses (plain noRoom))
 -- the arcs of an edge file over the given identifiers, if there is room for them
 unfoldable pub arcsRead : Bool → ℕ → List ℤ → List ℕ → ℕ → ℕ → Said (List Arc)
 arcsRead both most ids s t t′ =
-    onward (edgesOf both most ids s) (λ es. withRoom (arcRoom t t′ (length (arcs both (allNumbered ids es)))) (arcs both (allNumbered ids es)))
+    onward (edgesOf both most (placeIn ids) s)
+    (λ es. withRoom (arcRoom t t′ (length (arcs both (allNumbered (placeIn ids) es)))) (arcs both (allNumbered (placeIn ids) es)))
 
 -- "the vertex file line by line; room for identifiers and offsets; the edge file line by line; room for the arcs each way"
 unfoldable pub listsRead : Limits → Bool → Room → List ℕ → List ℕ → Said Lists

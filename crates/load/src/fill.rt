@@ -1,32 +1,24 @@
 // The edges of a file in the four areas of a graph, outward and inward.
+use crate::Limits;
+use crate::Loaded;
 use basis::Refusal;
-use basis::refusal::{NO_ROOM, UNKNOWN_NUMBER};
-use crate::{Limits, Loaded};
-use crate::lines::{Listed, read_edges, read_vertices};
-use crate::spread::{spread, sum_up};
+use basis::refusal::NO_ROOM;
+use basis::refusal::UNKNOWN_NUMBER;
 use graph::Size;
+use lists::Listed;
+use lists::edges::read_edges;
+use lists::vertices::read_vertices;
+use store::spread::lacks;
+use store::spread::spread;
+use store::sums::sum_up;
 ghost use mathlib.Core.Path.{_≡_};
 ghost use mathlib.Core.Bool.{Bool, true, false, not};
 ghost use mathlib.Core.List.{_++_};
 ghost use Prim.Native.Nat.{ℕ, _+_, _≤_};
 ghost use lib.ListN.{length, take, drop};
-ghost use lib.Dec.{ltb};
-ghost use Rattle.load.specs.Lines.{said};
+ghost use Rattle.lists.specs.Lines.{said};
 ghost use Rattle.load.specs.Load.{vertexRoom, roomOf, arcsRead, loaded};
-ghost use Rattle.load.specs.Steps.{arcCount, edgesRead, arrangedBy, arrangedLeft, Blank, filledBy, filledLeft, outcomeBy, outcomeLeft, Zeros};
-
-// Whether so many places are too few for the arcs of so many edges.
-fn lacks(places: usize, edges: usize, both: bool) -> bool
-    ensures { λ r. ⌜ r ≡ ltb places (arcCount both edges) ⌝ }
-{
-    if places < edges {
-        return true;
-    }
-    if both {
-        return places - edges < edges;
-    }
-    false
-}
+ghost use Rattle.load.specs.Steps.{edgesRead, arrangedBy, arrangedLeft, Blank, filledBy, filledLeft, outcomeBy, outcomeLeft};
 
 // The first n numbers of one area, copied to another.
 fn copy(to: &mut [usize], from: &[usize], n: usize)
@@ -51,7 +43,7 @@ fn arrange(
     back: &mut [usize],
     sources: &mut [usize],
 ) -> Listed
-    requires { ⌜ Blank (now ids) (now offsets) (now targets) (now back) (now sources) ⌝ }
+    requires { ⌜ Blank (now ids) (now offsets) (now back) ⌝ }
     ensures { λ r. ⌜ arrangedLeft r (now (offsets .exit)) (now (targets .exit)) (now (back .exit)) (now (sources .exit)) ≡ said (arrangedBy both (length (now (ids .entry))) (length (now (offsets .entry))) (length (now (targets .entry))) (length (now (back .entry))) (length (now (sources .entry)))) (edgesRead both most (now (ids .entry)) (now (s .entry)) (length (now (targets .entry))) (length (now (sources .entry)))) ⌝ }
 {
     let n = ids.len();
@@ -82,14 +74,17 @@ fn directed(
     io: &mut [usize],
     is: &mut [usize],
 ) -> Loaded
-    requires { ⌜ Blank (now ids) (now oo) (now ot) (now io) (now is) ⌝ }
+    requires { ⌜ Blank (now ids) (now oo) (now io) ⌝ }
     ensures { λ r. ⌜ filledLeft r (now (oo .exit)) (now (ot .exit)) (now (io .exit)) (now (is .exit)) ≡ said (filledBy (length (now (ids .entry))) (length (now (oo .entry))) (length (now (ot .entry))) (length (now (io .entry))) (length (now (is .entry)))) (arcsRead false most (now (ids .entry)) (now (s .entry)) (length (now (ot .entry))) (length (now (is .entry)))) ⌝ }
 {
     let n = ids.len();
     let listed = arrange(s, most, false, ids, oo, ot, io, is);
     match listed {
         Listed::Refused(r) => Loaded::Refused(r),
-        Listed::Lines(m) => Loaded::Graph(Size { vertices: n, arcs: m }),
+        Listed::Lines(m) => Loaded::Graph(Size {
+            vertices: n,
+            arcs: m,
+        }),
     }
 }
 
@@ -103,7 +98,7 @@ fn undirected(
     io: &mut [usize],
     is: &mut [usize],
 ) -> Loaded
-    requires { ⌜ Blank (now ids) (now oo) (now ot) (now io) (now is) ⌝ }
+    requires { ⌜ Blank (now ids) (now oo) (now io) ⌝ }
     ensures { λ r. ⌜ filledLeft r (now (oo .exit)) (now (ot .exit)) (now (io .exit)) (now (is .exit)) ≡ said (filledBy (length (now (ids .entry))) (length (now (oo .entry))) (length (now (ot .entry))) (length (now (io .entry))) (length (now (is .entry)))) (arcsRead true most (now (ids .entry)) (now (s .entry)) (length (now (ot .entry))) (length (now (is .entry)))) ⌝ }
 {
     let n = ids.len();
@@ -130,7 +125,7 @@ fn store_edges(
     io: &mut [usize],
     is: &mut [usize],
 ) -> Loaded
-    requires { ⌜ Blank (now ids) (now oo) (now ot) (now io) (now is) ⌝ }
+    requires { ⌜ Blank (now ids) (now oo) (now io) ⌝ }
     ensures { λ r. ⌜ filledLeft r (now (oo .exit)) (now (ot .exit)) (now (io .exit)) (now (is .exit)) ≡ said (filledBy (length (now (ids .entry))) (length (now (oo .entry))) (length (now (ot .entry))) (length (now (io .entry))) (length (now (is .entry)))) (arcsRead both most (now (ids .entry)) (now (s .entry)) (length (now (ot .entry))) (length (now (is .entry)))) ⌝ }
 {
     if both {
@@ -155,7 +150,7 @@ fn has_places(n: usize, ids: usize, oo: usize, io: usize) -> bool
     true
 }
 
-// The graph of two files in five areas of zeros; where it is refused, what stands in them is of no use.
+// The graph of two files in five areas; where it is refused, what stands in them is of no use.
 pub(crate) fn fill(
     limits: Limits,
     mode: usize,
@@ -167,7 +162,6 @@ pub(crate) fn fill(
     io: &mut [usize],
     is: &mut [usize],
 ) -> Loaded
-    requires { ⌜ Zeros (now ids) (now oo) (now ot) (now io) (now is) ⌝ }
     ensures { λ r. ⌜ outcomeLeft r (now (ids .exit)) (now (oo .exit)) (now (ot .exit)) (now (io .exit)) (now (is .exit)) ≡ said (outcomeBy (roomOf (length (now (ids .entry))) (length (now (oo .entry))) (length (now (ot .entry))) (length (now (io .entry))) (length (now (is .entry))))) (loaded limits mode (roomOf (length (now (ids .entry))) (length (now (oo .entry))) (length (now (ot .entry))) (length (now (io .entry))) (length (now (is .entry)))) (now (vertices .entry)) (now (edges .entry))) ⌝ }
 {
     if 1 < mode {

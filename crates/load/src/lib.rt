@@ -1,13 +1,12 @@
 // A graph from the bytes of its vertex file and its edge file, in five lent areas: identifiers, outward offsets and targets, inward
 // offsets and sources.
 mod fill;
-mod lines;
-mod spread;
 
-use basis::Refusal;
-use basis::area::{clear, clear_signed};
-use graph::Size;
 use crate::fill::fill;
+use basis::Refusal;
+use basis::area::clear;
+use basis::area::clear_signed;
+use graph::Size;
 ghost use mathlib.Core.Path.{_≡_};
 ghost use Prim.Native.Nat.{ℕ};
 ghost use lib.ListN.{length};
@@ -30,7 +29,13 @@ pub enum Loaded {
     Refused(Refusal),
 }
 
-fn clear_all(ids: &mut [i64], oo: &mut [usize], ot: &mut [usize], io: &mut [usize], is: &mut [usize])
+fn clear_all(
+    ids: &mut [i64],
+    oo: &mut [usize],
+    ot: &mut [usize],
+    io: &mut [usize],
+    is: &mut [usize],
+)
     ensures { λ _. ⌜ Emptied (now (ids .entry)) (now (oo .entry)) (now (ot .entry)) (now (io .entry)) (now (is .entry)) (now (ids .exit)) (now (oo .exit)) (now (ot .exit)) (now (io .exit)) (now (is .exit)) ⌝ }
 {
     clear_signed(ids);
@@ -54,7 +59,6 @@ pub fn load_within(
 ) -> Loaded
     ensures { λ r. ⌜ outcome (says r) (now (ids .exit)) (now (oo .exit)) (now (ot .exit)) (now (io .exit)) (now (is .exit)) ≡ loadCall limits mode (roomOf (length (now (ids .entry))) (length (now (oo .entry))) (length (now (ot .entry))) (length (now (io .entry))) (length (now (is .entry)))) (now (vertices .entry)) (now (edges .entry)) ⌝ }
 {
-    clear_all(ids, oo, ot, io, is);
     let filled = fill(limits, mode, vertices, edges, ids, oo, ot, io, is);
     match filled {
         Loaded::Graph(size) => Loaded::Graph(size),
@@ -78,5 +82,18 @@ pub fn load(
 ) -> Loaded
     ensures { λ r. ⌜ outcome (says r) (now (ids .exit)) (now (oo .exit)) (now (ot .exit)) (now (io .exit)) (now (is .exit)) ≡ loadCall library mode (roomOf (length (now (ids .entry))) (length (now (oo .entry))) (length (now (ot .entry))) (length (now (io .entry))) (length (now (is .entry)))) (now (vertices .entry)) (now (edges .entry)) ⌝ }
 {
-    load_within(Limits { vertices: MOST_VERTICES, edges: MOST_EDGES }, mode, vertices, edges, ids, oo, ot, io, is)
+    load_within(
+        Limits {
+            vertices: MOST_VERTICES,
+            edges: MOST_EDGES,
+        },
+        mode,
+        vertices,
+        edges,
+        ids,
+        oo,
+        ot,
+        io,
+        is,
+    )
 }

@@ -11,8 +11,8 @@ use Rattle.write.specs.Decimal.{digits, decimal, signedText}
 use Rattle.graph.specs.Find.{placeFrom, bisect}
 use Rattle.graph.specs.Part.{between, partOf}
 use Rattle.graph.specs.Sound.{soundIds, soundOffsets, soundSide, mirrored, soundGraph}
-use Rattle.load.specs.Files.{edgeTest}
-use Rattle.load.specs.Lines.{linesFrom, valuesFrom}
+use Rattle.lists.specs.Files.{edgeTest}
+use Rattle.lists.specs.Lines.{linesFrom, valuesFrom}
 use Rattle.load.specs.Load.{arcsRead, listsRead, loaded, outcomeOf, loadCall}
 use Rattle.kernels.specs.Answer.{kernelSays}
 use Rattle.bfs.specs.Call.{bfsSays, bfsCall}

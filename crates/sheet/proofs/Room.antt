@@ -19,10 +19,11 @@ use Rattle.text.specs.Word.{Word, malformed, outside, value, identOf, countOf}
 use Rattle.text.specs.Line.{LineSaid, line, none, fault, lf, upTo, lineSays, lineBy, twoOf, vertexLine, edgeLine}
 use Rattle.text.proofs.Places.{vertex-range}
 use Rattle.load.specs.declared.Limits.{Limits}
-use Rattle.load.specs.Lines.{Line, good, bad, linesFrom, linesOf, Before, first, after, onward as onwardL, said, unless, valuesFrom}
-use Rattle.load.specs.Files.{vertexTest, identifiers, isAbove, isThere, edgeTest, edgesOf, allNumbered}
+use Rattle.lists.specs.Lines.{Line, good, bad, linesFrom, linesOf, Before, first, after, onward as onwardL, said, unless, valuesFrom}
+use Rattle.lists.specs.Files.{vertexTest, identifiers, isAbove, isThere, edgeTest, edgesOf, allNumbered}
 use Rattle.load.specs.Load.{Lists, Room, isUndirected, vertexRoom, arcRoom, withRoom, arcsRead, listsRead, loaded, sizeOf, outcomeOf, loadCall}
 use Rattle.graph.specs.Find.{placeIn}
+use Rattle.graph.specs.declared.find.Found.{Found}
 use Rattle.plan.specs.Lines.{onward, lfs, sheetFault, inSheet, sheetLine}
 use Rattle.plan.specs.Jobs.{jobOf}
 use Rattle.plan.specs.Sheet.{mostBytes, mostVertices, mostEdges, mostJobs, modeOf, limited, countLine, anyOf, nextOf, linePast, linesPast, linesOf as blockLines, section, sections, ended, checked}
@@ -106,9 +107,9 @@ vertex-few (after y) v = by (ltZ y v)
     by true = omega arith
     by false = omega arith
 
-edge-few : (both : Bool) (ids : List ℤ) (b : Before (ℤ × ℤ)) (e : ℤ × ℤ) → edgeTest both ids b e < 10 ^ 2
+edge-few : (both : Bool) (find : ℤ → Found) (b : Before (ℤ × ℤ)) (e : ℤ × ℤ) → edgeTest both find b e < 10 ^ 2
 unfolding edgeTest
-edge-few both ids b e = by (sameZ (e .0) (e .1)) (both && ltZ (e .1) (e .0)) (isAbove b e) (isThere (placeIn ids (e .0)) && isThere (placeIn ids (e .1)))
+edge-few both find b e = by (sameZ (e .0) (e .1)) (both && ltZ (e .1) (e .0)) (isAbove b e) (isThere (find (e .0)) && isThere (find (e .1)))
   where
     by : (p q r t : Bool) → cond p 5 (cond q 6 (cond r (cond t 0 7) 4)) < 10 ^ 2
     by true q r t = omega arith
@@ -122,10 +123,10 @@ ids-either most s h =
     let l = lines-good Small (vertexLine s) (few-fault identOf s) (λ place v next e. vertex-range s place v next e) (suc (length s)) 0 in
     values-either Small vertexFile most vertexTest (omega arith) vertex-few 0 first (linesOf vertexLine s) (l .0) (omega (arith, l .1))
 
-edges-either : (both : Bool) (most : ℕ) (ids : List ℤ) (s : List ℕ) → length s ≤ mostBytes → Either (All Any) Brief (edgesOf both most ids s)
-edges-either both most ids s h =
+edges-either : (both : Bool) (most : ℕ) (find : ℤ → Found) (s : List ℕ) → length s ≤ mostBytes → Either (All Any) Brief (edgesOf both most find s)
+edges-either both most find s h =
     let l = lines-good Any (edgeLine s) (few-fault (twoOf identOf identOf) s) (λ place v next e. tt) (suc (length s)) 0 in
-    values-either Any edgeFile most (edgeTest both ids) (omega arith) (edge-few both ids) 0 first (linesOf edgeLine s) (l .0) (omega (arith, l .1))
+    values-either Any edgeFile most (edgeTest both find) (omega arith) (edge-few both find) 0 first (linesOf edgeLine s) (l .0) (omega (arith, l .1))
 
 -- ---- a load: the identifiers have at most 20 bytes and their area holds them, or its refusal is brief
 room-brief : Brief (plain noRoom)
@@ -151,8 +152,8 @@ loaded-either limits mode room v e hv he =
     (room-either (λ i. All Small i × (length i ≤ room .ids)) (vertexRoom (room .ids) (room .outOffsets) (room .inOffsets) (length ids)) ids
     (λ t. (s, leb-true (length ids) (room .ids) (and-first (leb (length ids) (room .ids)) _ t))))
     (λ i h. onward-either (Any {A = List Arc}) (Held room) (arcsRead (isUndirected mode) (limits .edges) i e (room .outTargets) (room .inSources)) _
-    (onward-either (All Any) Any (edgesOf (isUndirected mode) (limits .edges) i e) _ (edges-either (isUndirected mode) (limits .edges) i e he)
-    (λ es _. let l = arcs (isUndirected mode) (allNumbered i es) in room-either Any (arcRoom (room .outTargets) (room .inSources) (length l)) l (λ _. tt)))
+    (onward-either (All Any) Any (edgesOf (isUndirected mode) (limits .edges) (placeIn i) e) _ (edges-either (isUndirected mode) (limits .edges) (placeIn i) e he)
+    (λ es _. let l = arcs (isUndirected mode) (allNumbered (placeIn i) es) in room-either Any (arcRoom (room .outTargets) (room .inSources) (length l)) l (λ _. tt)))
     (λ l _. h))))
     (λ _. record { number = omega arith; file = omega arith; line = omega arith })
 

@@ -15,8 +15,8 @@ use Rattle.graph.specs.declared.Size.{Size}
 use Rattle.load.specs.declared.Limits.{Limits}
 use Rattle.load.specs.declared.Loaded.{Loaded}
 use Rattle.load.specs.declared.Loaded.the-variants as LD
-use Rattle.load.specs.Lines.{onward, said}
-use Rattle.load.specs.Files.{identifiers}
+use Rattle.lists.specs.Lines.{onward, said}
+use Rattle.lists.specs.Files.{identifiers}
 use Rattle.load.specs.Load.{says, Lists, Room, Outcome, outcome, isUndirected, vertexRoom, withRoom, arcsRead, listsRead, loaded, sizeOf, outcomeOf, loadCall}
 use Rattle.write.specs.Put.{written, putAt}
 use Rattle.write.proofs.Puts.{put-as}

@@ -3,7 +3,8 @@ pub mod Columns
 pub mod Arcs
 pub mod Passes
 pub mod Edges
-pub mod Sums
+pub mod Running
 pub mod Order
 pub mod Built
 pub mod Meaning
+pub mod Fits

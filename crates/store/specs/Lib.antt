@@ -2,3 +2,4 @@
 pub mod Held
 pub mod Steps
 pub mod Passes
+pub mod Spread

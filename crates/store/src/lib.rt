@@ -1,1 +1,3 @@
-// What the areas of a graph hold while a load stores it: definitions and laws, which the functions of `load` cite.
+// One way of a graph from the other: the edges that an offsets and a target area hold, stored by their other ends.
+pub mod spread;
+pub mod sums;

@@ -1,5 +1,5 @@
 -- What the book's calls say fits a number. Assumes nothing.
-use mathlib.Core.Path.{_≡_, refl, sym, ap, _∙_}
+use mathlib.Core.Path.{_≡_, refl, sym, ap}
 use mathlib.Core.Bool.{Bool, true, false, cond, _&&_}
 use mathlib.Core.List.{List}
 use Prim.Native.Nat.{ℕ, zero, suc, _+_, _^_, _≤_, _<_}
@@ -8,7 +8,7 @@ use lib.ListN.{length}
 use lib.Dec.{leb, ltb, eqb}
 use borrow.Author.Tests.{ltb-true}
 use Rattle.basis.specs.Refusal.{Said, gives, refuses, plain, noRoom, unsound, notThere}
-use Rattle.book.specs.Rules.{Next, stop, to, View, Found, found, follow, check, Heads, Step, already, merge, Joining, merged, same, Done, done, onward, walk, walkFrom, headOf, pair, headsOf, oneHead, sameGroup, sizeAt, groupSize, tally, isStop, groupCount, largest, limitOf, stepLimit, mergeable, mergeHeads, linkHeads, decide, openBook, writeBook, joinBook}
+use Rattle.book.specs.Rules.{Next, stop, to, Found, found, follow, check, Heads, Step, already, merge, merged, same, Done, done, walk, walkFrom, headOf, pair, headsOf, sameGroup, groupSize, tally, isStop, groupCount, largest, stepLimit, mergeable, mergeHeads, linkHeads, decide, openBook, writeBook, joinBook}
 use Rattle.book.specs.Two.{Areas, areas, nextIn, fits, two, twoBook}
 use Rattle.book.proofs.Checks.{fits-within}
 use Rattle.book.proofs.Calls.{size-inside}

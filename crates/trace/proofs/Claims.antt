@@ -1,6 +1,6 @@
 -- What is said of a claim fits a number, at library limits and at the desk's. Assumes nothing.
 use mathlib.Core.Path.{_≡_, refl, sym, ap, _∙_}
-use mathlib.Core.Bool.{Bool, true, false, cond, _&&_, false≢true}
+use mathlib.Core.Bool.{Bool, true, false, cond, false≢true}
 use mathlib.Core.List.{List, [], _∷_}
 use Prim.Native.Nat.{ℕ, zero, suc, _+_, _≤_, _<_}
 use native.Mathlib.Omega.{arith}
@@ -9,7 +9,7 @@ use lib.ListN.{length, replicate}
 use lib.Dec.{eqb, leb}
 use borrow.Author.Tests.{leb-true, le-leb, eqb-true, eqb-false}
 use Rattle.basis.specs.declared.refusal.Refusal.{Refusal}
-use Rattle.basis.specs.Refusal.{Said, gives, refuses, at, plain, tooMany, noRoom, claimFile, unknownNumber}
+use Rattle.basis.specs.Refusal.{Said, gives, refuses, at, plain, tooMany, noRoom, claimFile}
 use Rattle.basis.specs.Order.{sameZ}
 use Rattle.basis.proofs.Tests.{and-first, and-second, and-both}
 use Rattle.basis.proofs.Areas.{column-length}
@@ -19,7 +19,7 @@ use Rattle.text.specs.Line.{LineSaid, line, none, fault, lineBy, twoOf}
 use Rattle.graph.specs.Sound.{Graph, names, soundGraph, outward}
 use Rattle.graph.proofs.Sounds.{sound-of}
 use Rattle.kernels.specs.Answer.{kernelSays, bfsNumber, wccNumber, cdlpNumber, lccNumber}
-use Rattle.wcc.specs.Component.{labelOf, labels, wccOf}
+use Rattle.wcc.specs.Component.{labelOf, wccOf}
 use Rattle.matching.specs.Claim.{before, linesFrom, numberLines, coefficientLines, idsOf, valuesOf}
 use Rattle.matching.specs.Verdict.{Verdict, near, firstLine, incompleteLine, agrees, failingLine, unlikeLine, verdictOf, judgedBy}
 use Rattle.verdicts.specs.Reference.{Reference, coefficients, bfsReference, wccReference, cdlpReference, lccReference}

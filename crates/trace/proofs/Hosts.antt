@@ -1,13 +1,13 @@
 -- The host call: load, kernel and verdict on local areas give just what the definition says without them. Assumes nothing.
 use mathlib.Core.Path.{_≡_, refl, sym, ap, _∙_}
-use mathlib.Core.Bool.{Bool, true, false, not, cond, _&&_}
-use mathlib.Core.List.{List, []}
-use Prim.Native.Nat.{ℕ, _+_, _≤_, _<_}
+use mathlib.Core.Bool.{Bool, true, false, not}
+use mathlib.Core.List.{List}
+use Prim.Native.Nat.{ℕ, _≤_, _<_}
 use native.Mathlib.Omega.{arith}
 use lib.IntN.{ℤ, pos, natAbs}
 use lib.ListN.{length, replicate, length-replicate}
-use lib.Dec.{leb, ltb}
-use borrow.Author.Tests.{leb-true, le-leb, lt-leb, lt-ltb}
+use lib.Dec.{leb}
+use borrow.Author.Tests.{le-leb, lt-leb, lt-ltb}
 use Rattle.basis.specs.Refusal.{Said, gives, refuses, plain, unknownNumber}
 use Rattle.graph.specs.Arcs.{Arc, arcs}
 use Rattle.graph.specs.declared.find.Found.{Found}
@@ -16,8 +16,8 @@ use Rattle.graph.specs.Find.{placeIn}
 use Rattle.graph.specs.Sound.{outward, inward, names, lent}
 use Rattle.graph.specs.Sound as Sound
 use Rattle.graph.specs.declared.Size.{Size}
-use Rattle.load.specs.Lines.{onward, said}
-use Rattle.load.specs.Files.{identifiers, edgesOf, allNumbered}
+use Rattle.lists.specs.Lines.{onward, said}
+use Rattle.lists.specs.Files.{identifiers, edgesOf, allNumbered}
 use Rattle.load.specs.declared.Loaded.{Loaded}
 use Rattle.load.specs.declared.Loaded.the-variants.{Graph, Refused}
 use Rattle.load.specs.Load.{says, Lists, arcRoom, vertexRoom, withRoom, arcsRead, listsRead, loaded, isUndirected, sizeOf, outcome, outcomeOf, loadCall}
@@ -37,7 +37,7 @@ use Rattle.trace.proofs.Loads.{arcs-few, loaded-readable}
 use Rattle.trace.proofs.Lines.{said-readable}
 use Rattle.trace.proofs.Stored.{areaGraph, same-names, same-outward, same-inward}
 use Rattle.trace.proofs.Claims.{call-small, call-judged}
-use Rattle.trace.specs.Code.{hostCode, narrow, Small}
+use Rattle.trace.specs.Code.{hostCode, hostNumberIn, hostFileIn, hostLineIn, narrow, Small}
 use Rattle.trace.specs.Verdict.{threeOf}
 use Rattle.verdicts.specs.Call as Call
 use Rattle.book.proofs.Checks.{refused-given, given-one}
@@ -205,3 +205,32 @@ module _ (vertices edges claim : List ℕ) (mode kernel : ℕ) (parameter : ℤ)
             ap (graphLeft size) e ∙ ap (λ x. graphLeft x (loadCall desk mode deskRoom vertices edges)) (sym size-is) in
             f ∙ ap (λ x. hostCode (threeOf x))
             (ap (λ x. deskJudged x kernel z claim) graph ∙ ap (λ x. deskJudged left kernel x claim) w ∙ sym (host-given vertices edges claim mode kernel parameter (held t (isKnown mode kernel) p h) g l))
+
+-- ---- the three numbers can be taken out of the answer again
+module _ (vertices edges claim : List ℕ) (mode kernel : ℕ) (parameter : ℤ) where
+  pub host-small : Small narrow (threeOf (hostSays vertices edges claim mode kernel parameter))
+  unfolding hostSays deskJudged
+  host-small = by-number (isKnown mode kernel) refl
+    where
+      by-load : (known : isKnown mode kernel ≡ true) (x : Said Lists) → loaded desk mode deskRoom vertices edges ≡ x → Small narrow (threeOf (hostSays vertices edges claim mode kernel parameter))
+      by-load known (gives g) e =
+          rw (host-given vertices edges claim mode kernel parameter known g e)
+          (call-small deskLines (graphLeft (sizeOf g) (loadCall desk mode deskRoom vertices edges)) kernel parameter claim _ _ _ _ _ narrow (omega arith) (omega arith))
+      by-load known (refuses r) e =
+          rw (says-known vertices edges claim mode kernel parameter known, e) (loaded-readable narrow desk (omega arith) (omega arith) mode deskRoom vertices edges .refusals r e .1)
+
+      by-number : (t : Bool) → isKnown mode kernel ≡ t → Small narrow (threeOf (hostSays vertices edges claim mode kernel parameter))
+      by-number true h = by-load h (loaded desk mode deskRoom vertices edges) refl
+      by-number false h = rw h (record { number = omega arith; file = omega arith; line = omega arith })
+
+  pub host-number : hostNumberIn (hostVerdict vertices edges claim mode kernel parameter) ≡ threeOf (hostSays vertices edges claim mode kernel parameter) .number
+  unfolding hostVerdict
+  host-number = let s = host-small in omega arith
+
+  pub host-file : hostFileIn (hostVerdict vertices edges claim mode kernel parameter) ≡ threeOf (hostSays vertices edges claim mode kernel parameter) .file
+  unfolding hostVerdict
+  host-file = let s = host-small in omega arith
+
+  pub host-line : hostLineIn (hostVerdict vertices edges claim mode kernel parameter) ≡ threeOf (hostSays vertices edges claim mode kernel parameter) .line
+  unfolding hostVerdict
+  host-line = let s = host-small in omega arith

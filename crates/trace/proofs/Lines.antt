@@ -1,19 +1,18 @@
 -- A file that is refused has a number up to 7, and a line up to the one after its limit. Assumes nothing.
 use mathlib.Core.Path.{_≡_, refl}
-use mathlib.Core.Bool.{Bool, true, false, cond, _&&_}
+use mathlib.Core.Bool.{Bool, true, false, cond}
 use mathlib.Core.List.{List, [], _∷_}
 use Prim.Native.Nat.{ℕ, zero, suc, _+_, _≤_, _<_}
 use native.Mathlib.Omega.{arith}
-use lib.IntN.{ℤ}
 use lib.ListN.{length, drop}
 use lib.Dec.{leb}
 use borrow.Author.Tests.{leb-false}
-use Rattle.basis.specs.Refusal.{Said, gives, refuses, at, tooMany, badForm}
+use Rattle.basis.specs.Refusal.{Said, at, tooMany, badForm}
 use Rattle.basis.specs.Scan.{mem}
 use Rattle.text.specs.Word.{Word, malformed, outside, value}
 use Rattle.text.specs.Line.{LineSaid, line, none, fault, lf, upTo, lineSays, lineBy}
-use Rattle.load.specs.Lines.{Line, good, bad, linesFrom, linesOf, Before, first, after, said, unless, faultOf, valuesFrom, valuesOf}
-use Rattle.load.proofs.Reading.{limit-none}
+use Rattle.lists.specs.Lines.{Line, good, bad, linesFrom, linesOf, Before, first, after, said, unless, faultOf, valuesFrom, valuesOf}
+use Rattle.lists.proofs.Reading.{limit-none}
 use Rattle.trace.specs.Code.{Small, Readable}
 use Rattle.trace.proofs.Codes.{onward-readable, readable-refused, readable-silent, untold}
 

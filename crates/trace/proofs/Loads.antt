@@ -8,23 +8,23 @@ use lib.IntN.{ℤ}
 use lib.Signed.{ltZ}
 use lib.ListN.{length}
 use lib.Dec.{leb}
-use Rattle.basis.specs.Refusal.{Said, gives, refuses, plain, noRoom, unknownNumber, notAbove, selfEdge, largerFirst, unknownVertex, vertexFile, edgeFile}
+use Rattle.basis.specs.Refusal.{Said, noRoom, unknownNumber, notAbove, selfEdge, largerFirst, unknownVertex, vertexFile, edgeFile}
 use Rattle.basis.specs.Order.{sameZ}
 use Rattle.graph.specs.declared.Size.{Size}
-use Rattle.graph.specs.Arcs.{Arc, arcs}
+use Rattle.graph.specs.Arcs.{arcs}
 use Rattle.graph.specs.Find.{placeIn}
 use Rattle.text.specs.Word.{identOf}
-use Rattle.text.specs.Line.{twoOf, vertexLine, edgeLine}
+use Rattle.text.specs.Line.{twoOf}
 use Rattle.load.specs.declared.Limits.{Limits}
-use Rattle.load.specs.Lines.{Before, first, after, linesOf, onward, said}
-use Rattle.load.specs.Files.{vertexTest, identifiers, isAbove, isThere, edgeTest, edgesOf, allNumbered}
-use Rattle.load.specs.Load.{Lists, Room, arcRoom, vertexRoom, withRoom, arcsRead, listsRead, loaded, isUndirected, sizeOf, outcome, outcomeOf, loadCall, library}
+use Rattle.lists.specs.Lines.{Before, first, after, said}
+use Rattle.lists.specs.Files.{vertexTest, identifiers, isAbove, isThere, edgeTest, edgesOf, allNumbered}
+use Rattle.load.specs.Load.{Room, arcRoom, vertexRoom, withRoom, arcsRead, listsRead, loaded, isUndirected, sizeOf, outcome, outcomeOf, loadCall, library}
 use Rattle.load.specs.Steps.{arcCount}
 use Rattle.load.proofs.Accepts.{load-accepted}
 use Rattle.load.proofs.Arranges.{arc-count, length-numbered}
 use Rattle.trace.specs.Code.{coded, wide, Readable}
 use Rattle.trace.specs.Load.{loadValue, loadTold, loadTells}
-use Rattle.trace.proofs.Codes.{onward-readable, readable-by, readable-given, readable-refused, readable-check, readable-values, readable-silent, readable-untold, untold}
+use Rattle.trace.proofs.Codes.{onward-readable, readable-by, readable-given, readable-check, readable-silent, untold}
 use Rattle.trace.proofs.Lines.{said-readable, file-readable}
 
 vertex-low : (before : Before ℤ) (z : ℤ) → vertexTest before z ≤ 21

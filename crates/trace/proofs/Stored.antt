@@ -1,11 +1,9 @@
 -- What a loaded graph shows does not hang on the room in its areas. Assumes nothing.
 use mathlib.Core.Path.{_≡_, refl, sym, fun-ext, _∙_}
-use mathlib.Core.Bool.{Bool}
 use mathlib.Core.List.{List}
 use Prim.Native.Nat.{ℕ, _≤_, _<_}
 use native.Mathlib.Omega.{arith}
 use native.Mathlib.Decide.{decLt}
-use lib.IntN.{ℤ}
 use lib.ListN.{length}
 use lib.Seq.{take-at, take-all}
 use Rattle.basis.specs.Refusal.{edgeFile}
@@ -20,8 +18,8 @@ use Rattle.store.proofs.Passes.{length-backward}
 use Rattle.store.proofs.Built.{offsets-length}
 use Rattle.store.proofs.Meaning.{start-all, part-stored, storedGraph}
 use Rattle.load.specs.declared.Limits.{Limits}
-use Rattle.load.specs.Lines.{first, linesOf}
-use Rattle.load.specs.Files.{edgeTest, allNumbered}
+use Rattle.lists.specs.Lines.{first, linesOf}
+use Rattle.lists.specs.Files.{edgeTest, allNumbered}
 use Rattle.load.specs.Load.{Lists, Room, isUndirected}
 use Rattle.load.specs.Good.{GoodLoad}
 use Rattle.load.proofs.Accepts.{edges-accepted}

@@ -9,8 +9,8 @@ use Rattle.basis.specs.Refusal.{Said, refuses, plain, unknownNumber}
 use Rattle.graph.specs.Arcs.{arcs, backward, parts, offsets}
 use Rattle.graph.specs.Sound.{Graph}
 use Rattle.load.specs.declared.Limits.{Limits}
-use Rattle.load.specs.Lines.{onward, said}
-use Rattle.load.specs.Files.{identifiers, edgesOf, allNumbered}
+use Rattle.lists.specs.Lines.{onward, said}
+use Rattle.lists.specs.Files.{identifiers, edgesOf, allNumbered}
 use Rattle.load.specs.Load.{Lists, isUndirected}
 use Rattle.kernels.specs.Answer.{bfsNumber, wccNumber, cdlpNumber}
 use Rattle.matching.specs.Verdict.{Verdict}

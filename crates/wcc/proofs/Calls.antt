@@ -5,7 +5,7 @@ use mathlib.Core.Bool.{Bool, true, false, not, _&&_}
 use mathlib.Core.List.{List, [], _++_}
 use native.Mathlib.Omega.{arith}
 use lib.IntN.{ℤ, pos}
-use lib.ListN.{length, replicate, take, drop}
+use lib.ListN.{length, replicate, take, drop, length-replicate}
 use lib.Seq.{length-take-le, length-front}
 use lib.Dec.{leb}
 use borrow.Author.Tests.{lt-leb, le-leb, leb-true}
@@ -16,6 +16,8 @@ use Rattle.basis.proofs.Areas.{column-length, pad-lent}
 use Rattle.graph.specs.declared.Size.{Size}
 use Rattle.graph.specs.Part.{partOf}
 use Rattle.graph.specs.Sound.{Graph, outward, names, lent, soundGraph}
+use Rattle.graph.specs.Walk.{checked}
+use Rattle.graph.proofs.Walks.{check-told, check-area}
 use Rattle.graph.proofs.Sounds.{sound-of, outward-below, names-length}
 use Rattle.kernels.specs.Answer.{kernelSays}
 use Rattle.wcc.specs.Component.{labelOf, wccOf}
@@ -113,18 +115,28 @@ module _ (g : Graph) (R : List ℤ) (P S : List ℕ) where
   unfolding wccCall
   call-given h = ap (λ (s : Said (Unit {0})). leftBy s (wccOf g) R P S) (sym h)
 
-module _ (size : Size) (ids : List ℤ) (oo ot io is : List ℕ) (R : List ℤ) (P S : List ℕ) (o : Outcome) (s : Bool) (e : s ≡ soundGraph (lent size ids oo ot io is)) where
+-- the check of the graph left zeros in the parents
+call-over : (g : Graph) (R : List ℤ) (P P₁ S : List ℕ) → P₁ ≡ cleared P → wccCall g R P₁ S ≡ wccCall g R P S
+unfolding wccCall leftBy roomFor
+call-over g R P P₁ S q = rw (q, length-replicate {A = ℕ} (length P) 0)
+
+module _ (size : Size) (ids : List ℤ) (oo ot io is : List ℕ) (R : List ℤ) (P P₁ S : List ℕ) (o : Outcome) (s : Bool)
+    (e : checked s P₁ ≡ checked (soundGraph (lent size ids oo ot io is)) (cleared P)) where
   abbrev graph : Graph
   graph = lent size ids oo ot io is
 
-  pub call-unsound : not s ≡ true → o ≡ leftBy (refuses (plain 9)) [] R P S → o ≡ wccCall graph R P S
-  call-unsound h q = q ∙ call-refused graph R P S 9 (unfold kernelSays in rw (failed s (soundGraph graph) e h))
+  pub call-unsound : not s ≡ true → o ≡ leftBy (refuses (plain 9)) [] R P₁ S → o ≡ wccCall graph R P S
+  call-unsound h q = q ∙ call-refused graph R P₁ S 9 (unfold kernelSays in rw (failed s (soundGraph graph) (check-told e) h)) ∙ call-over graph R P P₁ S (check-area e)
 
-  module _ (h : not s ≡ false) (r : Bool) (i : r ≡ roomFor (size .vertices) R P S) where
-    pub call-short : not r ≡ true → o ≡ leftBy (refuses (plain 8)) [] R P S → o ≡ wccCall graph R P S
+  module _ (h : not s ≡ false) (r : Bool) (i : r ≡ roomFor (size .vertices) R P₁ S) where
+    pub call-short : not r ≡ true → o ≡ leftBy (refuses (plain 8)) [] R P₁ S → o ≡ wccCall graph R P S
     call-short l q =
-        q ∙ call-refused graph R P S 8 (unfold kernelSays in rw (held s (soundGraph graph) e h, failed r (roomFor (size .vertices) R P S) i l))
+        q
+        ∙ call-refused graph R P₁ S 8 (unfold kernelSays in rw (held s (soundGraph graph) (check-told e) h, failed r (roomFor (size .vertices) R P₁ S) i l))
+        ∙ call-over graph R P P₁ S (check-area e)
 
-    pub call-done : not r ≡ false → o ≡ leftBy (gives tt) (wccOf graph) R P S → o ≡ wccCall graph R P S
+    pub call-done : not r ≡ false → o ≡ leftBy (gives tt) (wccOf graph) R P₁ S → o ≡ wccCall graph R P S
     call-done l q =
-        q ∙ call-given graph R P S (unfold kernelSays in rw (held s (soundGraph graph) e h, held r (roomFor (size .vertices) R P S) i l))
+        q
+        ∙ call-given graph R P₁ S (unfold kernelSays in rw (held s (soundGraph graph) (check-told e) h, held r (roomFor (size .vertices) R P₁ S) i l))
+        ∙ call-over graph R P P₁ S (check-area e)

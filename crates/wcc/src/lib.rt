@@ -7,7 +7,7 @@ use basis::area::clear_signed;
 use basis::refusal::NO_ROOM;
 use basis::refusal::UNSOUND;
 use graph::Size;
-use graph::sound::sound;
+use graph::walk::sound_over;
 use kernels::Answer;
 use kernels::refused;
 use labels::label;
@@ -88,7 +88,15 @@ pub fn wcc(
 ) -> Answer
     ensures { λ r. ⌜ outcome (says r) (now (result .exit)) (now (parents .exit)) (now (sizes .exit)) ≡ wccCall (lent size (now (ids .entry)) (now («out_offsets» .entry)) (now («out_targets» .entry)) (now («in_offsets» .entry)) (now («in_sources» .entry))) (now (result .entry)) (now (parents .entry)) (now (sizes .entry)) ⌝ }
 {
-    if !sound(size, ids, out_offsets, out_targets, in_offsets, in_sources) {
+    if !sound_over(
+        size,
+        ids,
+        out_offsets,
+        out_targets,
+        in_offsets,
+        in_sources,
+        parents,
+    ) {
         return refuse(UNSOUND, result, parents, sizes);
     }
     if !room(size.vertices, result, parents, sizes) {

@@ -1,11 +1,12 @@
-use borrow.Author.Needs.{needs}
 use mir.Facts.{toZ-ofZ}
+use Rattle.graph.proofs.Walks.{check-told}
 use Rattle.cdlp.proofs.Calls.{call-unsound, call-outside, call-short, call-done, rounds-cast, passed}
+use borrow.Author.Needs.{needs}
 use Rattle.cdlp.proofs.cdlp.Statement.{statement}
 use Rattle.cdlp.proofs.cdlp.Tie as tie
 
-sound-requires : tie.Need-sound-requires
-sound-requires c κs = search needs
+sound-over-requires : tie.Need-sound-over-requires
+sound-over-requires c κs = search needs
 
 refuse-requires : tie.Need-refuse-requires
 refuse-requires c κs = search needs
@@ -71,7 +72,7 @@ cast-fill : tie.Need-cast-fill
 cast-fill c = rounds-cast _ _ (c .before .before .before .before .before .before .before .allowed .ensures) (c .before .before .before .before .before .before .if2 .left)
 
 fill-requires : tie.Need-fill-requires
-fill-requires c κs = (passed _ _ (c .before .before .before .before .before .before .before .before .before .before .before .before .before .sound .ensures) (c .before .before .before .before .before .before .before .before .before .before .before .before .if1 .left), passed _ _ (c .before .before .before .before .before .room .ensures) (c .before .before .before .before .if3 .left))
+fill-requires c κs = (passed _ _ (check-told (c .before .before .before .before .before .before .before .before .before .before .before .before .before .before .before .sound-over .ensures)) (c .before .before .before .before .before .before .before .before .before .before .before .before .if1 .left), passed _ _ (c .before .before .before .before .before .room .ensures) (c .before .before .before .before .if3 .left))
 
 same-length-13 : tie.Need-same-length-13
 same-length-13 c = search needs
@@ -87,14 +88,14 @@ same-length-16 c = search needs
 
 returns-4 : tie.Need-returns-4
 returns-4 c =
-    call-done _ _ _ _ _ _ _ _ _ _ _ _ _ (c .before .before .before .before .before .before .before .before .before .before .before .before .before .before .before .before .before .before .before .before .before .sound .ensures) (c .before .before .before .before .before .before .before .before .before .before .before .before .before .before .before .before .before .before .before .before .if1 .left) _ (toZ-ofZ (c .before .before .before .before .before .before .before .before .before .before .before .before .before .before .before .before .before .before .before .before .before .before .before .before .before .before .before .before .before .fits .iterations)) _ (c .before .before .before .before .before .before .before .before .before .before .before .before .before .before .before .before .before .before .before .allowed .ensures) (c .before .before .before .before .before .before .before .before .before .before .before .before .before .before .before .before .before .before .if2 .left)
+    call-done _ _ _ _ _ _ _ _ _ _ _ _ _ _ (c .before .before .before .before .before .before .before .before .before .before .before .before .before .before .before .before .before .before .before .before .before .before .before .sound-over .ensures) (c .before .before .before .before .before .before .before .before .before .before .before .before .before .before .before .before .before .before .before .before .if1 .left) _ (toZ-ofZ (c .before .before .before .before .before .before .before .before .before .before .before .before .before .before .before .before .before .before .before .before .before .before .before .before .before .before .before .before .before .before .before .before .fits .iterations)) _ (c .before .before .before .before .before .before .before .before .before .before .before .before .before .before .before .before .before .before .before .allowed .ensures) (c .before .before .before .before .before .before .before .before .before .before .before .before .before .before .before .before .before .before .if2 .left)
     _ (c .before .before .before .before .before .before .before .before .before .before .before .before .before .room .ensures) (c .before .before .before .before .before .before .before .before .before .before .before .before .if3 .left) (c .before .before .before .before .before .before .before .fill .ensures)
 
 pub cdlp-spec : {M : Type 1} → statement M
 cdlp-spec =
     tie.close
     (tie.spec
-    sound-requires
+    sound-over-requires
     refuse-requires
     same-length
     same-length-2

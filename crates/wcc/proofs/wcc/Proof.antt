@@ -1,11 +1,12 @@
-use borrow.Author.Needs.{needs}
 use Rattle.basis.proofs.Tests.{held}
+use Rattle.graph.proofs.Walks.{check-told}
 use Rattle.wcc.proofs.Calls.{call-unsound, call-short, call-done}
+use borrow.Author.Needs.{needs}
 use Rattle.wcc.proofs.wcc.Statement.{statement}
 use Rattle.wcc.proofs.wcc.Tie as tie
 
-sound-requires : tie.Need-sound-requires
-sound-requires c κs = search needs
+sound-over-requires : tie.Need-sound-over-requires
+sound-over-requires c κs = search needs
 
 refuse-requires : tie.Need-refuse-requires
 refuse-requires c κs = search needs
@@ -41,7 +42,7 @@ returns-2 : tie.Need-returns-2
 returns-2 c = search call-short
 
 fill-requires : tie.Need-fill-requires
-fill-requires c κs = (held _ _ (c .before .before .before .before .before .before .before .before .before .sound .ensures) (c .before .before .before .before .before .before .before .before .if1 .left), held _ _ (c .before .before .before .before .room .ensures) (c .before .before .before .if2 .left))
+fill-requires c κs = (held _ _ (check-told (c .before .before .before .before .before .before .before .before .before .before .before .sound-over .ensures)) (c .before .before .before .before .before .before .before .before .if1 .left), held _ _ (c .before .before .before .before .room .ensures) (c .before .before .before .if2 .left))
 
 same-length-7 : tie.Need-same-length-7
 same-length-7 c = search needs
@@ -59,7 +60,7 @@ pub wcc-spec : {M : Type 1} → statement M
 wcc-spec =
     tie.close
     (tie.spec
-    sound-requires
+    sound-over-requires
     refuse-requires
     same-length
     same-length-2

@@ -10,12 +10,12 @@ use Rattle.sheet.proofs.jobs.run_jobs.Statement.{statement}
 use Rattle.sheet.proofs.jobs.run_jobs.Tie as tie
 
 abbrev Inv-loop : tie.InvT-loop
-Inv-loop size ids out-offsets out-targets in-offsets in-sources s count from out₀ at next₀ place₀ left₀ out next place left =
-    putAt out next (jobsText (lent size ids out-offsets out-targets in-offsets in-sources) s left place)
-    ≡ putAt out₀ at (jobsText (lent size ids out-offsets out-targets in-offsets in-sources) s count from)
+Inv-loop size ids oo ot io is s count from out₀ at next₀ place₀ left₀ out next place left =
+    putAt out next (jobsText (lent size ids oo ot io is) s left place)
+    ≡ putAt out₀ at (jobsText (lent size ids oo ot io is) s count from)
 
 abbrev μ-loop : tie.MeasureT-loop
-μ-loop size ids out-offsets out-targets in-offsets in-sources s count from out₀ at next₀ place₀ left₀ out next place left = left
+μ-loop size ids oo ot io is s count from out₀ at next₀ place₀ left₀ out next place left = left
 
 loop-holds : tie.Need-loop-holds Inv-loop μ-loop
 loop-holds c = refl

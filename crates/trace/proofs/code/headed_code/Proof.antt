@@ -1,5 +1,4 @@
-use Rattle.trace.proofs.Codes.{coded-given}
-use Rattle.trace.proofs.Codes.{coded-refused}
+use Rattle.trace.proofs.Codes.{coded-given, coded-refused}
 use native.Mathlib.Omega.{arith}
 use mathlib.Core.Path.{ap}
 use Rattle.book.specs.Says.{saysHeaded}

@@ -1,9 +1,8 @@
 use native.Mathlib.Omega.{arith}
-use Rattle.trace.proofs.Codes.{coded-given}
+use Rattle.trace.proofs.Codes.{coded-given, coded-refused}
 use mathlib.Core.Path.{ap}
 use Rattle.load.specs.Load.{says}
 use Rattle.trace.specs.Load.{loadValue}
-use Rattle.trace.proofs.Codes.{coded-refused}
 use borrow.Author.Needs.{needs}
 use Rattle.trace.proofs.code.load_code.Statement.{statement}
 use Rattle.trace.proofs.code.load_code.Tie as tie

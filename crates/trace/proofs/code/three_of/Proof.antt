@@ -1,54 +1,40 @@
-use mathlib.Core.Path.{_≡_, sym, ap, _∙_}
+use mathlib.Core.Path.{sym, ap, _∙_}
 use Rattle.matching.specs.Verdict.{says}
 use Rattle.trace.specs.Verdict.{threeOf}
 use borrow.Author.Needs.{needs}
 use Rattle.trace.proofs.code.three_of.Statement.{statement}
 use Rattle.trace.proofs.code.three_of.Tie as tie
-use Rattle.trace.proofs.code.three_of.Reads as reads
-use Rattle.trace.proofs.code.three_of.Lts as lts
-use Rattle.basis.proofs.refusal.Refusal.at.Reads as at-reads
 
--- src/code.rt:52:26
 enum-told : tie.Need-enum-told
 enum-told c = search needs
 
--- src/code.rt:52:26
 at-requires : tie.Need-at-requires
 at-requires c κs = search needs
 
--- src/code.rt:53:28
 enum-known-a : tie.Need-enum-known-a
 enum-known-a c = search needs
 
--- src/code.rt:53:37
 at-requires-2 : tie.Need-at-requires-2
 at-requires-2 c κs = search needs
 
--- src/code.rt:54:26
 enum-known-a-2 : tie.Need-enum-known-a-2
 enum-known-a-2 c = search needs
 
--- src/code.rt:54:35
 at-requires-3 : tie.Need-at-requires-3
 at-requires-3 c κs = search needs
 
--- src/code.rt:55:25
 enum-known-a-3 : tie.Need-enum-known-a-3
 enum-known-a-3 c = search needs
 
--- src/code.rt:48:1
 returns : tie.Need-returns
 returns c = c .at .ensures ∙ sym (ap (λ x. threeOf (says x)) (c .before .enum-told .given .1))
 
--- src/code.rt:48:1
 returns-2 : tie.Need-returns-2
 returns-2 c = c .at2 .ensures ∙ sym (ap (λ x. threeOf (says x)) (c .before .before .a .given .1))
 
--- src/code.rt:48:1
 returns-3 : tie.Need-returns-3
 returns-3 c = c .at3 .ensures ∙ sym (ap (λ x. threeOf (says x)) (c .before .before .a2 .given .1))
 
--- src/code.rt:48:1
 returns-4 : tie.Need-returns-4
 returns-4 c = search needs
 

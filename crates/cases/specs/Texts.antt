@@ -1,0 +1,26 @@
+-- The texts of the checked examples as bytes, and the graph of 01's sheet as its two lists load.
+use Prim.Native.Nat.{ℕ}
+use Prim.Native.Char.{code}
+use Prim.Native.String.{String, [] as end, _∷_ as _then_}
+use mathlib.Core.List.{List, [], _∷_}
+use Rattle.basis.specs.Refusal.{Said, gives, refuses}
+use Rattle.graph.specs.declared.Size.{Size}
+use Rattle.graph.specs.Sound.{Graph, lent}
+use Rattle.load.specs.Load.{Outcome, roomOf, library, loadCall}
+
+-- the bytes of a text whose characters are below 128
+abbrev pub bytes : String → List ℕ
+bytes end = []
+bytes (c then s) = code c ∷ bytes s
+
+-- the graph that a load leaves in its areas
+abbrev sizeOf : Said Size → Size
+sizeOf (gives size) = size
+sizeOf (refuses r) = record { vertices = 0; arcs = 0 }
+
+abbrev graphOf : Outcome → Graph
+graphOf o = lent (sizeOf (o .answer)) (o .ids) (o .outOffsets) (o .outTargets) (o .inOffsets) (o .inSources)
+
+-- "directed / 5 / -3 / 2 / 5 / 9 / 20 / 5 / 2 5 / 2 9 / 5 2 / 5 9 / 9 20", in areas of as many places as it needs
+abbrev pub sheetGraph : Graph
+sheetGraph = graphOf (loadCall library 1 (roomOf 5 6 5 6 5) (bytes "-3\n2\n5\n9\n20\n") (bytes "2 5\n2 9\n5 2\n5 9\n9 20\n"))

@@ -1,0 +1,61 @@
+-- What the reading of a file answers, and what it leaves in the areas.
+use Prim.Native.Nat.{ℕ}
+use mathlib.Core.Bool.{Bool}
+use mathlib.Core.List.{List, []}
+use lib.IntN.{ℤ, pos}
+use lib.ListN.{length, take, replicate}
+use Rattle.basis.specs.Refusal.{Said, gives, refuses}
+use Rattle.basis.specs.Area.{pad, padZ}
+use Rattle.graph.specs.declared.find.Found.{Found}
+use Rattle.graph.specs.Arcs.{Arc}
+use Rattle.store.specs.Held.{seconds}
+use Rattle.store.specs.Steps.{bumps}
+use Rattle.lists.specs.declared.Listed.{Listed}
+use Rattle.lists.specs.declared.Listed.the-variants.{Lines, Refused}
+use Rattle.lists.specs.Lines.{said}
+use Rattle.lists.specs.Files.{identifiers, edgesOf, allNumbered}
+
+-- how many lines a file has, or why it was refused
+abbrev pub listedSays : Listed → Said ℕ
+listedSays (Lines n) = gives n
+listedSays (Refused r) = refuses r
+
+-- ---- the vertex file
+pub record Vertexes : Type 0 where
+  pub answer : Said ℕ
+  pub ids : List ℤ
+
+abbrev pub vertexOutcome : Said ℕ → List ℤ → Vertexes
+vertexOutcome answer ids = record { answer = answer; ids = ids }
+
+-- the identifiers in an area of the given length, as far as there is room, and zeros behind them
+abbrev pub idsArea : ℕ → Said (List ℤ) → List ℤ
+idsArea size (gives ids) = padZ size (take size ids)
+idsArea size (refuses r) = replicate size (pos 0)
+
+abbrev pub vertexCall : ℕ → List ℕ → ℕ → Vertexes
+vertexCall most s size = vertexOutcome (said length (identifiers most s)) (idsArea size (identifiers most s))
+
+-- ---- the edge file
+pub record EdgesRead : Type 0 where
+  pub answer : Said ℕ
+  pub counts : List ℕ
+  pub targets : List ℕ
+
+abbrev pub edgeOutcome : Said ℕ → List ℕ → List ℕ → EdgesRead
+edgeOutcome answer counts targets = record { answer = answer; counts = counts; targets = targets }
+
+-- how many edges begin at each vertex, in an area of the given length
+abbrev pub countsArea : (ℤ → Found) → ℕ → Said (List (ℤ × ℤ)) → List ℕ
+countsArea place size (gives es) = bumps (replicate size 0) (allNumbered place es)
+countsArea place size (refuses r) = replicate size 0
+
+-- their second ends in file order, as far as there is room, and zeros behind them
+abbrev pub targetsArea : (ℤ → Found) → ℕ → Said (List (ℤ × ℤ)) → List ℕ
+targetsArea place size (gives es) = pad size (take size (seconds (allNumbered place es)))
+targetsArea place size (refuses r) = replicate size 0
+
+-- the edges between the vertices that `place` finds
+abbrev pub edgeCall : Bool → ℕ → (ℤ → Found) → List ℕ → ℕ → ℕ → EdgesRead
+edgeCall both most place s c t =
+    edgeOutcome (said length (edgesOf both most place s)) (countsArea place c (edgesOf both most place s)) (targetsArea place t (edgesOf both most place s))

@@ -1,0 +1,112 @@
+-- What the loops over a file's lines do with one line, and what they keep.
+use Prim.Native.Nat.{ℕ, zero, suc, _+_}
+use mathlib.Core.Bool.{Bool, true, false, cond, _&&_}
+use mathlib.Core.List.{List}
+use lib.IntN.{ℤ}
+use lib.ListN.{length}
+use lib.Seq.{sets}
+use lib.Signed.{ltZ}
+use lib.Dec.{ltb}
+use Rattle.basis.specs.Refusal.{Said, gives, refuses, at, notAbove, selfEdge, largerFirst, vertexFile, edgeFile}
+use Rattle.basis.specs.Order.{sameZ}
+use Rattle.text.specs.Line.{LineSaid, line, none, fault, vertexLine, edgeLine}
+use Rattle.graph.specs.Arcs.{Arc}
+use Rattle.graph.specs.declared.find.Found.{Found}
+use Rattle.graph.specs.declared.find.Found.the-variants.{At, Missing}
+use Rattle.store.specs.Held.{seconds}
+use Rattle.store.specs.Steps.{bumps}
+use Rattle.lists.specs.declared.Listed.{Listed}
+use Rattle.lists.specs.declared.Listed.the-variants.{Lines, Refused}
+use Rattle.lists.specs.declared.vertices.Vertices.{Vertices}
+use Rattle.lists.specs.declared.vertices.VertexStep.{VertexStep}
+use Rattle.lists.specs.declared.vertices.VertexStep.the-variants as VS
+use Rattle.lists.specs.declared.edges.Edges.{Edges}
+use Rattle.lists.specs.declared.edges.Ends.{Ends}
+use Rattle.lists.specs.declared.edges.Ends.the-variants as EN
+use Rattle.lists.specs.declared.edges.EdgeStep.{EdgeStep}
+use Rattle.lists.specs.declared.edges.EdgeStep.the-variants as ES
+use Rattle.lists.specs.Lines.{good, bad, Before, first, after, faultOf}
+use Rattle.lists.specs.Calls.{listedSays}
+use Rattle.lists.specs.Files.{vertexTest, isAbove, edgeTest, numbered, allNumbered}
+
+-- a line more: its values, the place past it and the lines so far; or the end of the reading
+pub data Step (A : Type 0) : Type 0 where
+  more : A → ℕ → ℕ → Step A
+  stop : Said ℕ → Step A
+
+module _ {A : Type 0} (file most : ℕ) (test : Before A → A → ℕ) where
+  -- a line with values, by the number of its fault
+  abbrev pub byFault : ℕ → A → ℕ → ℕ → Step A
+  byFault k v next zero = more v next (k + 1)
+  byFault k v next (suc n) = stop (refuses (at (suc n) file (k + 1)))
+
+  abbrev pub stepBy : ℕ → Before A → LineSaid A → Step A
+  stepBy k before (line v next) = byFault k v next (faultOf file most test k before (good v))
+  stepBy k before (none p) = stop (gives k)
+  stepBy k before (fault n p) = stop (refuses (at (faultOf file most test k before (bad n)) file (k + 1)))
+
+-- the line before, of a reader that passed k lines
+abbrev pub beforeBy : {A : Type 0} → ℕ → A → Before A
+beforeBy k last = cond (ltb 0 k) (after last) first
+
+-- ---- the vertex file
+unfoldable pub vertexStep : List ℕ → ℕ → Vertices → Step ℤ
+vertexStep s most c = stepBy vertexFile most vertexTest (c .lines) (beforeBy (c .lines) (c .last)) (vertexLine s (c .at .at))
+
+abbrev pub vertexStepSays : VertexStep → Step ℤ
+vertexStepSays (VS.More d) = more (d .last) (d .at .at) (d .lines)
+vertexStepSays (VS.Stop r) = stop (listedSays r)
+
+-- what the identifiers leave behind: their count, and an area with them at its front, as far as there is room
+abbrev pub idsInto : List ℤ → ℕ → List ℤ → ℕ × List ℤ
+idsInto area k ids = (k + length ids, sets area k ids)
+
+abbrev pub idsLeft : Listed → List ℤ → Said (ℕ × List ℤ)
+idsLeft (Lines n) area = gives (n, area)
+idsLeft (Refused r) area = refuses r
+
+-- ---- the edge file
+abbrev pub pairOf : Edges → ℤ × ℤ
+pairOf c = (c .first, c .second)
+
+-- the fault of an edge whose vertices are not looked up yet
+unfoldable pub orderFault : Bool → Before (ℤ × ℤ) → ℤ × ℤ → ℕ
+orderFault both before e =
+    cond (sameZ (e .0) (e .1)) selfEdge (cond (both && ltZ (e .1) (e .0)) largerFirst (cond (isAbove before e) 0 notAbove))
+
+-- the vertices of an edge, where both are there
+pub data Looked : Type 0 where
+  found : Arc → Looked
+  unknown : Looked
+
+abbrev pub lookedBy : Found → Found → Looked
+lookedBy (At u) (At v) = found (u, v)
+lookedBy (At u) Missing = unknown
+lookedBy Missing y = unknown
+
+abbrev pub endsSays : Ends → Looked
+endsSays (EN.Known u v) = found (u, v)
+endsSays EN.Unknown = unknown
+
+-- with the numbers of an edge's vertices
+abbrev pub withNumbers : (ℤ → Found) → Step (ℤ × ℤ) → Step ((ℤ × ℤ) × Arc)
+withNumbers place (more e next k) = more (e, numbered place e) next k
+withNumbers place (stop r) = stop r
+
+unfoldable pub edgeStep : Bool → ℕ → (ℤ → Found) → List ℕ → Edges → Step (ℤ × ℤ)
+edgeStep both most place s c = stepBy edgeFile most (edgeTest both place) (c .lines) (beforeBy (c .lines) (pairOf c)) (edgeLine s (c .at .at))
+
+abbrev pub edgeStepSays : EdgeStep → Step ((ℤ × ℤ) × Arc)
+edgeStepSays (ES.More u v d) = more (pairOf d, (u, v)) (d .at .at) (d .lines)
+edgeStepSays (ES.Stop r) = stop (listedSays r)
+
+-- what edges leave behind: their count, one more for each at its first end, and an area with their second ends at its front, as far as there is room
+abbrev pub edgesInto : List ℕ → List ℕ → ℕ → List Arc → ℕ × List ℕ × List ℕ
+edgesInto counts targets k es = (k + length es, bumps counts es, sets targets k (seconds es))
+
+abbrev pub numberedInto : (ℤ → Found) → List ℕ → List ℕ → ℕ → List (ℤ × ℤ) → ℕ × List ℕ × List ℕ
+numberedInto place counts targets k es = edgesInto counts targets k (allNumbered place es)
+
+abbrev pub edgesLeft : Listed → List ℕ → List ℕ → Said (ℕ × List ℕ × List ℕ)
+edgesLeft (Lines n) counts targets = gives (n, counts, targets)
+edgesLeft (Refused r) counts targets = refuses r
