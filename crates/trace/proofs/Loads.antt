@@ -19,9 +19,10 @@ use Rattle.load.specs.declared.Limits.{Limits}
 use Rattle.lists.specs.Lines.{Before, first, after, said}
 use Rattle.lists.specs.Files.{vertexTest, identifiers, isAbove, isThere, edgeTest, edgesOf, allNumbered}
 use Rattle.load.specs.Load.{Room, arcRoom, vertexRoom, withRoom, arcsRead, listsRead, loaded, isUndirected, sizeOf, outcome, outcomeOf, loadCall, library}
-use Rattle.load.specs.Steps.{arcCount}
+use Rattle.store.specs.Spread.{arcCount}
 use Rattle.load.proofs.Accepts.{load-accepted}
-use Rattle.load.proofs.Arranges.{arc-count, length-numbered}
+use Rattle.load.proofs.Arranges.{length-numbered}
+use Rattle.store.proofs.Fits.{arc-count}
 use Rattle.trace.specs.Code.{coded, wide, Readable}
 use Rattle.trace.specs.Load.{loadValue, loadTold, loadTells}
 use Rattle.trace.proofs.Codes.{onward-readable, readable-by, readable-given, readable-check, readable-silent, untold}
