@@ -1,8 +1,6 @@
--- What an answer says determines it: kernels, files and loads, verdicts. (The lines' and the book's are `text.proofs.Saids` and `book.proofs.Answers`.) Assumes nothing.
+-- What an answer says determines it: of kernels, files and loads. The other crates have theirs. Assumes nothing.
 use Prim.Native.Nat.{ℕ}
 use mathlib.Core.Path.{_≡_, refl, sym, ap, _∙_}
-use mathlib.Core.Bool.{cond}
-use lib.Dec.{eqb}
 use Rattle.basis.specs.Refusal.{Said, gives, refuses}
 use Rattle.graph.specs.declared.Size.{Size}
 use Rattle.kernels.specs.declared.Answer.{Answer}
@@ -11,8 +9,6 @@ use Rattle.lists.specs.declared.Listed.{Listed}
 use Rattle.lists.specs.Calls.{listedSays}
 use Rattle.load.specs.declared.Loaded.{Loaded}
 use Rattle.load.specs.Load as L
-use Rattle.matching.specs.declared.judged.Judged.{Judged}
-use Rattle.matching.specs.Verdict as J
 
 -- what has a way back is injective
 one-of : {A B : Type 0} (f : A → B) (g : B → A) → ((x : A) → g (f x) ≡ x) → (x y : A) → f x ≡ f y → x ≡ y
@@ -50,16 +46,3 @@ loaded-back (Loaded.Refused r) = refl
 
 pub one-loaded : (x y : Loaded) → L.says x ≡ L.says y → x ≡ y
 one-loaded = one-of L.says loaded loaded-back
-
-abbrev judged : Said J.Verdict → Judged
-judged (gives v) = cond (eqb (v .number) 20) (Judged.Incomplete (v .line)) (cond (eqb (v .number) 21) (Judged.Mismatch (v .line)) Judged.Match)
-judged (refuses r) = Judged.Refused r
-
-judged-back : (x : Judged) → judged (J.says x) ≡ x
-judged-back Judged.Match = refl
-judged-back (Judged.Incomplete line) = refl
-judged-back (Judged.Mismatch line) = refl
-judged-back (Judged.Refused r) = refl
-
-pub one-judged : (x y : Judged) → J.says x ≡ J.says y → x ≡ y
-one-judged = one-of J.says judged judged-back

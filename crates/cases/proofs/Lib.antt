@@ -2,4 +2,3 @@
 pub mod Checked
 pub mod Answers
 pub mod Outcomes
-pub mod Views

@@ -14,7 +14,7 @@ use Rattle.wcc.specs.Promise as W
 use Rattle.cdlp.specs.Promise as C
 use Rattle.lcc.specs.Promise as L
 use Rattle.matching.specs.declared.numbers.Rule.the-variants.{Equivalence}
-use Rattle.matching.specs.Verdict.{Verdict, verdict}
+use Rattle.matching.specs.Verdict.{Verdict, matched, mismatchAt}
 use Rattle.matching.specs.Calls.{numbersCall, coefficientsSays}
 use Rattle.verdicts.specs.Call.{mostLines}
 use Rattle.cases.specs.Texts.{bytes, sheetGraph}
@@ -92,15 +92,15 @@ cases =
     ∷ (lccFractions is fractions (gives tt) (0 ∷ 1 ∷ 1 ∷ 1 ∷ 0 ∷ []) (1 ∷ 2 ∷ 2 ∷ 3 ∷ 1 ∷ []))
     -- P8 "CDLP 1 gives -3, 5, 2, 2, 9"
     ∷ (cdlpAfter (pos 1) is results (gives tt) (minusOf 3 ∷ pos 5 ∷ pos 2 ∷ pos 2 ∷ pos 9 ∷ []))
-    -- P9 "r = 1/2 matches 0.50005 and not 0.500051": verdict 0, and verdict 21 at line 1
-    ∷ (coefficientClaim 1 2 (bytes "1 0.50005\n") is judges (gives (verdict 0 0)))
-    ∷ (coefficientClaim 1 2 (bytes "1 0.500051\n") is judges (gives (verdict 21 1)))
+    -- P9 "r = 1/2 matches 0.50005 and not 0.500051"
+    ∷ (coefficientClaim 1 2 (bytes "1 0.50005\n") is judges (gives matched))
+    ∷ (coefficientClaim 1 2 (bytes "1 0.500051\n") is judges (gives (mismatchAt 1)))
     -- P10 "r = 1/3 matches 0.3333 and not 0.3332999"
-    ∷ (coefficientClaim 1 3 (bytes "1 0.3333\n") is judges (gives (verdict 0 0)))
-    ∷ (coefficientClaim 1 3 (bytes "1 0.3332999\n") is judges (gives (verdict 21 1)))
+    ∷ (coefficientClaim 1 3 (bytes "1 0.3333\n") is judges (gives matched))
+    ∷ (coefficientClaim 1 3 (bytes "1 0.3332999\n") is judges (gives (mismatchAt 1)))
     -- P11 "labels 7 7 3 match components a a b; 7 7 7 fails at line 3"
-    ∷ (componentClaim (bytes "1 7\n2 7\n3 3\n") is judges (gives (verdict 0 0)))
-    ∷ (componentClaim (bytes "1 7\n2 7\n3 7\n") is judges (gives (verdict 21 3)))
+    ∷ (componentClaim (bytes "1 7\n2 7\n3 3\n") is judges (gives matched))
+    ∷ (componentClaim (bytes "1 7\n2 7\n3 7\n") is judges (gives (mismatchAt 3)))
     -- P12 "four vertices, joins 0-1, 2-3, 1-3 give parents 0 0 0 2, sizes 4 1 2 1, count 1"
     ∷ (bookAfter (Call.opening ∷ Call.joining 0 1 ∷ Call.joining 2 3 ∷ Call.joining 1 3 ∷ [])
     is books (areas (0 ∷ 0 ∷ 0 ∷ 2 ∷ []) (4 ∷ 1 ∷ 2 ∷ 1 ∷ [])) (gives 1))

@@ -2,19 +2,19 @@
 use Prim.Native.Nat.{ℕ, suc, _+_, _-_, _/_, _≤_, _<_}
 use mathlib.Core.Path.{_≡_, refl, sym, ap, _∙_}
 use mathlib.Core.Bool.{Bool, true, false, _&&_}
-use mathlib.Core.List.{List}
+use mathlib.Core.List.{List, [], _∷_}
 use native.Mathlib.Omega.{arith}
 use native.Mathlib.Numerals.{add-one}
 use native.Mathlib.Decide.{decLt}
 use lib.IntN.{ℤ, pos}
-use lib.ListN.{length, getD, take, length-take}
-use lib.Seq.{getD-take}
+use lib.ListN.{length, getD, take, drop, length-take, drop-of-length-le}
+use lib.Seq.{getD-take, drop-cons}
 use lib.Dec.{leb, ltb}
 use lib.Signed.{ltZ}
-use borrow.Author.Tests.{lt-ltb, le-ltb, le-leb, lt-leb, eq-eqb, ne-eqb}
-use Rattle.basis.specs.Order.{rising, risingBy}
+use borrow.Author.Tests.{lt-ltb, le-ltb, le-leb, lt-leb, eq-eqb, ne-eqb, leb-true, ltb-true}
+use Rattle.basis.specs.Order.{aboveBy, rising}
 use Rattle.basis.specs.Scan.{every, each, mem}
-use Rattle.basis.proofs.Tests.{and-first, and-second, and-off}
+use Rattle.basis.proofs.Tests.{same-test, and-first, and-second, and-off}
 use Rattle.basis.proofs.Scans.{every-at, every-more, every-fail, every-end, each-fail, each-every, mem-index, mem-none}
 use Rattle.basis.proofs.Orders.{risingBy-of, risingBy-fail, number-order}
 use Rattle.graph.specs.declared.Size.{Size}
@@ -33,12 +33,6 @@ use Rattle.graph.proofs.Finds.{Halving, halving-here, halving-end, Righ
 module _ {A : Type 0} (less : A → A → Bool) (z : A) (l : List A) where
   abbrev pub ascends : ℕ → Bool
   ascends i = less (getD l i z) (getD l (i + 1) z)
-
-  pub rises-end : (i : ℕ) → length l ≤ i + 1 → every i ascends ≡ true → true ≡ risingBy less l
-  rises-end i h a = sym (risingBy-of less z l (λ k g. rw (← add-one k) (every-at ascends i k (omega arith) a)))
-
-  pub rises-stop : (i : ℕ) → i + 1 < length l → ascends i ≡ false → false ≡ risingBy less l
-  rises-stop i g h = sym (risingBy-fail less z l i (omega arith) (rw add-one at h))
 
 -- ---- identifiers
 module _ (n : ℕ) (ids : List ℤ) where
@@ -75,24 +69,57 @@ module _ (p : ℕ → Bool) (l : List ℕ) (i : ℕ) where
   members-stop : i < length l → p (getD l i 0) ≡ false → false ≡ each p l
   members-stop g h = sym (each-fail p 0 l i g h)
 
--- ---- "names only other vertices below n"
-pub other-of : (n v w : ℕ) → w < n → (w ≡ v → ⊥) → other n v w ≡ true
-other-of n v w l d = rw (lt-ltb w n l, ne-eqb w v d)
+-- the list rises, from a least number on
+abbrev startsAt : ℕ → List ℕ → Bool
+startsAt least [] = true
+startsAt least (x ∷ l) = leb least x && aboveBy ltb x l
 
-module _ (n v : ℕ) (l : List ℕ) (i : ℕ) (g : i < length l) where
-  pub others-far : n ≤ getD l i 0 → false ≡ each (other n v) l
-  others-far h = members-stop (other n v) l i g (rw (le-ltb (getD l i 0) n h))
+-- ---- a part, in one pass: what is left of it rises from a least number on and names others
+abbrev pub fitting : ℕ → ℕ → ℕ → List ℕ → Bool
+fitting n v least [] = true
+fitting n v least (x ∷ l) = leb least x && other n v x && fitting n v (x + 1) l
 
-  pub others-self : getD l i 0 ≡ v → false ≡ each (other n v) l
-  others-self e = members-stop (other n v) l i g (rw (eq-eqb (getD l i 0) v e) (and-off (ltb (getD l i 0) n) false refl))
+next-above : (x : ℕ) (l : List ℕ) → startsAt (x + 1) l ≡ aboveBy ltb x l
+next-above x [] = refl
+next-above x (y ∷ l) =
+    ap (λ (t : Bool). t && aboveBy ltb y l)
+    (same-test (leb (x + 1) y) (ltb x y) (λ h. lt-ltb x y (let e = leb-true (x + 1) y h in omega arith)) (λ h. le-leb (x + 1) y (let e = ltb-true x y h in omega arith)))
 
--- ---- a part
-module _ (n v : ℕ) (l : List ℕ) where
-  pub part-stop : rising l ≡ false → false ≡ soundPart n v l
-  part-stop h = rw h
+and-swap : (a b c d : Bool) → ((a && b) && (c && d)) ≡ ((a && c) && (b && d))
+and-swap true true c d = refl
+and-swap true false true d = refl
+and-swap true false false d = refl
+and-swap false b c d = refl
 
-  pub part-rest : rising l ≡ true → (t : Bool) → t ≡ each (other n v) l → t ≡ soundPart n v l
-  part-rest h t e = rw h e
+fitting-is : (n v least : ℕ) (l : List ℕ) → fitting n v least l ≡ (startsAt least l && each (other n v) l)
+unfolding each
+fitting-is n v least [] = refl
+fitting-is n v least (x ∷ l) =
+    ap (λ (t : Bool). (leb least x && other n v x) && t) (fitting-is n v (x + 1) l ∙ ap (λ (t : Bool). t && each (other n v) l) (next-above x l))
+    ∙ and-swap (leb least x) (other n v x) (aboveBy ltb x l) (each (other n v) l)
+
+pub part-begin : (n v : ℕ) (l : List ℕ) → fitting n v 0 (drop 0 l) ≡ soundPart n v l
+part-begin n v [] = fitting-is n v 0 []
+part-begin n v (x ∷ l) = fitting-is n v 0 (x ∷ l) ∙ rw (le-leb 0 x (omega arith))
+
+module _ (n v least : ℕ) (l : List ℕ) (i : ℕ) (g : i < length l) (e : fitting n v least (drop i l) ≡ soundPart n v l) where
+  left : (leb least (getD l i 0) && other n v (getD l i 0) && fitting n v (getD l i 0 + 1) (drop (i + 1) l)) ≡ soundPart n v l
+  left = ap (fitting n v least) (sym (drop-cons l i 0 g ∙ ap (λ (k : ℕ). getD l i 0 ∷ drop k l) (sym (add-one i)))) ∙ e
+
+  pub part-low : getD l i 0 < least → false ≡ soundPart n v l
+  part-low h = rw (lt-leb least (getD l i 0) h) at left
+
+  pub part-wide : n ≤ getD l i 0 → false ≡ soundPart n v l
+  part-wide h = rw (le-ltb (getD l i 0) n h, and-off (leb least (getD l i 0)) false refl) at left
+
+  pub part-self : getD l i 0 ≡ v → false ≡ soundPart n v l
+  part-self h = rw (eq-eqb (getD l i 0) v h, and-off (ltb (getD l i 0) n) false refl, and-off (leb least (getD l i 0)) false refl) at left
+
+  pub part-more : least ≤ getD l i 0 → getD l i 0 < n → (getD l i 0 ≡ v → ⊥) → fitting n v (getD l i 0 + 1) (drop (i + 1) l) ≡ soundPart n v l
+  part-more a b d = rw (le-leb least (getD l i 0) a, lt-ltb (getD l i 0) n b, ne-eqb (getD l i 0) v d) at left
+
+pub part-end : (n v least : ℕ) (l : List ℕ) (i : ℕ) → length l ≤ i → fitting n v least (drop i l) ≡ soundPart n v l → true ≡ soundPart n v l
+part-end n v least l i h e = rw (drop-of-length-le l h) at e
 
 -- ---- "Offsets begin at 0, never fall and end at the arc count"
 module _ (n m : ℕ) (off : List ℕ) where

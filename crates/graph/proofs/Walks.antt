@@ -1,5 +1,5 @@
 -- Laws of the walk over the outward arcs: where it begins, at an arc, where it breaks off, at a vertex's end and at its own. Assumes nothing.
-use Prim.Native.Nat.{ℕ, suc, _+_, _≤_, _<_}
+use Prim.Native.Nat.{ℕ, _+_, _≤_, _<_}
 use mathlib.Core.Path.{_≡_, refl, sym, ap, ap₂, _∙_}
 use mathlib.Core.Bool.{Bool, true, false, not, _&&_, _||_}
 use mathlib.Core.List.{List, [], _∷_, _++_}
@@ -11,7 +11,7 @@ use lib.Seq.{getD-take, take-suc, take-all, getD-set-same, getD-set-other}
 use lib.Dec.{eqb, leb, ltb}
 use borrow.Author.Tests.{lt-ltb, le-ltb, le-leb, lt-leb, leb-true, eq-eqb, ne-eqb, not-true, not-false}
 use Rattle.basis.specs.Order.{rising}
-use Rattle.basis.specs.Scan.{every, each, mem}
+use Rattle.basis.specs.Scan.{each, mem}
 use Rattle.basis.specs.Area.{cleared}
 use Rattle.basis.proofs.Tests.{clash, false-of, same-test, and-first, and-second, and-both, or-first, or-second}
 use Rattle.basis.proofs.Scans.{every-at, every-of, every-fail, each-mem, mem-index, mem-none, mem-head, mem-append}

@@ -3,10 +3,8 @@ ghost use mathlib.Core.Path.{_≡_};
 ghost use mathlib.Core.Bool.{true};
 ghost use Prim.Native.Nat.{_<_};
 ghost use lib.ListN.{length};
-ghost use Rattle.basis.specs.Order.{rising};
-ghost use Rattle.basis.specs.Scan.{each};
 ghost use Rattle.graph.specs.Part.{partOf};
-ghost use Rattle.graph.specs.Sound.{lent, other, soundOffsets, soundPart, soundSide, mirrored, soundGraph};
+ghost use Rattle.graph.specs.Sound.{lent, soundOffsets, soundPart, soundSide, mirrored, soundGraph};
 ghost use Rattle.graph.specs.Steps.{idsRise, neverFall, soundParts, soundSides, bisectFinds, answered};
 use crate::Size;
 use crate::part::part;
@@ -64,48 +62,27 @@ fn offsets_sound(offsets: &[usize], n: usize, m: usize) -> bool
     never_fall(offsets, n)
 }
 
-// A part strictly rises.
-fn rises(members: &[usize]) -> bool
-    ensures { λ r. ⌜ r ≡ rising (now (members .entry)) ⌝ }
+// One vertex's part is sound: it strictly rises, and names only vertices below n other than v.
+fn part_sound(members: &[usize], v: usize, n: usize) -> bool
+    ensures { λ r. ⌜ r ≡ soundPart n v (now (members .entry)) ⌝ }
 {
-    let mut i = 0;
-    while i + 1 < members.len() {
-        let here = members[i];
-        let next = members[i + 1];
-        if next <= here {
-            return false;
-        }
-        i += 1;
-    }
-    true
-}
-
-// A part names only vertices below n other than v.
-fn names_others(members: &[usize], v: usize, n: usize) -> bool
-    ensures { λ r. ⌜ r ≡ each (other n v) (now (members .entry)) ⌝ }
-{
+    let mut least = 0;
     let mut i = 0;
     while i < members.len() {
         let w = members[i];
+        if w < least {
+            return false;
+        }
         if n <= w {
             return false;
         }
         if w == v {
             return false;
         }
+        least = w + 1;
         i += 1;
     }
     true
-}
-
-// One vertex's part is sound.
-fn part_sound(members: &[usize], v: usize, n: usize) -> bool
-    ensures { λ r. ⌜ r ≡ soundPart n v (now (members .entry)) ⌝ }
-{
-    if !rises(members) {
-        return false;
-    }
-    names_others(members, v, n)
 }
 
 // Every vertex's part is.

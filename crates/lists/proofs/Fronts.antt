@@ -1,5 +1,5 @@
 -- Laws of the areas after a file was read: values written from the front, as far as there is room. Assumes nothing.
-use Prim.Native.Nat.{ℕ, zero, suc, _+_, _-_, _≤_, _<_}
+use Prim.Native.Nat.{ℕ, zero, suc, _+_, _-_, _≤_}
 use mathlib.Core.Path.{_≡_, refl, sym, ap, ap₂, _∙_}
 use mathlib.Core.List.{List, [], _∷_, _++_}
 use mathlib.Core.Bool.{Bool}
@@ -7,7 +7,7 @@ use native.Mathlib.Omega.{arith}
 use native.Mathlib.Decide.{decLt}
 use native.Mathlib.Nat.{zero-add}
 use lib.IntN.{ℤ, pos}
-use lib.ListN.{length, take, drop, set, replicate, length-replicate, length-take, length-set, take-append-drop, drop-of-length-le}
+use lib.ListN.{length, take, drop, set, replicate, length-replicate, length-take, take-append-drop, drop-of-length-le}
 use lib.Seq.{sets, sets-eq, length-sets, set-out}
 use Rattle.basis.specs.Refusal.{Said, gives, refuses}
 use Rattle.basis.specs.declared.refusal.Refusal.{Refusal}
@@ -19,7 +19,7 @@ use Rattle.lists.specs.declared.Listed.{Listed}
 use Rattle.lists.specs.declared.Listed.the-variants.{Lines, Refused}
 use Rattle.lists.specs.Lines.{said}
 use Rattle.lists.specs.Files.{identifiers, edgesOf, allNumbered}
-use Rattle.lists.specs.Calls.{Vertexes, vertexOutcome, idsArea, vertexCall, EdgesRead, edgeOutcome, countsArea, targetsArea, edgeCall}
+use Rattle.lists.specs.Calls.{vertexOutcome, vertexCall, edgeOutcome, edgeCall}
 use Rattle.lists.specs.Steps.{idsInto, idsLeft, numberedInto, edgesLeft}
 
 -- ---- values written to an area of one value throughout

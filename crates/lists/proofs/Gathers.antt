@@ -1,8 +1,8 @@
 -- Laws of the loop over an edge file: what it keeps of its two areas. Assumes nothing.
-use Prim.Native.Nat.{ℕ, zero, suc, _+_, _-_, _^_, _≤_, _<_}
+use Prim.Native.Nat.{ℕ, suc, _+_, _-_, _≤_, _<_}
 use mathlib.Core.Path.{_≡_, refl, sym, ap, subst, _∙_}
 use mathlib.Core.Bool.{Bool}
-use mathlib.Core.List.{List, [], _∷_}
+use mathlib.Core.List.{List, _∷_}
 use native.Mathlib.Omega.{arith}
 use native.Mathlib.Decide.{ℕ-discrete, decLt}
 use native.Mathlib.Nat.{add-zero}
@@ -17,16 +17,16 @@ use Rattle.text.specs.Line.{twoOf, edgeLine}
 use Rattle.graph.specs.Arcs.{Arc}
 use Rattle.graph.specs.declared.find.Found.{Found}
 use Rattle.store.specs.Held.{seconds}
-use Rattle.store.specs.Steps.{bump, bumps}
+use Rattle.store.specs.Steps.{bump}
 use Rattle.lists.specs.declared.Listed.{Listed}
 use Rattle.lists.specs.declared.Listed.the-variants.{Lines, Refused}
 use Rattle.lists.specs.declared.edges.Edges.{Edges}
 use Rattle.lists.specs.declared.edges.EdgeStep.{EdgeStep}
 use Rattle.lists.specs.declared.edges.EdgeStep.the-variants as ES
-use Rattle.lists.specs.Lines.{good, Before, after, said, faultOf}
+use Rattle.lists.specs.Lines.{after, said}
 use Rattle.lists.specs.Files.{edgeTest, edgesOf, numbered, allNumbered}
 use Rattle.lists.specs.Calls.{listedSays}
-use Rattle.lists.specs.Steps.{Step, more, stop, beforeBy, pairOf, withNumbers, edgeStep, edgeStepSays, edgesInto, numberedInto, edgesLeft}
+use Rattle.lists.specs.Steps.{Step, more, stop, beforeBy, pairOf, withNumbers, edgeStep, edgeStepSays, numberedInto, edgesLeft}
 use Rattle.lists.proofs.Runs.{line-moves, left, left-start, left-lines, left-refused, left-more, Moved, before-next}
 
 -- ---- what the loop keeps

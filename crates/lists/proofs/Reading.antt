@@ -2,16 +2,16 @@
 use Prim.Native.Nat.{ℕ, zero, suc, _+_, _-_, _≤_, _<_}
 use mathlib.Core.Path.{_≡_, refl, sym, ap, ap₂, _∙_}
 use mathlib.Core.Bool.{Bool, true, false, cond, _&&_, _||_}
-use mathlib.Core.List.{List, [], _∷_}
+use mathlib.Core.List.{List}
 use native.Mathlib.Omega.{arith}
-use borrow.Author.Tests.{le-leb, lt-leb, lt-ltb, le-ltb}
-use lib.Dec.{leb, ltb}
+use borrow.Author.Tests.{le-leb, lt-leb, lt-ltb}
+use lib.Dec.{leb}
 use lib.IntN.{ℤ}
 use lib.Signed.{ltZ}
-use Rattle.basis.specs.Refusal.{Said, gives, refuses, at, tooMany, notAbove, vertexFile, edgeFile}
+use Rattle.basis.specs.Refusal.{gives, refuses, at, tooMany, notAbove, vertexFile, edgeFile}
 use Rattle.basis.specs.Order.{sameZ}
 use Rattle.basis.specs.declared.refusal.Refusal.{Refusal}
-use Rattle.text.specs.Line.{LineSaid, line, none, fault, vertexLine, vertexSays, edgeLine, edgeSays}
+use Rattle.text.specs.Line.{LineSaid, line, fault, vertexLine, vertexSays, edgeLine, edgeSays}
 use Rattle.text.specs.declared.line.Cursor.{Cursor}
 use Rattle.text.specs.declared.line.VertexLine.{VertexLine}
 use Rattle.text.specs.declared.line.VertexLine.the-variants as VL
@@ -24,7 +24,7 @@ use Rattle.lists.specs.declared.vertices.Vertices.{Vertices}
 use Rattle.lists.specs.declared.edges.Edges.{Edges}
 use Rattle.lists.specs.declared.edges.Ends.{Ends}
 use Rattle.lists.specs.declared.edges.Ends.the-variants as EN
-use Rattle.lists.specs.Lines.{good, bad, Before, first, after, faultOf}
+use Rattle.lists.specs.Lines.{good, Before, faultOf}
 use Rattle.lists.specs.Files.{vertexTest, isAbove, isThere, numberOf, edgeTest, numbered}
 use Rattle.lists.specs.Steps.{Step, more, stop, byFault, stepBy, beforeBy, vertexStep, orderFault, Looked, found, unknown, lookedBy, endsSays, pairOf, withNumbers, edgeStep}
 

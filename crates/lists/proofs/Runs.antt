@@ -1,31 +1,30 @@
 -- Laws of a loop over the lines of a file: what is left of the file after a line, and what the loop keeps of its areas. Assumes nothing.
 use Prim.Native.Nat.{ℕ, zero, suc, _+_, _-_, _≤_, _<_}
-use mathlib.Core.Path.{_≡_, refl, sym, ap, subst, _∙_}
+use mathlib.Core.Path.{_≡_, refl, sym, ap, _∙_}
 use mathlib.Core.Bool.{Bool, true, false, cond}
 use mathlib.Core.List.{List, [], _∷_}
 use native.Mathlib.Omega.{arith}
 use native.Mathlib.Nat.{add-zero}
 use native.Mathlib.Numerals.{add-one}
-use borrow.Author.Tests.{le-leb, lt-leb, lt-ltb, leb-true, leb-false}
+use borrow.Author.Tests.{lt-ltb, leb-false}
 use lib.ListN.{length, drop, set, length-drop, length-set}
 use lib.Seq.{sets}
-use lib.Dec.{leb, ltb, eqb}
+use lib.Dec.{leb, eqb}
 use lib.IntN.{ℤ, pos}
-use Rattle.basis.specs.Refusal.{Said, gives, refuses, at, tooMany, vertexFile, edgeFile}
+use Rattle.basis.specs.Refusal.{Said, gives, refuses, at, vertexFile}
 use Rattle.basis.specs.declared.refusal.Refusal.{Refusal}
 use Rattle.basis.specs.Scan.{mem}
 use Rattle.basis.proofs.Tests.{clash}
 use Rattle.text.specs.Word.{Word, malformed, outside, value, identOf}
-use Rattle.text.specs.Line.{LineSaid, line, none, fault, lf, upTo, lineSays, lineBy, vertexLine, edgeLine}
+use Rattle.text.specs.Line.{LineSaid, line, none, fault, lf, upTo, lineSays, lineBy, vertexLine}
 use Rattle.lists.specs.declared.Listed.{Listed}
 use Rattle.lists.specs.declared.Listed.the-variants.{Lines, Refused}
 use Rattle.lists.specs.declared.vertices.Vertices.{Vertices}
 use Rattle.lists.specs.declared.vertices.VertexStep.{VertexStep}
 use Rattle.lists.specs.declared.vertices.VertexStep.the-variants as VS
-use Rattle.lists.specs.Lines.{Line, good, bad, linesFrom, linesOf, Before, first, after, said, unless, faultOf, valuesFrom, valuesOf}
+use Rattle.lists.specs.Lines.{good, linesFrom, linesOf, Before, first, after, said, unless, faultOf, valuesFrom, valuesOf}
 use Rattle.lists.specs.Files.{vertexTest, identifiers}
-use Rattle.lists.specs.Calls.{listedSays}
-use Rattle.lists.specs.Steps.{Step, more, stop, byFault, stepBy, beforeBy, vertexStep, vertexStepSays, idsInto, idsLeft}
+use Rattle.lists.specs.Steps.{more, stop, byFault, stepBy, beforeBy, vertexStep, vertexStepSays, idsInto, idsLeft}
 
 -- ---- a line moves the place on, within the file
 up-to-below : (c : ℕ) (l : List ℕ) → mem c l ≡ true → length (upTo c l) < length l

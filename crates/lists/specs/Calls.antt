@@ -1,13 +1,12 @@
 -- What the reading of a file answers, and what it leaves in the areas.
 use Prim.Native.Nat.{ℕ}
 use mathlib.Core.Bool.{Bool}
-use mathlib.Core.List.{List, []}
+use mathlib.Core.List.{List}
 use lib.IntN.{ℤ, pos}
 use lib.ListN.{length, take, replicate}
 use Rattle.basis.specs.Refusal.{Said, gives, refuses}
 use Rattle.basis.specs.Area.{pad, padZ}
 use Rattle.graph.specs.declared.find.Found.{Found}
-use Rattle.graph.specs.Arcs.{Arc}
 use Rattle.store.specs.Held.{seconds}
 use Rattle.store.specs.Steps.{bumps}
 use Rattle.lists.specs.declared.Listed.{Listed}

@@ -1,7 +1,7 @@
 -- 01 "Lists": the identifiers that a vertex file lists, and the edges that an edge file lists.
 use Prim.Native.Nat.{ℕ}
 use mathlib.Core.Bool.{Bool, true, false, cond, _&&_, _||_}
-use mathlib.Core.List.{List, [], _∷_, map}
+use mathlib.Core.List.{List, [], _∷_}
 use lib.IntN.{ℤ}
 use lib.Signed.{ltZ}
 use Rattle.basis.specs.Refusal.{Said, notAbove, selfEdge, largerFirst, unknownVertex, vertexFile, edgeFile}

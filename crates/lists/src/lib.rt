@@ -5,7 +5,7 @@ pub mod vertices;
 use basis::Refusal;
 use basis::refusal::TOO_MANY;
 ghost use mathlib.Core.Path.{_≡_};
-ghost use mathlib.Core.Bool.{Bool, cond};
+ghost use mathlib.Core.Bool.{cond};
 ghost use lib.Dec.{leb};
 ghost use Rattle.basis.specs.Refusal.{tooMany};
 

@@ -1,32 +1,32 @@
 -- A load is accepted exactly when both files have the form and order that 01 asks for and the areas have room. Assumes nothing.
 use Prim.Native.Nat.{ℕ, zero, suc, _+_, _-_, _≤_, _<_}
-use mathlib.Core.Path.{_≡_, refl, sym, ap, ap₂, subst, _∙_}
+use mathlib.Core.Path.{_≡_, refl, sym, ap, subst, _∙_}
 use mathlib.Core.Logic.{_↔_}
 use mathlib.Core.Bool.{Bool, true, false, not, cond, _&&_}
 use mathlib.Core.List.{List, [], _∷_, _++_}
 use native.Mathlib.Omega.{arith}
 use native.Mathlib.Nat.{not-suc-le-zero}
-use borrow.Author.Tests.{leb-true, leb-false, ltb-true, le-leb, lt-leb, lt-ltb, not-true}
+use borrow.Author.Tests.{leb-true, ltb-true, le-leb, lt-leb, lt-ltb, not-true}
 use lib.ListN.{length, drop, length-append, drop-of-length-le, length-drop}
-use lib.Dec.{eqb, leb, ltb}
+use lib.Dec.{leb, ltb}
 use lib.IntN.{ℤ}
 use lib.Signed.{ltZ}
-use Rattle.basis.specs.Refusal.{Said, gives, refuses, plain, vertexFile, edgeFile, noRoom, unknownNumber}
+use Rattle.basis.specs.Refusal.{Said, gives, refuses, plain, vertexFile, edgeFile, unknownNumber}
 use Rattle.basis.specs.Order.{sameZ, aboveBy, risingBy, risingZ}
 use Rattle.basis.specs.Scan.{each, mem}
-use Rattle.basis.proofs.Tests.{clash, and-first, and-second, and-both}
+use Rattle.basis.proofs.Tests.{and-first, and-second, and-both}
 use Rattle.text.specs.Word.{Word, malformed, outside, value, identOf}
 use Rattle.text.specs.Line.{LineSaid, line, none, fault, lf, upTo, past, lineSays, lineBy, twoOf, vertexLine, edgeLine}
 use Rattle.text.proofs.Bytes.{cut-at, upTo-none, mem-cut, upTo-cut, drop-past}
 use Rattle.graph.specs.Arcs.{Arc, arcs}
 use Rattle.graph.specs.Find.{placeIn}
 use Rattle.load.specs.declared.Limits.{Limits}
-use Rattle.lists.specs.Lines.{Line, good, bad, linesFrom, linesOf, Before, first, after, onward, said, valuesFrom}
+use Rattle.lists.specs.Lines.{good, bad, linesFrom, linesOf, Before, first, after, onward}
 use Rattle.lists.specs.Files.{vertexTest, identifiers, abovePair, isAbove, isThere, edgeTest, edgesOf, allNumbered}
 use Rattle.load.specs.Load.{Lists, Room, isUndirected, vertexRoom, arcRoom, withRoom, arcsRead, listsRead, loaded}
 use Rattle.load.specs.Good.{joined, Says, FileSays, allGood, Passes, GoodVertices, GoodEdges, GoodLoad}
-use Rattle.load.proofs.Values.{Accepted, values-accepted, accepted-values}
-use Rattle.load.proofs.Valids.{Tested, test-passed, passed-test}
+use Rattle.load.proofs.Values.{values-accepted, accepted-values}
+use Rattle.load.proofs.Valids.{test-passed, passed-test}
 use Rattle.load.proofs.Loads.{ids-rise}
 
 -- ---- the lines of a file, by the reader and by its bytes

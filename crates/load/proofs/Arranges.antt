@@ -1,7 +1,7 @@
 -- Laws of storing the edges of a file: copies, and both pairs of areas as the edges say. Assumes nothing.
-use Prim.Native.Nat.{ℕ, zero, suc, _+_, _-_, _≤_, _<_}
+use Prim.Native.Nat.{ℕ, suc, _+_, _-_, _≤_, _<_}
 use mathlib.Core.Path.{_≡_, refl, sym, ap, ap₂, subst, _∙_}
-use mathlib.Core.Bool.{Bool, true, false, cond, _&&_}
+use mathlib.Core.Bool.{Bool, true, false}
 use mathlib.Core.List.{List, [], _∷_, _++_, append-assoc}
 use native.Mathlib.Omega.{arith}
 use native.Mathlib.Numerals.{add-one}
@@ -28,11 +28,11 @@ use Rattle.store.proofs.Order.{Valid, valid-ends}
 use Rattle.store.proofs.Built.{offsets-length, parts-seconds, held-built}
 use Rattle.lists.specs.declared.Listed.{Listed}
 use Rattle.lists.specs.declared.Listed.the-variants.{Lines, Refused}
-use Rattle.lists.specs.Lines.{linesOf, first, onward, said}
+use Rattle.lists.specs.Lines.{linesOf, first, said}
 use Rattle.lists.specs.Files.{edgeTest, edgesOf, allNumbered}
 use Rattle.lists.specs.Calls.{listedSays, EdgesRead, edgeOutcome, countsArea, targetsArea, edgeCall}
-use Rattle.load.specs.Load.{arcRoom, withRoom}
-use Rattle.load.specs.Steps.{edgesRead, Arranged, arranged, arrangedBy, arrangedLeft, Blank}
+use Rattle.load.specs.Load.{arcRoom}
+use Rattle.load.specs.Steps.{edgesRead, Arranged, arranged, arrangedBy, Blank}
 use Rattle.load.proofs.Values.{values-accepted}
 use Rattle.load.proofs.Valids.{valid-edges}
 use Rattle.load.proofs.Lookups.{same-edges, same-numbered}

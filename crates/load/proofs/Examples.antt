@@ -1,9 +1,8 @@
 -- Loads by computation: the sheet's graph of 01, a small undirected one, and some that are refused. Bytes: 45 `-`, 48 to 57 the digits, 32 a space, 10 LF.
 use mathlib.Core.Path.{_≡_, refl}
-use mathlib.Core.Bool.{true, false}
-use mathlib.Core.List.{List, [], _∷_, _++_}
+use mathlib.Core.List.{List, [], _∷_}
 use Prim.Native.Nat.{ℕ}
-use lib.IntN.{ℤ, pos, negsuc}
+use lib.IntN.{pos, negsuc}
 use Rattle.basis.specs.Refusal.{gives, refuses, at, plain}
 use Rattle.basis.specs.Scan.{each, mem}
 use Rattle.basis.specs.Area.{column}

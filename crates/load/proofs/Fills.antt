@@ -1,23 +1,22 @@
 -- Laws of the four areas of a graph: a directed file's edges as they were arranged, an undirected file's arcs the same both ways. Assumes nothing.
-use Prim.Native.Nat.{ℕ, zero, suc, _+_, _-_, _≤_, _<_}
+use Prim.Native.Nat.{ℕ, suc, _+_, _-_, _≤_}
 use mathlib.Core.Path.{_≡_, refl, sym, ap, ap₂, subst, _∙_}
-use mathlib.Core.Bool.{Bool, true, false, cond, _&&_}
+use mathlib.Core.Bool.{Bool, true, false, _&&_}
 use mathlib.Core.List.{List, [], _∷_, _++_}
 use native.Mathlib.Omega.{arith}
-use native.Mathlib.Numerals.{add-one}
 use borrow.Author.Tests.{leb-true}
 use lib.ListN.{length, take, drop, replicate}
 use lib.Seq.{take-at, drop-append-add}
 use lib.Dec.{leb}
 use lib.IntN.{ℤ}
-use Rattle.basis.specs.Refusal.{Said, gives, refuses, plain, noRoom, edgeFile}
+use Rattle.basis.specs.Refusal.{Said, gives, refuses, edgeFile}
 use Rattle.basis.specs.declared.refusal.Refusal.{Refusal}
 use Rattle.basis.specs.Area.{pad}
 use Rattle.basis.specs.Order.{risingZ}
 use Rattle.basis.proofs.Tests.{and-first, and-second}
 use Rattle.text.specs.Line.{edgeLine}
 use Rattle.graph.specs.Find.{placeIn}
-use Rattle.graph.specs.Arcs.{Arc, arcs, backward, parts, start, offsets}
+use Rattle.graph.specs.Arcs.{Arc, arcs, parts, start, offsets}
 use Rattle.store.specs.Held.{inArcs}
 use Rattle.store.specs.Spread.{arcCount}
 use Rattle.store.proofs.Columns.{column-ext}

@@ -1,33 +1,32 @@
 -- Laws of a whole load: from the vertex file and the edge file to the five areas. Assumes nothing.
-use Prim.Native.Nat.{ℕ, zero, suc, _+_, _-_, _≤_, _<_}
+use Prim.Native.Nat.{ℕ, _-_, _≤_, _<_}
 use mathlib.Core.Path.{_≡_, refl, sym, ap, ap₂, subst, _∙_}
 use mathlib.Core.Bool.{Bool, true, false, cond, _&&_}
-use mathlib.Core.List.{List, [], _∷_, _++_}
+use mathlib.Core.List.{List, [], _∷_}
 use native.Mathlib.Omega.{arith}
-use native.Mathlib.Nat.{zero-add}
 use borrow.Author.Tests.{le-leb, lt-leb, lt-ltb, le-ltb, leb-true, ltb-true}
-use lib.ListN.{length, take, drop, replicate, length-replicate}
+use lib.ListN.{length, take, replicate}
 use lib.Seq.{take-at, take-all}
 use lib.Dec.{eqb, leb, ltb}
 use lib.IntN.{ℤ, pos}
 use lib.Signed.{ltZ}
 use Rattle.basis.specs.Refusal.{Said, gives, refuses, plain, noRoom, unknownNumber, vertexFile}
 use Rattle.basis.specs.declared.refusal.Refusal.{Refusal}
-use Rattle.basis.specs.Area.{pad, padZ, padWith}
+use Rattle.basis.specs.Area.{padZ}
 use Rattle.basis.specs.Order.{aboveBy, risingZ}
-use Rattle.basis.proofs.Tests.{and-first, and-second, and-both, and-off, bool-cases, clash}
+use Rattle.basis.proofs.Tests.{and-first, and-second, and-both, and-off}
 use Rattle.text.specs.Line.{vertexLine}
 use Rattle.graph.specs.declared.Size.{Size}
-use Rattle.graph.specs.Arcs.{Arc, arcs, backward, parts, offsets}
+use Rattle.graph.specs.Arcs.{Arc, arcs}
 use Rattle.load.specs.declared.Limits.{Limits}
 use Rattle.load.specs.declared.Loaded.{Loaded}
 use Rattle.load.specs.declared.Loaded.the-variants as L
 use Rattle.lists.specs.declared.Listed.{Listed}
 use Rattle.lists.specs.declared.Listed.the-variants.{Lines, Refused}
-use Rattle.lists.specs.Lines.{linesOf, Before, first, after, onward, said}
+use Rattle.lists.specs.Lines.{linesOf, first, after, said}
 use Rattle.lists.specs.Files.{vertexTest, identifiers}
 use Rattle.lists.specs.Calls.{listedSays, Vertexes, vertexOutcome, idsArea, vertexCall}
-use Rattle.load.specs.Load.{says, Lists, Room, roomOf, isUndirected, vertexRoom, withRoom, arcsRead, listsRead, loaded, Outcome, outcome, outcomeOf, loadCall}
+use Rattle.load.specs.Load.{Room, roomOf, vertexRoom, arcsRead, listsRead, loaded, Outcome, outcome, outcomeOf, loadCall}
 use Rattle.load.specs.Steps.{Blank, Filled, filled, filledBy, filledLeft, outcomeBy, outcomeLeft, Emptied}
 use Rattle.load.specs.Good.{Passes}
 use Rattle.load.proofs.Values.{values-accepted}

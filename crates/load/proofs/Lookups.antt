@@ -1,18 +1,16 @@
 -- Identifiers that rise: a bisection finds each where it stands, so an edge file says the same by either. Assumes nothing.
 use Prim.Native.Nat.{ℕ, _+_}
-use mathlib.Core.Path.{_≡_, refl, sym, ap, ap₂, _∙_}
+use mathlib.Core.Path.{_≡_, refl}
 use mathlib.Core.Bool.{Bool, true}
 use mathlib.Core.List.{List, [], _∷_}
 use lib.IntN.{ℤ}
-use Rattle.basis.specs.Refusal.{Said, refuses, at, edgeFile}
+use Rattle.basis.specs.Refusal.{edgeFile}
 use Rattle.basis.specs.Order.{risingZ}
 use Rattle.text.specs.Line.{edgeLine}
-use Rattle.graph.specs.Arcs.{Arc}
-use Rattle.graph.specs.declared.find.Found.{Found}
 use Rattle.graph.specs.Find.{placeIn, bisected}
 use Rattle.graph.proofs.Finds.{find-rising}
-use Rattle.lists.specs.Lines.{Line, good, bad, linesOf, Before, first, after, said, unless, faultOf, valuesFrom}
-use Rattle.lists.specs.Files.{edgeTest, edgesOf, numbered, allNumbered}
+use Rattle.lists.specs.Lines.{Line, good, bad, linesOf, Before, first, after, valuesFrom}
+use Rattle.lists.specs.Files.{edgeTest, edgesOf, allNumbered}
 
 -- tests that agree on every line
 values-same : {A : Type 0} (file most : ℕ) (p q : Before A → A → ℕ) → ((before : Before A) (v : A) → p before v ≡ q before v)

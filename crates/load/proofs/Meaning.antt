@@ -1,28 +1,26 @@
 -- What a load means: the graph that it stores is sound, its parts are the arcs of the edge file, and a refused file is refused at its first line at fault.
 -- Assumes nothing.
 use Prim.Native.Nat.{ℕ, zero, suc, _+_, _-_, _≤_, _<_}
-use mathlib.Core.Path.{_≡_, refl, sym, ap, ap₂, subst, _∙_}
+use mathlib.Core.Path.{_≡_, refl, sym, ap, subst, _∙_}
 use mathlib.Core.Bool.{Bool, true, false, cond, _&&_, _||_}
-use mathlib.Core.List.{List, [], _∷_, _++_}
+use mathlib.Core.List.{List, [], _∷_}
 use native.Mathlib.Omega.{arith}
 use borrow.Author.Tests.{le-leb}
-use lib.ListN.{length, getD, take, drop, replicate}
+use lib.ListN.{length, getD, drop, replicate}
 use lib.Seq.{take-at}
 use lib.Dec.{eqb, leb}
 use lib.IntN.{ℤ, pos}
-use lib.Signed.{ltZ}
-use Rattle.basis.specs.Refusal.{Said, gives, refuses, vertexFile, edgeFile}
+use Rattle.basis.specs.Refusal.{gives, refuses, vertexFile, edgeFile}
 use Rattle.basis.specs.declared.refusal.Refusal.{Refusal}
-use Rattle.basis.specs.Area.{pad, padZ}
+use Rattle.basis.specs.Area.{padZ}
 use Rattle.basis.specs.Order.{sameZ, risingZ}
 use Rattle.basis.specs.Scan.{each, mem}
-use Rattle.basis.proofs.Tests.{clash, and-first, and-second, and-both}
+use Rattle.basis.proofs.Tests.{and-first, and-second, and-both}
 use Rattle.basis.proofs.Areas.{pad-length}
 use Rattle.basis.proofs.Orders.{signed-order, same-places}
 use Rattle.text.specs.Word.{Word, malformed, outside, value, identOf}
 use Rattle.text.specs.Line.{LineSaid, line, none, fault, lf, upTo, lineSays, lineBy, twoOf, vertexLine, edgeLine}
 use Rattle.text.proofs.Bytes.{eqb-swap}
-use Rattle.graph.specs.declared.Size.{Size}
 use Rattle.graph.specs.Arcs.{Arc, arcs}
 use Rattle.graph.specs.Find.{placeIn}
 use Rattle.graph.specs.Sound.{Graph, outward, inward, soundIds, soundGraph}
@@ -30,7 +28,7 @@ use Rattle.store.proofs.Fits.{arc-count}
 use Rattle.store.proofs.Order.{Valid}
 use Rattle.store.proofs.Meaning.{and-swap, hasArc, storedGraph, stored-sound, stored-outward, stored-inward}
 use Rattle.load.specs.declared.Limits.{Limits}
-use Rattle.lists.specs.Lines.{Line, good, bad, linesFrom, linesOf, first, said}
+use Rattle.lists.specs.Lines.{good, bad, linesFrom, linesOf, first, said}
 use Rattle.lists.specs.Files.{vertexTest, identifiers, isThere, numberOf, edgeTest, edgesOf, numbered, allNumbered}
 use Rattle.load.specs.Load.{Lists, Room, isUndirected, sizeOf, loaded, Outcome, outcomeOf, loadCall}
 use Rattle.store.specs.Spread.{arcCount}
@@ -38,7 +36,7 @@ use Rattle.load.specs.Good.{GoodEdges, GoodLoad, hasEdge, listsArc, grap
 use Rattle.load.proofs.Values.{Numbered, values-accepted, values-refused}
 use Rattle.load.proofs.Valids.{there, valid-edges}
 use Rattle.load.proofs.Arranges.{length-numbered}
-use Rattle.load.proofs.Accepts.{vertices-accepted, edges-accepted, load-accepted}
+use Rattle.load.proofs.Accepts.{edges-accepted, load-accepted}
 
 -- ---- a refused file
 module _ {A : Type 0} (word : List ℕ → Word A) (s : List ℕ) where

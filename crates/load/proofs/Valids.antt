@@ -1,12 +1,12 @@
 -- The edges of an accepted file are valid as edges between vertex numbers: what order and lookup say of identifiers, said of numbers. Assumes nothing.
-use Prim.Native.Nat.{ℕ, zero, suc, _+_, _≤_, _<_}
-use mathlib.Core.Path.{_≡_, refl, sym, ap, subst, _∙_}
+use Prim.Native.Nat.{ℕ, _<_}
+use mathlib.Core.Path.{_≡_, refl, sym, _∙_}
 use mathlib.Core.Bool.{Bool, true, false, cond, _&&_, _||_}
 use mathlib.Core.List.{List, [], _∷_}
 use native.Mathlib.Omega.{arith}
 use borrow.Author.Tests.{ltb-true, ltb-false, eqb-true, eqb-false}
 use lib.ListN.{length, getD}
-use lib.Dec.{leb, ltb, eqb}
+use lib.Dec.{ltb, eqb}
 use lib.IntN.{ℤ, pos}
 use lib.Signed.{ltZ}
 use Rattle.basis.specs.Order.{sameZ, risingZ}
@@ -17,9 +17,9 @@ use Rattle.graph.specs.Find.{placeIn}
 use Rattle.graph.specs.declared.find.Found.{Found}
 use Rattle.graph.specs.declared.find.Found.the-variants.{At, Missing}
 use Rattle.graph.proofs.Finds.{place-at}
-use Rattle.store.proofs.Order.{All, Pairs, Fine, Smaller, Lex, Valid, lex-cons}
-use Rattle.lists.specs.Lines.{Before, first, after}
-use Rattle.lists.specs.Files.{abovePair, isAbove, isThere, numberOf, edgeTest, numbered, allNumbered}
+use Rattle.store.proofs.Order.{Fine, Smaller, Lex, Valid, lex-cons}
+use Rattle.lists.specs.Lines.{Before, after}
+use Rattle.lists.specs.Files.{isAbove, isThere, numberOf, edgeTest, numbered, allNumbered}
 use Rattle.load.specs.Good.{Passes}
 
 -- ---- what the test of an edge says

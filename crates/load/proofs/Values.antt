@@ -1,17 +1,17 @@
 -- A file is accepted exactly where every line has values that pass the test after the line before, and the lines keep the limit. Assumes nothing.
-use Prim.Native.Nat.{ℕ, zero, suc, _+_, _≤_, _<_}
+use Prim.Native.Nat.{ℕ, zero, suc, _+_, _≤_}
 use mathlib.Core.Path.{_≡_, refl, sym, ap, subst, _∙_}
 use mathlib.Core.Bool.{Bool, true, false, cond}
-use mathlib.Core.List.{List, [], _∷_, _++_}
+use mathlib.Core.List.{List, [], _∷_}
 use native.Mathlib.Omega.{arith}
 use native.Mathlib.Nat.{add-zero}
 use borrow.Author.Tests.{leb-false, lt-leb}
 use lib.ListN.{length}
 use lib.Dec.{leb}
-use Rattle.basis.specs.Refusal.{Said, gives, refuses, at, tooMany}
+use Rattle.basis.specs.Refusal.{Said, gives, refuses, tooMany}
 use Rattle.basis.specs.declared.refusal.Refusal.{Refusal}
 use Rattle.lists.specs.Lines.{Line, good, bad, Before, after, said, unless, faultOf, valuesFrom}
-use Rattle.load.specs.Good.{allGood, Passes, lastOf, FirstFault}
+use Rattle.load.specs.Good.{allGood, Passes, FirstFault}
 use Rattle.lists.proofs.Reading.{limit-none}
 
 -- what an accepted file says

@@ -8,7 +8,6 @@ use basis::area::clear;
 use basis::area::clear_signed;
 use graph::Size;
 ghost use mathlib.Core.Path.{_≡_};
-ghost use Prim.Native.Nat.{ℕ};
 ghost use lib.ListN.{length};
 ghost use Rattle.load.specs.Load.{says, roomOf, outcome, loadCall, library};
 ghost use Rattle.load.specs.Steps.{Emptied};

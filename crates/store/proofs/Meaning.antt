@@ -1,19 +1,18 @@
 -- The graph that is stored from a valid edge list is sound, and its parts are the list's arcs. Assumes nothing.
 use mathlib.Core.Path.{_≡_, refl, sym, ap, _∙_, subst}
-use mathlib.Core.Bool.{Bool, true, false, not, cond, _&&_, _||_}
-use mathlib.Core.List.{List, [], _∷_, _++_}
-use Prim.Native.Nat.{ℕ, zero, suc, _+_, _≤_, _<_}
+use mathlib.Core.Bool.{Bool, true, false, cond, _&&_, _||_}
+use mathlib.Core.List.{List, [], _∷_}
+use Prim.Native.Nat.{ℕ, _+_, _≤_, _<_}
 use native.Mathlib.Omega.{arith}
 use native.Mathlib.Decide.{ℕ-discrete}
 use native.Mathlib.Numerals.{add-one}
 use lib.ListN.{length, getD}
-use lib.Dec.{eqb, ltb, leb}
+use lib.Dec.{eqb, leb}
 use lib.IntN.{ℤ}
 use borrow.Author.Tests.{eq-eqb, ne-eqb, lt-ltb, le-leb}
 use Rattle.basis.specs.Area.{pad}
-use Rattle.basis.specs.Order.{rising}
-use Rattle.basis.specs.Scan.{every, each, mem}
-use Rattle.basis.proofs.Tests.{clash, and-both, or-first, or-second}
+use Rattle.basis.specs.Scan.{each, mem}
+use Rattle.basis.proofs.Tests.{clash, and-both}
 use Rattle.basis.proofs.Scans.{every-of, each-of, mem-index}
 use Rattle.basis.proofs.Areas.{pad-length}
 use Rattle.graph.specs.Arcs.{Arc, arcs, targetsOf, parts, start, offsets, backward}

@@ -1,4 +1,3 @@
-use borrow.Author.Needs.{needs}
 use Rattle.lists.proofs.Reading.{limit-over, limit-kept}
 use Rattle.lists.proofs.limited.Statement.{statement}
 use Rattle.lists.proofs.limited.Tie as tie

@@ -1,4 +1,3 @@
-use borrow.Author.Needs.{needs}
 use Rattle.load.proofs.Loads.{places-ids, places-out, places-in, places-all}
 use Rattle.load.proofs.fill.has_places.Statement.{statement}
 use Rattle.load.proofs.fill.has_places.Tie as tie
