@@ -67,21 +67,21 @@ module _ (mode : ℕ) (vertices edges : List ℕ) where
   unfolding loaded listsRead arcsRead listsSaid
   loaded-desk m = rw m (go (identifiers 1024 vertices) refl)
     where
-      by-edges : (ids : List ℤ) (x : Said (List (ℤ × ℤ))) → edgesOf (isUndirected mode) 2048 ids edges ≡ x
-          → said (listed ids) (onward x (λ es. withRoom (arcRoom 4096 4096 (length (arcs (isUndirected mode) (allNumbered ids es)))) (arcs (isUndirected mode) (allNumbered ids es))))
-          ≡ said (λ es. listed ids (arcs (isUndirected mode) (allNumbered ids es))) x
+      by-edges : (ids : List ℤ) (x : Said (List (ℤ × ℤ))) → edgesOf (isUndirected mode) 2048 (placeIn ids) edges ≡ x
+          → said (listed ids) (onward x (λ es. withRoom (arcRoom 4096 4096 (length (arcs (isUndirected mode) (allNumbered (placeIn ids) es)))) (arcs (isUndirected mode) (allNumbered (placeIn ids) es))))
+          ≡ said (λ es. listed ids (arcs (isUndirected mode) (allNumbered (placeIn ids) es))) x
       by-edges ids (gives es) q =
           let few = edges-accepted (isUndirected mode) 2048 ids edges es .0 q .few in
           let h = arcs-few (isUndirected mode) ids es in
-          rw (le-leb (length (arcs (isUndirected mode) (allNumbered ids es))) 4096 (omega arith))
+          rw (le-leb (length (arcs (isUndirected mode) (allNumbered (placeIn ids) es))) 4096 (omega arith))
       by-edges ids (refuses r) q = refl
 
       go : (x : Said (List ℤ)) → identifiers 1024 vertices ≡ x
           → onward x (λ ids. onward (withRoom (vertexRoom 1024 1025 1025 (length ids)) ids) (λ ids. said (listed ids) (arcsRead (isUndirected mode) 2048 ids edges 4096 4096)))
-          ≡ onward x (λ ids. said (λ es. listed ids (arcs (isUndirected mode) (allNumbered ids es))) (edgesOf (isUndirected mode) 2048 ids edges))
+          ≡ onward x (λ ids. said (λ es. listed ids (arcs (isUndirected mode) (allNumbered (placeIn ids) es))) (edgesOf (isUndirected mode) 2048 (placeIn ids) edges))
       go (gives ids) q =
           let few = vertices-accepted 1024 vertices ids .0 q .few in
-          rw (le-leb (length ids) 1024 (omega arith), lt-ltb (length ids) 1025 (omega arith)) (by-edges ids (edgesOf (isUndirected mode) 2048 ids edges) refl)
+          rw (le-leb (length ids) 1024 (omega arith), lt-ltb (length ids) 1025 (omega arith)) (by-edges ids (edgesOf (isUndirected mode) 2048 (placeIn ids) edges) refl)
       go (refuses r) q = refl
 
 -- ---- the reference output, by what a graph shows

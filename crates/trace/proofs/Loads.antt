@@ -36,7 +36,7 @@ vertex-low (after y) z = go (ltZ y z)
     go true = omega arith
     go false = omega arith
 
-edge-low : (both : Bool) (ids : List ℤ) (before : Before (ℤ × ℤ)) (e : ℤ × ℤ) → edgeTest both ids before e ≤ 21
+edge-low : (both : Bool) (ids : List ℤ) (before : Before (ℤ × ℤ)) (e : ℤ × ℤ) → edgeTest both (placeIn ids) before e ≤ 21
 unfolding edgeTest
 edge-low both ids before e =
     go (sameZ (e .0) (e .1)) (both && ltZ (e .1) (e .0)) (isAbove before e) (isThere (placeIn ids (e .0)) && isThere (placeIn ids (e .1)))
@@ -57,9 +57,9 @@ module _ (room : ℕ) (limits : Limits) (few : limits .vertices + 1 < room) (les
   arcs-readable : (both : Bool) (ids : List ℤ) (s : List ℕ) (t t′ : ℕ) → Readable room (arcsRead both (limits .edges) ids s t t′) untold
   unfolding arcsRead
   arcs-readable both ids s t t′ =
-      onward-readable (edgesOf both (limits .edges) ids s)
-      (file-readable edgeFile (limits .edges) room (edgeTest both ids) (omega arith) (edge-low both ids) less (twoOf identOf identOf) s)
-      (λ es e. let l = arcs both (allNumbered ids es) in room-readable (arcRoom t t′ (length l)) l (omega arith))
+      onward-readable (edgesOf both (limits .edges) (placeIn ids) s)
+      (file-readable edgeFile (limits .edges) room (edgeTest both (placeIn ids)) (omega arith) (edge-low both ids) less (twoOf identOf identOf) s)
+      (λ es e. let l = arcs both (allNumbered (placeIn ids) es) in room-readable (arcRoom t t′ (length l)) l (omega arith))
 
   lists-readable : (both : Bool) (r : Room) (vertices edges : List ℕ) → Readable room (listsRead limits both r vertices edges) untold
   unfolding listsRead
@@ -74,8 +74,8 @@ module _ (room : ℕ) (limits : Limits) (few : limits .vertices + 1 < room) (les
       readable-check (leb mode 1) unknownNumber (omega arith) (omega arith) (omega arith) (λ e. lists-readable (isUndirected mode) r vertices edges)
 
 -- ---- what is given: "each edge once .. and it stores two arcs" at the most
-pub arcs-few : (both : Bool) (ids : List ℤ) (es : List (ℤ × ℤ)) → length (arcs both (allNumbered ids es)) ≤ length es + length es
-arcs-few both ids es = rw (arc-count both (allNumbered ids es), length-numbered ids es) (go both)
+pub arcs-few : (both : Bool) (ids : List ℤ) (es : List (ℤ × ℤ)) → length (arcs both (allNumbered (placeIn ids) es)) ≤ length es + length es
+arcs-few both ids es = rw (arc-count both (allNumbered (placeIn ids) es), length-numbered ids es) (go both)
   where
     go : (both : Bool) → arcCount both (length es) ≤ length es + length es
     go true = omega arith

@@ -19,6 +19,7 @@ use Rattle.store.proofs.Built.{offsets-length}
 use Rattle.store.proofs.Meaning.{start-all, part-stored, storedGraph}
 use Rattle.load.specs.declared.Limits.{Limits}
 use Rattle.lists.specs.Lines.{first, linesOf}
+use Rattle.graph.specs.Find.{placeIn}
 use Rattle.lists.specs.Files.{edgeTest, allNumbered}
 use Rattle.load.specs.Load.{Lists, Room, isUndirected}
 use Rattle.load.specs.Good.{GoodLoad}
@@ -47,14 +48,14 @@ abbrev pub areaGraph : Room → Lists → Graph
 areaGraph room g = storedGraph (length (g .ids)) (g .arcs) (padZ (room .ids) (g .ids)) (room .outOffsets) (room .outTargets) (room .inOffsets) (room .inSources)
 
 module _ (limits : Limits) (mode : ℕ) (room : Room) (vertices edges : List ℕ) (g : Lists) (ok : GoodLoad limits mode room vertices edges g) where
-  valid : Valid (isUndirected mode) (length (g .ids)) (allNumbered (g .ids) (ok .list))
+  valid : Valid (isUndirected mode) (length (g .ids)) (allNumbered (placeIn (g .ids)) (ok .list))
   valid =
       valid-edges (g .ids) (ok .goodVertices .rise) (isUndirected mode) first (ok .list)
-      (values-accepted edgeFile (limits .edges) (edgeTest (isUndirected mode) (g .ids)) 0 first (linesOf edgeLine edges) (ok .list)
+      (values-accepted edgeFile (limits .edges) (edgeTest (isUndirected mode) (placeIn (g .ids))) 0 first (linesOf edgeLine edges) (ok .list)
       (edges-accepted (isUndirected mode) (limits .edges) (g .ids) edges (ok .list) .1 (ok .goodEdges)) (omega arith) .passes)
 
   fine : All (Fine (length (g .ids))) (g .arcs)
-  fine = rw (ok .arcsAre) (arcs-join (isUndirected mode) (length (g .ids)) (allNumbered (g .ids) (ok .list)) (valid .fine))
+  fine = rw (ok .arcsAre) (arcs-join (isUndirected mode) (length (g .ids)) (allNumbered (placeIn (g .ids)) (ok .list)) (valid .fine))
 
   pub same-names : names (areaGraph room g) ≡ names (graphOf g)
   unfolding graphOf

@@ -10,6 +10,7 @@ use Rattle.graph.specs.Arcs.{arcs, backward, parts, offsets}
 use Rattle.graph.specs.Sound.{Graph}
 use Rattle.load.specs.declared.Limits.{Limits}
 use Rattle.lists.specs.Lines.{onward, said}
+use Rattle.graph.specs.Find.{placeIn}
 use Rattle.lists.specs.Files.{identifiers, edgesOf, allNumbered}
 use Rattle.load.specs.Load.{Lists, isUndirected}
 use Rattle.kernels.specs.Answer.{bfsNumber, wccNumber, cdlpNumber}
@@ -29,7 +30,7 @@ deskLines = 1024
 unfoldable pub listsSaid : Bool → List ℕ → List ℕ → Said Lists
 listsSaid both vertices edges =
     onward (identifiers (desk .vertices) vertices)
-    (λ ids. said (λ es. record { ids = ids; arcs = arcs both (allNumbered ids es) }) (edgesOf both (desk .edges) ids edges))
+    (λ ids. said (λ es. record { ids = ids; arcs = arcs both (allNumbered (placeIn ids) es) }) (edgesOf both (desk .edges) (placeIn ids) edges))
 
 -- their graph, with no place to spare
 unfoldable pub graphOf : Lists → Graph
