@@ -85,7 +85,7 @@ use Rattle.trace.proofs.four_kernels.trace_bfs as trace-trace_bfs
 use Rattle.trace.proofs.four_kernels.trace_wcc as trace-trace_wcc
 use Rattle.trace.proofs.four_kernels.trace_cdlp as trace-trace_cdlp
 use Rattle.trace.proofs.four_kernels.trace_lcc as trace-trace_lcc
-use Rattle.trace.proofs.group_book.trace_book_open as trace-trace_book_open
+use Rattle.trace.proofs.group_book.trace_book_open as trace-opened
 use Rattle.trace.proofs.group_book.trace_book_join as trace-trace_book_join
 use Rattle.trace.proofs.group_book.trace_book_head as trace-trace_book_head
 use Rattle.trace.proofs.group_book.trace_book_same as trace-trace_book_same
@@ -309,7 +309,7 @@ verdicts-verdict-one = record { promise = verdicts-verdict.Reads.Learnt; told = 
 
 -- ---- plan
 pub plan-read_job-one : One plan-read_job.ended (λ M 𝓤. plan-read_job.clauses 𝓤)
-plan-read_job-one = record { promise = plan-read_job.Reads.Learnt; told = refl; one = λ _ _ z z′ _ _ p q. (job-one z z′ (meet p q), refl) }
+plan-read_job-one = record { promise = plan-read_job.Reads.Learnt; told = refl; one = λ _ _ z z′ _ _ p q. ((job-one) z z′ (meet p q), refl) }
 
 pub plan-read_sections-one : One plan-read_sections.ended (λ M 𝓤. plan-read_sections.clauses 𝓤)
 plan-read_sections-one = record { promise = plan-read_sections.Reads.Learnt; told = refl; one = λ _ _ z z′ _ _ p q. (checked-one z z′ (meet p q), refl) }
@@ -371,8 +371,8 @@ trace-trace_cdlp-one = record { promise = trace-trace_cdlp.Reads.Learnt; told = 
 pub trace-trace_lcc-one : One trace-trace_lcc.ended (λ M 𝓤. trace-trace_lcc.clauses 𝓤)
 trace-trace_lcc-one = record { promise = trace-trace_lcc.Reads.Learnt; told = refl; one = λ _ _ _ _ _ _ p q. (ap (λ o. o .answer) (meet p q), ap (λ o. (tt, (tt, (tt, (tt, (tt, (tt, (tt, (o .numerators, (o .denominators, (o .work, tt))))))))))) (meet p q)) }
 
-pub trace-trace_book_open-one : One trace-trace_book_open.ended (λ M 𝓤. trace-trace_book_open.clauses 𝓤)
-trace-trace_book_open-one = record { promise = trace-trace_book_open.Reads.Learnt; told = refl; one = λ _ _ _ _ _ _ p q. (ap (λ o. o .answer) (meet p q), ap (λ o. (o .parents, (o .sizes, tt))) (meet p q)) }
+pub «trace-trace_book_open-one» : One trace-opened.ended (λ M 𝓤. trace-opened.clauses 𝓤)
+«trace-trace_book_open-one» = record { promise = trace-opened.Reads.Learnt; told = refl; one = λ _ _ _ _ _ _ p q. (ap (λ o. o .answer) (meet p q), ap (λ o. (o .parents, (o .sizes, tt))) (meet p q)) }
 
 pub trace-trace_book_join-one : One trace-trace_book_join.ended (λ M 𝓤. trace-trace_book_join.clauses 𝓤)
 trace-trace_book_join-one = record { promise = trace-trace_book_join.Reads.Learnt; told = refl; one = λ _ _ _ _ _ _ p q. (ap (λ o. o .answer) (meet p q), ap (λ o. (o .parents, (o .sizes, (tt, (tt, tt))))) (meet p q)) }
