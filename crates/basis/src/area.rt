@@ -1,19 +1,12 @@
 // One element of an area, and an area filled or cleared.
 ghost use mathlib.Core.Path.{_≡_};
-ghost use lib.IntN.{ℤ, pos};
+ghost use lib.IntN.{ℤ};
 ghost use lib.ListN.{length, getD, replicate};
 ghost use Rattle.basis.specs.Area.{cleared, clearedZ};
 
 // The number at a place, 0 past the end.
 pub fn number_at(area: &[usize], i: usize) -> usize
     ensures { λ r. ⌜ r ≡ getD (now (area .entry)) i 0 ⌝ }
-{
-    if i < area.len() { area[i] } else { 0 }
-}
-
-// The signed number at a place, 0 past the end.
-pub fn signed_at(area: &[i64], i: usize) -> i64
-    ensures { λ r. ⌜ r ≡ getD (now (area .entry)) i (pos 0) ⌝ }
 {
     if i < area.len() { area[i] } else { 0 }
 }
@@ -38,16 +31,6 @@ pub fn fill_signed(area: &mut [i64], value: i64)
     }
 }
 
-pub fn fill_bytes(area: &mut [u8], value: u8)
-    ensures { λ _. ⌜ now (area .exit) ≡ replicate (length (now (area .entry))) value ⌝ }
-{
-    let mut i = 0;
-    while i < area.len() {
-        area[i] = value;
-        i += 1;
-    }
-}
-
 pub fn clear(area: &mut [usize])
     ensures { λ _. ⌜ now (area .exit) ≡ cleared (now (area .entry)) ⌝ }
 {
@@ -58,10 +41,4 @@ pub fn clear_signed(area: &mut [i64])
     ensures { λ _. ⌜ now (area .exit) ≡ clearedZ (now (area .entry)) ⌝ }
 {
     fill_signed(area, 0);
-}
-
-pub fn clear_bytes(area: &mut [u8])
-    ensures { λ _. ⌜ now (area .exit) ≡ cleared (now (area .entry)) ⌝ }
-{
-    fill_bytes(area, 0);
 }

@@ -8,13 +8,10 @@ use Rattle.basis.proofs.refusal.Refusal.at as basis-at
 use Rattle.basis.proofs.order.less as basis-less
 use Rattle.basis.proofs.order.same as basis-same
 use Rattle.basis.proofs.area.number_at as basis-number_at
-use Rattle.basis.proofs.area.signed_at as basis-signed_at
 use Rattle.basis.proofs.area.fill as basis-fill
 use Rattle.basis.proofs.area.fill_signed as basis-fill_signed
-use Rattle.basis.proofs.area.fill_bytes as basis-fill_bytes
 use Rattle.basis.proofs.area.clear as basis-clear
 use Rattle.basis.proofs.area.clear_signed as basis-clear_signed
-use Rattle.basis.proofs.area.clear_bytes as basis-clear_bytes
 use Rattle.text.proofs.count.has as text-has
 use Rattle.text.proofs.count.digits as text-digits
 use Rattle.text.proofs.count.line_end as text-line_end
@@ -121,26 +118,17 @@ basis-same-one = record { promise = basis-same.Reads.Learnt; told = refl; one = 
 pub basis-number_at-one : One basis-number_at.ended (λ M 𝓤. basis-number_at.clauses 𝓤)
 basis-number_at-one = record { promise = basis-number_at.Reads.Learnt; told = refl; one = λ _ _ _ _ _ _ p q. (meet p q, refl) }
 
-pub basis-signed_at-one : One basis-signed_at.ended (λ M 𝓤. basis-signed_at.clauses 𝓤)
-basis-signed_at-one = record { promise = basis-signed_at.Reads.Learnt; told = refl; one = λ _ _ _ _ _ _ p q. (meet p q, refl) }
-
 pub basis-fill-one : One basis-fill.ended (λ M 𝓤. basis-fill.clauses 𝓤)
 basis-fill-one = record { promise = basis-fill.Reads.Learnt; told = refl; one = λ _ _ _ _ _ _ p q. (refl, ap (λ l. (l, (tt, tt))) (meet p q)) }
 
 pub basis-fill_signed-one : One basis-fill_signed.ended (λ M 𝓤. basis-fill_signed.clauses 𝓤)
 basis-fill_signed-one = record { promise = basis-fill_signed.Reads.Learnt; told = refl; one = λ _ _ _ _ _ _ p q. (refl, ap (λ l. (l, (tt, tt))) (meet p q)) }
 
-pub basis-fill_bytes-one : One basis-fill_bytes.ended (λ M 𝓤. basis-fill_bytes.clauses 𝓤)
-basis-fill_bytes-one = record { promise = basis-fill_bytes.Reads.Learnt; told = refl; one = λ _ _ _ _ _ _ p q. (refl, ap (λ l. (l, (tt, tt))) (meet p q)) }
-
 pub basis-clear-one : One basis-clear.ended (λ M 𝓤. basis-clear.clauses 𝓤)
 basis-clear-one = record { promise = basis-clear.Reads.Learnt; told = refl; one = λ _ _ _ _ _ _ p q. (refl, ap (λ l. (l, tt)) (meet p q)) }
 
 pub basis-clear_signed-one : One basis-clear_signed.ended (λ M 𝓤. basis-clear_signed.clauses 𝓤)
 basis-clear_signed-one = record { promise = basis-clear_signed.Reads.Learnt; told = refl; one = λ _ _ _ _ _ _ p q. (refl, ap (λ l. (l, tt)) (meet p q)) }
-
-pub basis-clear_bytes-one : One basis-clear_bytes.ended (λ M 𝓤. basis-clear_bytes.clauses 𝓤)
-basis-clear_bytes-one = record { promise = basis-clear_bytes.Reads.Learnt; told = refl; one = λ _ _ _ _ _ _ p q. (refl, ap (λ l. (l, tt)) (meet p q)) }
 
 -- ---- text
 pub text-has-one : One text-has.ended (λ M 𝓤. text-has.clauses 𝓤)

@@ -1,0 +1,100 @@
+// Runs what the rules say to run at the library's limits; what it prints is stored beside it.
+use basis::Refusal;
+use load::Loaded;
+
+fn words(text: &[u8]) {
+    io::write_all(1, text);
+}
+
+fn number(n: usize) {
+    io::print_decimal(1, n as u64);
+}
+
+fn shown(answer: Loaded) {
+    match answer {
+        Loaded::Graph(size) => {
+            words(b"loaded ");
+            number(size.vertices);
+            words(b" ");
+            number(size.arcs);
+        }
+        Loaded::Refused(r) => refused(r),
+    }
+    words(b"\n");
+}
+
+fn refused(r: Refusal) {
+    words(b"refused ");
+    number(r.number);
+    words(b" ");
+    number(r.file);
+    words(b" ");
+    number(r.line);
+}
+
+// A load of a vertex file and no edges into areas of the library's size.
+fn run(vertices: &[u8]) {
+    let mut ids = [0i64; 65536];
+    let mut out_offsets = [0usize; 65537];
+    let mut out_targets = [0usize; 1];
+    let mut in_offsets = [0usize; 65537];
+    let mut in_sources = [0usize; 1];
+    shown(load::load(
+        1,
+        vertices,
+        b"",
+        &mut ids,
+        &mut out_offsets,
+        &mut out_targets,
+        &mut in_offsets,
+        &mut in_sources,
+    ));
+}
+
+// Vertex files of 65,535, 65,536 and 65,537 lines, the numbers from 0 on, written as they are loaded.
+fn fill(text: &mut [u8]) {
+    let mut at = 0;
+    let mut line = 0;
+    while line < 65537 {
+        let past = write::numbers::put_number(text, at, line);
+        at = write::bytes::put(text, past, 10);
+        line += 1;
+        if 65534 < line {
+            front(text, at);
+        }
+    }
+}
+
+// The load of a file's first bytes.
+fn front(text: &[u8], end: usize) {
+    if end <= text.len() {
+        run(&text[..end]);
+    }
+}
+
+// Joining a vertex to itself merges nothing.
+fn joined_to_itself() {
+    let mut parents = [0usize; 3];
+    let mut sizes = [0usize; 3];
+    book::opening::open_book(&mut parents, &mut sizes);
+    match book::joining::join(&mut parents, &mut sizes, 1, 1) {
+        book::Joined::Merged => words(b"merged"),
+        book::Joined::Already => words(b"one group already"),
+        book::Joined::Refused(r) => refused(r),
+    }
+    match book::readings::group_count(&parents, &sizes) {
+        book::Reading::Value(n) => {
+            words(b", groups: ");
+            number(n);
+        }
+        book::Reading::Refused(r) => refused(r),
+    }
+    words(b"\n");
+}
+
+fn main() {
+    let mut text = [0u8; 400000];
+    run(b"");
+    fill(&mut text);
+    joined_to_itself();
+}

@@ -1,0 +1,69 @@
+//! Claims at the edges: coefficients on the line, labels permuted, merged and split, lines missing, surplus and exchanged, damaged lines of each kind.
+
+use trace_engine::{verdict, File, Kernel, Mode, Reason, Refusal, Verdict};
+
+/// The sheet's graph of the paper: coefficients 0/1, 1/2, 1/2, 1/3, 0/1; components -3 and 2 2 2 2.
+const VERTICES: &[u8] = b"-3\n2\n5\n9\n20\n";
+const EDGES: &[u8] = b"2 5\n2 9\n5 2\n5 9\n9 20\n";
+
+fn judged(kernel: Kernel, claim: &str) -> Result<Verdict, Refusal> {
+    verdict(Mode::Directed, VERTICES, EDGES, kernel, claim.as_bytes())
+}
+
+/// A claim of the five coefficients with one of them as given.
+fn coefficients(place: usize, value: &str) -> Result<Verdict, Refusal> {
+    let mut values = ["0", "0.5", "0.5", "0.3333", "0"];
+    values[place] = value;
+    judged(Kernel::Lcc, &["-3", "2", "5", "9", "20"].iter().zip(values).map(|(id, v)| format!("{} {}\n", id, v)).collect::<String>())
+}
+
+fn main() {
+    use Verdict::*;
+    let fault = |reason, line| Err(Refusal { reason, file: File::Claim, line });
+
+    // r = 1/2 and r = 1/3, on both edges of the bound and just past them
+    for good in ["0.5", "0.50005", "0.49995", "5e-01", "5000000e-07", "0.000005e+05"] {
+        assert_eq!(coefficients(1, good), Ok(Match), "{}", good);
+    }
+    for bad in ["0.500051", "0.4999499", "0.51", "5", "0", "1e-99", "9e+99"] {
+        assert_eq!(coefficients(1, bad), Ok(Mismatch(2)), "{}", bad);
+    }
+    assert_eq!((coefficients(3, "0.3333"), coefficients(3, "0.3332999"), coefficients(3, "0.33336")), (Ok(Match), Ok(Mismatch(4)), Ok(Match)));
+    assert_eq!(coefficients(3, "0.33337"), Ok(Mismatch(4)));
+    // r = 0 matches only zero
+    assert_eq!((coefficients(0, "0.0e-99"), coefficients(0, "0e+99"), coefficients(0, "1e-99")), (Ok(Match), Ok(Match), Ok(Mismatch(1))));
+    // r = 1: two lots with arcs both ways between them and a third
+    let triangle = |value: &str| verdict(Mode::Undirected, b"1\n2\n3\n", b"1 2\n1 3\n2 3\n", Kernel::Lcc, format!("1 {}\n2 1\n3 1\n", value).as_bytes());
+    assert_eq!((triangle("1000000e-06"), triangle("1.0001"), triangle("1.00011"), triangle("0.9999")), (Ok(Match), Ok(Match), Ok(Mismatch(1)), Ok(Match)));
+    // the form: 15 digits, no leading zero, no sign before, two digits behind e
+    for form in ["0.50000000000000", "0.49999999999999"] {
+        assert_eq!(coefficients(1, form), Ok(Match), "{}", form);
+    }
+    for form in ["0.500000000000000", "00.5", ".5", "0.", "-0.5", "+0.5", "5e-1", "5E-01", "5e01", "0.5 ", "1/2", ""] {
+        assert_eq!(coefficients(1, form), fault(Reason::BadForm, 2), "{}", form);
+    }
+
+    // labels: permuted, merged, split
+    assert_eq!(judged(Kernel::Wcc, "-3 7\n2 -1\n5 -1\n9 -1\n20 -1\n"), Ok(Match));
+    assert_eq!(judged(Kernel::Wcc, "-3 7\n2 7\n5 7\n9 7\n20 7\n"), Ok(Mismatch(2)));
+    assert_eq!(judged(Kernel::Wcc, "-3 1\n2 2\n5 2\n9 3\n20 3\n"), Ok(Mismatch(4)));
+
+    // depths and labels: equal numbers; lines exchanged, missing, surplus
+    let depths = "-3 9223372036854775807\n2 0\n5 1\n9 1\n20 2\n";
+    assert_eq!(judged(Kernel::Bfs(2), depths), Ok(Match));
+    assert_eq!(judged(Kernel::Bfs(2), &depths.replace("20 2", "20 3")), Ok(Mismatch(5)));
+    assert_eq!(judged(Kernel::Cdlp(2), "-3 -3\n2 2\n5 5\n9 2\n20 2\n"), Ok(Match));
+    assert_eq!(judged(Kernel::Cdlp(1), "-3 -3\n2 5\n5 2\n9 2\n20 9\n"), Ok(Match));
+    assert_eq!(judged(Kernel::Bfs(2), "-3 9223372036854775807\n5 1\n2 0\n9 1\n20 2\n"), Ok(Incomplete(2)));
+    assert_eq!(judged(Kernel::Bfs(2), &depths[..depths.len() - 5]), Ok(Incomplete(5)));
+    assert_eq!(judged(Kernel::Bfs(2), &format!("{}21 1\n", depths)), Ok(Incomplete(6)));
+    assert_eq!(judged(Kernel::Bfs(2), ""), Ok(Incomplete(1)));
+
+    // damaged lines come before everything else of the claim, and the kernel's refusals before the claim
+    assert_eq!(judged(Kernel::Bfs(2), &depths.replace("9 1\n", "9  1\n")), fault(Reason::BadForm, 4));
+    assert_eq!(judged(Kernel::Bfs(2), "1 1\n2 9223372036854775808\n"), fault(Reason::OutOfRange, 2));
+    assert_eq!(judged(Kernel::Bfs(2), "1 1\n2 1"), fault(Reason::BadForm, 2));
+    assert_eq!(judged(Kernel::Bfs(3), "x"), Err(Refusal { reason: Reason::NotThere, file: File::None, line: 0 }));
+    assert_eq!(judged(Kernel::Cdlp(-1), "x"), Err(Refusal { reason: Reason::BadRounds, file: File::None, line: 0 }));
+    println!("claims: verdicts at the edges are as they should be");
+}
