@@ -58,7 +58,7 @@ extern "C" {
  * Loads the graph of the vertex and edge files, runs the kernel, and judges the claim.
  * Limits: 1,024 vertex lines, 2,048 edge lines, 1,024 claim lines. `parameter` is the root's identifier for BFS, the
  * iterations for CDLP, and ignored for WCC and LCC. The order of checks: 12, the load's, 10 or 11, the claim's.
- * It needs no area: it uses about 200,000 bytes of the caller's stack.
+ * It needs no area: its own take about 131,000 bytes of the stack.
  * The answer is number * 1,000,000 + file * 100,000 + line.
  */
 uint64_t trace_verdict(const uint8_t *vertices, size_t vertices_length,
