@@ -1,15 +1,18 @@
-/* bench [quick]: the proved engine, through its host calls, beside the plain engine, on the same inputs in one run. For each stage the best time of several
-   repetitions of both, and their ratio; the results of both are compared. A kernel's core is its call less the soundness check, which is measured as a call that is
-   refused right behind it. */
+/* bench DESK PLAIN_DESK [quick]: the proved engine, through its host calls, beside the plain engine, on the same inputs in one run, and the two desk programs on a
+   full sheet. For each stage the best time of several repetitions of both, and their ratio; the results of both are compared. A kernel's core is its call less the
+   soundness check, which is measured as a call that is refused right behind it. */
 #define _POSIX_C_SOURCE 200809L
 #include "../hosts/c/trace.h"
 #include "plain.h"
 
+#include <fcntl.h>
 #include <inttypes.h>
 #include <stdio.h>
 #include <stdlib.h>
 #include <string.h>
+#include <sys/wait.h>
 #include <time.h>
+#include <unistd.h>
 
 static double now(void) {
     struct timespec t;
@@ -117,6 +120,17 @@ static struct text claim_of(const struct graph *g, const int64_t *result) {
     return t;
 }
 
+/* The first vertex, from the middle on, from which a tenth of the graph is reached. */
+static size_t far_reaching(const struct graph *g, int64_t *depth, size_t *queue) {
+    for (size_t v = g->vertices / 2; v < g->vertices; v++) {
+        size_t reached = 0;
+        plain_bfs(g, v, depth, queue);
+        for (size_t w = 0; w < g->vertices; w++) reached += depth[w] != INT64_MAX;
+        if (10 * reached >= g->vertices) return v;
+    }
+    return g->vertices / 2;
+}
+
 static void measure(struct lists l, int with_lcc, int with_groups, int times) {
     size_t n = l.vertices, m = l.directed ? l.edges : 2 * l.edges;
     struct graph g = areas(n, m), p = areas(n, m);
@@ -139,10 +153,11 @@ static void measure(struct lists l, int with_lcc, int with_groups, int times) {
     row(l.name, "load", engine, plain);
 
     /* a root that is not there is refused right behind the soundness check */
-    BEST(bfs, TIMES(plain_bfs(&p, n / 2, right, x)));
+    size_t root = far_reaching(&p, right, x);
+    BEST(bfs, TIMES(plain_bfs(&p, root, right, x)));
     BEST(sound, TIMES(trace_bfs(GRAPH(g, n, m), 1, result, n, a, n)));
     row(l.name, "soundness : plain bfs", sound, bfs);
-    BEST(engine, TIMES(trace_bfs(GRAPH(g, n, m), g.ids[n / 2], result, n, a, n)));
+    BEST(engine, TIMES(trace_bfs(GRAPH(g, n, m), g.ids[root], result, n, a, n)));
     same(result, right, n * 8, "depths");
     row(l.name, "bfs core", engine - sound, bfs);
     struct text depths = claim_of(&p, right);
@@ -161,9 +176,9 @@ static void measure(struct lists l, int with_lcc, int with_groups, int times) {
 
 #define JUDGE(kernel, parameter, claim) trace_judge(GRAPH(g, n, m), kernel, parameter, (claim).bytes, (claim).length, result, n, claimed, n, a, n, b, n, c, n)
     uint64_t verdict = 0;
-    BEST(engine, TIMES(verdict |= JUDGE(1, g.ids[n / 2], depths)));
+    BEST(engine, TIMES(verdict |= JUDGE(1, g.ids[root], depths)));
     BEST(plain, TIMES({
-             plain_bfs(&p, n / 2, right, x);
+             plain_bfs(&p, root, right, x);
              verdict |= plain_judge(&p, right, depths.bytes, depths.length);
          }));
     row(l.name, "verdict bfs, no check", engine - sound, plain);
@@ -235,8 +250,61 @@ static void measure_book(size_t n, size_t calls) {
     row("(e) book of 65,536", "1,000,000 heads", engine, plain);
 }
 
+/* ---- the desk programs: a process each, from its start to its end */
+static void run_program(const char *program, const char *sheet, const char *to) {
+    pid_t child = fork();
+    if (child == 0) {
+        int in = open(sheet, O_RDONLY), out = open(to, O_WRONLY | O_CREAT | O_TRUNC, 0600);
+        if (in < 0 || out < 0 || dup2(in, 0) < 0 || dup2(out, 1) < 0) _exit(3);
+        execl(program, program, (char *)0);
+        _exit(3);
+    }
+    int status = 0;
+    if (child < 0 || waitpid(child, &status, 0) != child || status != 0) {
+        printf("a program failed: %s\n", program);
+        exit(1);
+    }
+}
+
+static struct text contents(const char *file) {
+    struct text t = {room(1000000, 1), 0};
+    FILE *f = fopen(file, "rb");
+    if (!f) exit(1);
+    t.length = fread(t.bytes, 1, 1000000, f);
+    fclose(f);
+    return t;
+}
+
+static void measure_desk(const char *engine_program, const char *plain_program) {
+    char folder[] = "/tmp/benchXXXXXX", sheet[64], out[2][64];
+    if (!mkdtemp(folder)) exit(1);
+    snprintf(sheet, sizeof sheet, "%s/sheet", folder);
+    for (int i = 0; i < 2; i++) snprintf(out[i], sizeof out[i], "%s/out%d", folder, i);
+    struct lists l = make("full sheet", 1, 0, 1024, 2048);
+    FILE *f = fopen(sheet, "wb");
+    if (!f) exit(1);
+    fprintf(f, "directed\n%zu\n%.*s%zu\n%.*s16\n", l.vertices, (int)l.vertex_file.length, (const char *)l.vertex_file.bytes, l.edges, (int)l.edge_file.length,
+            (const char *)l.edge_file.bytes);
+    for (int i = 0; i < 4; i++) fprintf(f, "bfs %d\nwcc\ncdlp 10\nlcc\n", i * 1000003 - 1000000000);
+    fclose(f);
+    double engine, plain;
+    int several = repeat;
+    repeat = 20 * several;
+    BEST(engine, run_program(engine_program, sheet, out[0]));
+    BEST(plain, run_program(plain_program, sheet, out[1]));
+    repeat = several;
+    struct text a = contents(out[0]), b = contents(out[1]);
+    if (a.length != b.length) exit(1);
+    same(a.bytes, b.bytes, a.length, "the desk programs' output");
+    row("full sheet, 16 jobs", "desk program", engine, plain);
+    for (int i = 0; i < 2; i++) unlink(out[i]);
+    unlink(sheet);
+    rmdir(folder);
+}
+
 int main(int argc, char **argv) {
-    int quick = argc > 1 && strcmp(argv[1], "quick") == 0;
+    if (argc < 3) return 2;
+    int quick = argc > 3 && strcmp(argv[3], "quick") == 0;
     if (quick) repeat = 3;
     printf("| %-28s | %-22s | %10s | %10s | %6s |\n", "input", "stage", "engine ms", "plain ms", "ratio");
     printf("|------------------------------|------------------------|-----------:|-----------:|-------:|\n");
@@ -254,5 +322,6 @@ int main(int argc, char **argv) {
     measure(make("4,096 vertices, 16,384 edges", 1, 0, 4096, 16384), 1, 0, 10);
     measure(make("16,384 vertices, undirected", 0, 0, 16384, 20000), 0, 1, 1);
     measure_book(65536, 1000000);
+    measure_desk(argv[1], argv[2]);
     return 0;
 }

@@ -1,6 +1,6 @@
 //! The engine at its limits, through the Rust crate: what the paper says to run, and each limit passed by one.
 
-use trace_engine::{verdict, Book, File, Graph, Kernel, Mode, Reason, Refusal, Verdict};
+use trace_engine::{calls, verdict, Book, File, Graph, Kernel, Mode, Reason, Refusal, Verdict};
 
 fn vertices(n: usize) -> Vec<u8> {
     (0..n).map(|i| format!("{}\n", i)).collect::<String>().into_bytes()
@@ -63,6 +63,16 @@ fn main() {
 
     // a book of 65,536 opens and takes every join, one more is 8; "joining a vertex to itself merges nothing"
     assert_eq!(Book::open(65_537), Err(refused(Reason::NoRoom, File::None, 0)));
+    let (mut parents, mut sizes) = (vec![7; 65_537], vec![9; 65_537]);
+    let no_room = 8 * 10_u64.pow(15);
+    assert_eq!(calls::book_open(&mut parents, &mut sizes), no_room);
+    assert_eq!(calls::book_join(&mut parents, &mut sizes, 0, 1), no_room);
+    assert_eq!(calls::book_head(&parents, &sizes, 0), no_room);
+    assert_eq!(calls::book_same(&parents, &sizes, 0, 1), no_room);
+    assert_eq!(calls::book_size(&parents, &sizes, 0), no_room);
+    assert_eq!(calls::book_count(&parents, &sizes), no_room);
+    assert_eq!(calls::book_limit(&parents, &sizes, 0), no_room);
+    assert_eq!((parents, sizes), (vec![7; 65_537], vec![9; 65_537]));
     let mut book = Book::open(65_536).unwrap();
     assert_eq!(book.join(7, 7), Ok(false));
     assert_eq!(book.count(), Ok(65_536));

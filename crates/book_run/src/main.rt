@@ -125,28 +125,10 @@ fn unlike() {
     stayed(filled(&p, 7) && filled(&s, 9));
 }
 
-fn past_the_limit() {
-    let mut p = [7usize; 65537];
-    let mut s = [9usize; 65537];
-    words(b"areas of 65537: ");
-    every(&mut p, &mut s);
-    words(b"areas of 65537");
-    stayed(filled(&p, 7) && filled(&s, 9));
-}
-
-fn at_the_limit() {
-    let mut p = [7usize; 65536];
-    let mut s = [9usize; 65536];
-    words(b"areas of 65536: ");
-    every(&mut p, &mut s);
-}
-
 fn main() {
     worked();
     sound();
     damaged();
     path();
     unlike();
-    past_the_limit();
-    at_the_limit();
 }
