@@ -10,14 +10,20 @@
 #include <stdio.h>
 #include <stdlib.h>
 #include <string.h>
+#include <sys/resource.h>
+#include <sys/time.h>
 #include <sys/wait.h>
 #include <time.h>
 #include <unistd.h>
 
+/* Processor time of this process and of the programs it has run, so that what else runs on the machine counts less. */
 static double now(void) {
     struct timespec t;
-    clock_gettime(CLOCK_MONOTONIC, &t);
-    return (double)t.tv_sec + (double)t.tv_nsec * 1e-9;
+    struct rusage ended;
+    clock_gettime(CLOCK_PROCESS_CPUTIME_ID, &t);
+    getrusage(RUSAGE_CHILDREN, &ended);
+    return (double)t.tv_sec + (double)t.tv_nsec * 1e-9 + (double)(ended.ru_utime.tv_sec + ended.ru_stime.tv_sec) +
+           (double)(ended.ru_utime.tv_usec + ended.ru_stime.tv_usec) * 1e-6;
 }
 
 static uint64_t seed;
