@@ -22,9 +22,9 @@ use Rattle.graph.specs.declared.find.Found.{Found}
 use Rattle.graph.specs.declared.find.Found.the-variants.{At, Missing}
 use Rattle.graph.specs.Part.{partOf}
 use Rattle.graph.specs.Find.{bisectBy}
-use Rattle.graph.specs.Sound.{Graph, lent, soundIds, other, soundOffsets, soundPart, soundSide, mirrored, reversed, soundGraph}
-use Rattle.graph.specs.Steps.{idsRise, neverFall, soundParts, soundSides, located, bisectFinds, answered}
-use Rattle.graph.specs.Walk.{Ways, bothWays}
+use Rattle.graph.specs.Sound.{Graph, outward, inward, lent, idsRise, soundIds, other, neverFall, soundOffsets, soundPart, soundParts, soundSide, mirrored, bothWays, soundGraph}
+use Rattle.graph.specs.Steps.{soundSides, located, bisectFinds, answered}
+use Rattle.graph.specs.Walk.{Ways}
 use Rattle.graph.proofs.Parts.{part-far}
 use Rattle.graph.proofs.Sounds.{part-rises}
 use Rattle.graph.proofs.Finds.{Halving, halving-here, halving-end, Right, bisect-finds}
@@ -219,7 +219,7 @@ module _ (n : ℕ) (from back : List ℕ) (from′ back′ : List ℕ) where
   mirrored-end u a b h = every-end (λ u. answered n back′ back u (partOf n from′ from u)) n u a b h
 
 -- ---- the whole graph: a clause that fails, and all of them
-graph-is : (g : Graph) → soundGraph g ≡ (soundSides g && reversed g)
+graph-is : (g : Graph) → soundGraph g ≡ (soundSides g && bothWays (g .vertices) (outward g) (inward g))
 unfolding soundGraph soundSides
 graph-is g = refl
 

@@ -19,10 +19,9 @@ use Rattle.basis.proofs.Scans.{every-at, every-of, every-fail, each-mem, mem-in
 use Rattle.basis.proofs.Orders.{rising-lt, rising-of}
 use Rattle.basis.proofs.Areas.{column-more, column-length, column-at}
 use Rattle.graph.specs.Part.{partOf}
-use Rattle.graph.specs.Sound.{soundPart, other, mirrored}
-use Rattle.graph.specs.Steps.{soundParts}
-use Rattle.graph.specs.Walk.{Ways, bothWays, Checked, checked, atStarts, isNext, stepped, walked, atEnds}
-use Rattle.graph.proofs.Sounds.{Side, side-of, offset-most, part-slice, part-rises, part-others, other-below, mirrored-of}
+use Rattle.graph.specs.Sound.{soundPart, other, soundParts, mirrored, bothWays}
+use Rattle.graph.specs.Walk.{Ways, Checked, checked, atStarts, isNext, stepped, walked, atEnds}
+use Rattle.graph.proofs.Sounds.{Side, side-of, offset-most, part-slice, part-rises, part-others, other-below, mirrored-at, mirrored-of}
 
 or-none : (t : Bool) → (t || false) ≡ t
 or-none true = refl
@@ -144,11 +143,6 @@ module _ (out : ℕ → List ℕ) where
         | no d ↦ ltb-true v u (and-first (ltb v u) (mem w (out v)) (sym (passed-other u i v w d) ∙ h))
       ]
 
-mirrored-at : (n : ℕ) (from back : ℕ → List ℕ) → mirrored n from back ≡ true → (u w : ℕ) → u < n → mem w (from u) ≡ true → mem u (back w) ≡ true
-unfolding mirrored
-mirrored-at n from back h u w l m =
-    each-mem (λ w. mem u (back w)) (from u) (every-at (λ u. each (λ w. mem u (back w)) (from u)) n u l h) w m
-
 -- from the start of w's part up to its cursor stand exactly the vertices whose arcs to w are passed, and they rise
 record Cursors (n : ℕ) (out : ℕ → List ℕ) (off src : List ℕ) (u i : ℕ) (cursors : List ℕ) : Type 0 where
   room : n ≤ length cursors
@@ -193,21 +187,21 @@ module _ {n : ℕ} {out : ℕ → List ℕ} {off src : List ℕ} (s : Ways n out
     into-below : (v : ℕ) → mem v (partOf n off src w) ≡ true → v < n
     into-below v h = other-below n w v (each-mem (other n w) (partOf n off src w) (part-others n w (partOf n off src w) (side .good w l)) v h)
 
-  module _ (u : ℕ) (cursors : List ℕ) where
-    -- the walk begins
-    walk-none : n ≤ length cursors → ((w : ℕ) → w < n → getD cursors w 0 ≡ start off w) → Cursors n out off src 0 0 cursors
-    walk-none h e =
-        record {
-          room = h;
-          from = λ w l. let x = e w l in omega arith;
-          upto = λ w l. let x = e w l in let y = side .grows w l in let z = end-low w l in omega arith;
-          exact = λ w l v. rw (e w l, stretch-none src (start off w), passed-below out 0 v w, le-ltb v 0 (omega arith)) (unfold mem in refl);
-          rises = λ w l. rw (e w l, stretch-none src (start off w));
-        }
+  -- the walk begins
+  walk-none : (cursors : List ℕ) → n ≤ length cursors → ((w : ℕ) → w < n → getD cursors w 0 ≡ start off w) → Cursors n out off src 0 0 cursors
+  walk-none cursors h e =
+      record {
+        room = h;
+        from = λ w l. let x = e w l in omega arith;
+        upto = λ w l. let x = e w l in let y = side .grows w l in let z = end-low w l in omega arith;
+        exact = λ w l v. rw (e w l, stretch-none src (start off w), passed-below out 0 v w, le-ltb v 0 (omega arith)) (unfold mem in refl);
+        rises = λ w l. rw (e w l, stretch-none src (start off w));
+      }
 
-    -- a vertex's arcs are all passed
-    walk-on : (i : ℕ) → length (out u) ≤ i → Cursors n out off src u i cursors → Cursors n out off src (u + 1) 0 cursors
-    walk-on i h k = record { room = k .room; from = k .from; upto = k .upto; exact = λ w l v. k .exact w l v ∙ passed-on out u i v w h; rises = k .rises }
+  -- a vertex's arcs are all passed
+  walk-on : (u i : ℕ) (cursors : List ℕ) → length (out u) ≤ i → Cursors n out off src u i cursors → Cursors n out off src (u + 1) 0 cursors
+  walk-on u i cursors h k =
+      record { room = k .room; from = k .from; upto = k .upto; exact = λ w l v. k .exact w l v ∙ passed-on out u i v w h; rises = k .rises }
 
   -- u's arc i, to w
   module _ (u i : ℕ) (lu : u < n) (li : i < length (out u)) (cursors : List ℕ) (k : Cursors n out off src u i cursors) where
@@ -231,49 +225,42 @@ module _ {n : ℕ} {out : ℕ → List ℕ} {off src : List ℕ} (s : Ways n out
     walk-more lc next =
         record {
           room = rw (length-set cursors w (c + 1)) (k .room);
-          from = λ x l. elim (ℕ-discrete x w) as (λ _. start off x ≤ getD (set cursors w (c + 1)) x 0) [
-            | yes q ↦ rw (q, at-w) (let y = k .from w lw in omega arith)
-            | no f ↦ rw (at-other x f) (k .from x l)
-          ];
-          upto = λ x l. elim (ℕ-discrete x w) as (λ _. getD (set cursors w (c + 1)) x 0 ≤ length src) [
-            | yes q ↦ rw (q, at-w) (omega arith)
-            | no f ↦ rw (at-other x f) (k .upto x l)
-          ];
-          exact = exactly;
-          rises = λ x l. elim (ℕ-discrete x w) as (λ _. rising (stretch src (start off x) (getD (set cursors w (c + 1)) x 0)) ≡ true) [
-            | yes q ↦ rw (q, at-w, moved) (rising-last u (stretch src (start off w) c) (k .rises w lw) (λ v h. passed-less out u i v w (sym (k .exact w lw v) ∙ h) unpassed))
-            | no f ↦ rw (at-other x f) (k .rises x l)
-          ];
+          from = moves (λ x y. start off x ≤ y) (let a = k .from w lw in omega arith) (λ x l f. k .from x l);
+          upto = moves (λ x y. y ≤ length src) (omega arith) (λ x l f. k .upto x l);
+          exact = moves (λ x y. (v : ℕ) → mem v (stretch src (start off x) y) ≡ passed out u (i + 1) v x) here-exact other-exact;
+          rises = moves (λ x y. rising (stretch src (start off x) y) ≡ true)
+              (rw moved (rising-last u (stretch src (start off w) c) (k .rises w lw) (λ v h. passed-less out u i v w (sym (k .exact w lw v) ∙ h) unpassed))) (λ x l f. k .rises x l);
         }
       where
+        -- what holds of w at its new cursor, and of the others at theirs
+        moves : (P : ℕ → ℕ → Type 0) → P w (c + 1) → ((x : ℕ) → x < n → (x ≡ w → ⊥) → P x (getD cursors x 0)) → (x : ℕ) → x < n → P x (getD (set cursors w (c + 1)) x 0)
+        moves P a b x l =
+            elim (ℕ-discrete x w) as (λ _. P x (getD (set cursors w (c + 1)) x 0)) [
+              | yes q ↦ rw (q, getD-set-same cursors w (c + 1) 0 (let r = k .room in let g = lw in omega arith)) a
+              | no f ↦ rw (getD-set-other cursors w x (c + 1) 0 f) (b x l f)
+            ]
+
         more : take (i + 1) (out u) ≡ take i (out u) ++ (w ∷ [])
         more = rw add-one (take-suc (out u) i 0 li)
 
         moved : stretch src (start off w) (c + 1) ≡ stretch src (start off w) c ++ (u ∷ [])
         moved = stretch-more src (start off w) c (k .from w lw) lc ∙ ap (λ (x : ℕ). stretch src (start off w) c ++ (x ∷ [])) next
 
-        at-w : getD (set cursors w (c + 1)) w 0 ≡ c + 1
-        at-w = getD-set-same cursors w (c + 1) 0 (let r = k .room in let l = lw in omega arith)
+        here-exact : (v : ℕ) → mem v (stretch src (start off w) (c + 1)) ≡ passed out u (i + 1) v w
+        here-exact v =
+            elim (ℕ-discrete v u) as (λ _. mem v (stretch src (start off w) (c + 1)) ≡ passed out u (i + 1) v w) [
+              | yes e ↦ rw (e, passed-self out u (i + 1) w, moved, more) (mem-last u (stretch src (start off w) c) ∙ sym (mem-last w (take i (out u))))
+              | no d ↦
+                  rw moved
+                  (mem-before v u (stretch src (start off w) c) d ∙ k .exact w lw v ∙ passed-other out u i v w d ∙ sym (passed-other out u (i + 1) v w d))
+            ]
 
-        at-other : (x : ℕ) → (x ≡ w → ⊥) → getD (set cursors w (c + 1)) x 0 ≡ getD cursors x 0
-        at-other x f = getD-set-other cursors w x (c + 1) 0 f
-
-        exactly : (x : ℕ) → x < n → (v : ℕ) → mem v (stretch src (start off x) (getD (set cursors w (c + 1)) x 0)) ≡ passed out u (i + 1) v x
-        exactly x l v =
-            elim (ℕ-discrete x w) as (λ _. mem v (stretch src (start off x) (getD (set cursors w (c + 1)) x 0)) ≡ passed out u (i + 1) v x) [
-              | yes q ↦
-                  elim (ℕ-discrete v u) as (λ _. mem v (stretch src (start off x) (getD (set cursors w (c + 1)) x 0)) ≡ passed out u (i + 1) v x) [
-                    | yes e ↦ rw (q, e, passed-self out u (i + 1) w, at-w, moved, more) (mem-last u (stretch src (start off w) c) ∙ sym (mem-last w (take i (out u))))
-                    | no d ↦
-                        rw (q, at-w, moved)
-                        (mem-before v u (stretch src (start off w) c) d ∙ k .exact w lw v ∙ passed-other out u i v w d ∙ sym (passed-other out u (i + 1) v w d))
-                  ]
-              | no f ↦
-                  ap (λ (j : ℕ). mem v (stretch src (start off x) j)) (at-other x f) ∙ k .exact x l v
-                  ∙ elim (ℕ-discrete v u) as (λ _. passed out u i v x ≡ passed out u (i + 1) v x) [
-                    | yes e ↦ rw (e, passed-self out u i x, passed-self out u (i + 1) x, more) (sym (mem-before x w (take i (out u)) f))
-                    | no d ↦ passed-other out u i v x d ∙ sym (passed-other out u (i + 1) v x d)
-                  ]
+        other-exact : (x : ℕ) → x < n → (x ≡ w → ⊥) → (v : ℕ) → mem v (stretch src (start off x) (getD cursors x 0)) ≡ passed out u (i + 1) v x
+        other-exact x l f v =
+            k .exact x l v
+            ∙ elim (ℕ-discrete v u) as (λ _. passed out u i v x ≡ passed out u (i + 1) v x) [
+              | yes e ↦ rw (e, passed-self out u i x, passed-self out u (i + 1) x, more) (sym (mem-before x w (take i (out u)) f))
+              | no d ↦ passed-other out u i v x d ∙ sym (passed-other out u (i + 1) v x d)
             ]
 
     -- it does not: the arcs are not each other's reversed
@@ -332,7 +319,6 @@ module _ {n : ℕ} {out : ℕ → List ℕ} {off src : List ℕ} (s : Ways n out
           -- the source at a cursor that is before its part's end is one whose arc is passed
           early : (w : ℕ) → w < n → getD cursors w 0 < end off w → getD cursors w 0 ≡ end off w
           early w l g =
-              let x = getD src (getD cursors w 0) 0 in
               let m : mem (getD src (getD cursors w 0) 0) (partOf n off src w) ≡ true = rw (into-is w l) (stretch-mem src (start off w) (end off w) (getD cursors w 0) (k .from w l) g (end-low w l)) in
               let o = mirrored-at n (partOf n off src) out (and-second (mirrored n out (partOf n off src)) (mirrored n (partOf n off src) out) h) w (getD src (getD cursors w 0) 0) l m in
               clash (k .exact w l (getD src (getD cursors w 0) 0) ∙ passed-of out n 0 (getD src (getD cursors w 0) 0) w (into-below w l (getD src (getD cursors w 0) 0) m) o)
@@ -444,7 +430,7 @@ module _ {n : ℕ} {out : ℕ → List ℕ} {off src : List ℕ} (s : Ways n out
   told-step : (u : ℕ) → u < n → (left i : ℕ) → i + left ≡ length (out u) → (cursors : List ℕ) → Cursors n out off src u i cursors
       → Told n out off src (u + 1) (stepped src u (drop i (out u)) cursors)
   told-step u lu zero i e cursors k =
-      rw (stepped-end src u (out u) i cursors (omega arith)) (record { came = λ _. walk-on s u cursors i (omega arith) k; broke = λ h. clash refl h })
+      rw (stepped-end src u (out u) i cursors (omega arith)) (record { came = λ _. walk-on s u i cursors (omega arith) k; broke = λ h. clash refl h })
   told-step u lu (suc left) i e cursors k =
       let li : i < length (out u) = omega arith in
       let w = getD (out u) i 0 in
@@ -481,7 +467,7 @@ module _ {n : ℕ} {out : ℕ → List ℕ} {off src : List ℕ} (s : Ways n out
   -- d is what stood in the area, b and a stand there before and after the walk
   module _ (d b : List ℕ) (q : b ≡ atStarts n off d) (t : Bool) (a : List ℕ) (e : checked t a ≡ walked src out n b) where
     told : Told n out off src n (checked t a)
-    told = rw e (told-walk s b (walk-none s 0 b (rw q (starts-room n off d)) (λ w l. ap (λ (x : List ℕ). getD x w 0) q ∙ starts-at n off d w l)) n (omega arith))
+    told = rw e (told-walk s b (walk-none s b (rw q (starts-room n off d)) (λ w l. ap (λ (x : List ℕ). getD x w 0) q ∙ starts-at n off d w l)) n (omega arith))
 
     pub ways-stop : not t ≡ true → false ≡ bothWays n out (partOf n off src)
     ways-stop h = sym (told .broke (not-true t h))

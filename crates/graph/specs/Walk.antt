@@ -8,17 +8,13 @@ use lib.ListN.{length, getD, set, drop}
 use lib.Dec.{eqb, ltb}
 use Rattle.basis.specs.Area.{column}
 use Rattle.basis.specs.Scan.{every}
-use Rattle.graph.specs.Sound.{soundPart, soundSide, mirrored}
+use Rattle.graph.specs.Sound.{soundPart, soundSide}
 
 -- each way is sound for itself, the outward one as a view
 pub record Ways (n : ℕ) (out : ℕ → List ℕ) (off src : List ℕ) : Type 0 where
   pub arcs : ℕ
   pub outward : every n (λ v. soundPart n v (out v)) ≡ true
   pub inward : soundSide n arcs off src ≡ true
-
--- the arcs of two views are each other's reversed
-abbrev pub bothWays : ℕ → (ℕ → List ℕ) → (ℕ → List ℕ) → Bool
-bothWays n out into = mirrored n out into && mirrored n into out
 
 -- what a check that is lent a working area answers and leaves there
 pub record Checked : Type 0 where
