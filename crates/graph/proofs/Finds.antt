@@ -190,7 +190,3 @@ find-rising l id r = right-one signed-order (pos 0) l r id (bisected l id) (plac
 -- an identifier has the number i exactly where it stands at place i
 pub place-at : (l : List ℤ) (id : ℤ) → risingZ l ≡ true → (i : ℕ) → (placeIn l id ≡ At i) ↔ ((i < length l) × (getD l i (pos 0) ≡ id))
 place-at l id r i = ((λ e. rw e at (place-right l id)), λ h. right-one signed-order (pos 0) l r id (placeIn l id) (At i) (place-right l id) h)
-
--- and none exactly where no place has it
-pub place-missing : (l : List ℤ) (id : ℤ) → risingZ l ≡ true → (placeIn l id ≡ Missing) ↔ ((i : ℕ) → i < length l → getD l i (pos 0) ≡ id → ⊥)
-place-missing l id r = ((λ e. rw e at (place-right l id)), λ h. right-one signed-order (pos 0) l r id (placeIn l id) Missing (place-right l id) h)

@@ -1,22 +1,20 @@
 -- What a sound graph is, clause by clause: the readable meaning of `soundGraph`. Assumes nothing.
 use Prim.Native.Nat.{ℕ, zero, suc, _+_, _-_, _≤_, _<_}
-use mathlib.Core.Path.{_≡_, refl, sym, _∙_}
+use mathlib.Core.Path.{_≡_, refl, sym}
 use mathlib.Core.Logic.{_↔_}
 use mathlib.Core.Bool.{true, not, _&&_}
-use mathlib.Core.List.{List, [], _∷_}
+use mathlib.Core.List.{List}
 use native.Mathlib.Omega.{arith}
 use native.Mathlib.Numerals.{add-one}
-use native.Mathlib.Decide.{ℕ-discrete, decLt}
-use lib.IntN.{ℤ, pos}
-use lib.ListN.{length, getD, take, drop, length-take, length-drop}
-use lib.Seq.{getD-take}
+use native.Mathlib.Decide.{ℕ-discrete}
+use lib.IntN.{ℤ}
+use lib.ListN.{length, getD, take, drop, length-take}
 use lib.Dec.{eqb, leb, ltb}
 use borrow.Author.Tests.{ltb-true, leb-true, eqb-true, eqb-false, not-true, lt-ltb, le-leb, eq-eqb}
 use Rattle.basis.specs.Order.{rising, risingZ}
 use Rattle.basis.specs.Scan.{every, each, allBelow, mem}
 use Rattle.basis.proofs.Tests.{and-first, and-second, and-both}
 use Rattle.basis.proofs.Scans.{every-at, every-of, each-at, each-of, mem-index, each-mem, below-of}
-use Rattle.basis.proofs.Orders.{rising-lt}
 use Rattle.graph.specs.Part.{partOf}
 use Rattle.graph.specs.Sound.{Graph, outward, inward, names, soundIds, soundOffsets, other, soundPart, soundSide, mirrored, soundGraph}
 use Rattle.graph.specs.Find.{placeIn, bisected}
@@ -62,7 +60,7 @@ other-below n v w h = ltb-true w n (and-first (ltb w n) (not (eqb w v)) h)
 pub other-differs : (n v w : ℕ) → other n v w ≡ true → w ≡ v → ⊥
 other-differs n v w h = eqb-false w v (not-true (eqb w v) (and-second (ltb w n) (not (eqb w v)) h))
 
-pub others-below : (n v : ℕ) (l : List ℕ) → each (other n v) l ≡ true → allBelow n l ≡ true
+others-below : (n v : ℕ) (l : List ℕ) → each (other n v) l ≡ true → allBelow n l ≡ true
 others-below n v l h = below-of n l (λ i g. other-below n v (getD l i 0) (each-at (other n v) 0 l h i g))
 
 -- ---- the whole graph
@@ -100,6 +98,18 @@ sound-of g h =
       forth = and-second e f q;
     }
 
+-- ---- each arc stands at its other end
+pub mirrored-at : (n : ℕ) (from back : ℕ → List ℕ) → mirrored n from back ≡ true → (u w : ℕ) → u < n → mem w (from u) ≡ true → mem u (back w) ≡ true
+unfolding mirrored
+mirrored-at n from back h u w l m =
+    each-mem (λ w. mem u (back w)) (from u) (every-at (λ u. each (λ w. mem u (back w)) (from u)) n u l h) w m
+
+pub mirrored-of : (n : ℕ) (from back : ℕ → List ℕ) → ((u w : ℕ) → u < n → mem w (from u) ≡ true → mem u (back w) ≡ true) → mirrored n from back ≡ true
+unfolding mirrored
+mirrored-of n from back h =
+    every-of (λ u. each (λ w. mem u (back w)) (from u)) n
+    (λ u l. each-of (λ w. mem u (back w)) 0 (from u) (λ i k. h u (getD (from u) i 0) l (mem-index (getD (from u) i 0) (from u) i k refl)))
+
 -- ---- what the parts of a sound graph are
 module _ (g : Graph) (s : Sound g) where
   pub names-length : length (names g) ≡ g .vertices
@@ -126,14 +136,11 @@ module _ (g : Graph) (s : Sound g) where
 
   -- an arc stands outward exactly where it stands inward
   pub arcs-agree : (u w : ℕ) → u < g .vertices → w < g .vertices → (mem w (outward g u) ≡ true) ↔ (mem u (inward g w) ≡ true)
-  unfolding mirrored
-  arcs-agree u w lu lw = (
-    (λ x. each-mem (λ w. mem u (inward g w)) (outward g u) (every-at (λ u. each (λ w. mem u (inward g w)) (outward g u)) (g .vertices) u lu (s .back)) w x),
-    λ x. each-mem (λ u. mem w (outward g u)) (inward g w) (every-at (λ w. each (λ u. mem w (outward g u)) (inward g w)) (g .vertices) w lw (s .forth)) u x,
-  )
+  arcs-agree u w lu lw =
+      (mirrored-at (g .vertices) (outward g) (inward g) (s .back) u w lu, mirrored-at (g .vertices) (inward g) (outward g) (s .forth) w u lw)
 
 -- ---- the reverse: a graph with these properties is sound
-pub side-from : {n m : ℕ} {off tgt : List ℕ} → Side n m off tgt → soundSide n m off tgt ≡ true
+side-from : {n m : ℕ} {off tgt : List ℕ} → Side n m off tgt → soundSide n m off tgt ≡ true
 unfolding soundSide soundOffsets
 side-from {n} {m} {off} {tgt} s =
     and-both
@@ -152,43 +159,9 @@ sound-from {g} s =
     (and-both (side-from (s .outwardSide)) (side-from (s .inwardSide))))
     (and-both (s .back) (s .forth))
 
--- ---- how many members a part has
--- a rising list that leaves v out runs ahead of its places by one behind v
-ahead : (n v : ℕ) (l : List ℕ) → rising l ≡ true → each (other n v) l ≡ true → (i : ℕ) → i < length l → (i ≤ getD l i 0) × (v < getD l i 0 → i < getD l i 0)
-ahead n v l r o zero h = (omega arith, λ a. omega arith)
-ahead n v l r o (suc i) h =
-    let b = ahead n v l r o i (omega arith) in
-    let s = rising-lt l r i (suc i) (omega arith) h in (
-      let c = b .0 in omega arith,
-      λ a.
-          elim (decLt v (getD l i 0)) as (λ _. suc i < getD l (suc i) 0) [
-            | yes k ↦ let c = b .1 k in omega arith
-            | no k ↦ let c = b .0 in let d = other-differs n v (getD l i 0) (each-at (other n v) 0 l o i (omega arith)) in omega arith
-          ],
-    )
-
--- "names only other vertices below n": at most n - 1 of them
-pub others-few : (n v : ℕ) (l : List ℕ) → v < n → soundPart n v l ≡ true → length l < n
-others-few n v [] h s = omega arith
-others-few n v (x ∷ l) h s =
-    let o = part-others n v (x ∷ l) s in
-    let a = ahead n v (x ∷ l) (part-rises n v (x ∷ l) s) o (length l) (omega arith) in
-    let y = getD (x ∷ l) (length l) 0 in
-    let t = each-at (other n v) 0 (x ∷ l) o (length l) (omega arith) in
-    let b = other-below n v (getD (x ∷ l) (length l) 0) t in
-    elim (decLt v (getD (x ∷ l) (length l) 0)) as (λ _. length (x ∷ l) < n) [
-      | yes k ↦ let c = a .1 k in omega arith
-      | no k ↦ let c = a .0 in let d = other-differs n v (getD (x ∷ l) (length l) 0) t in omega arith
-    ]
-
 -- ---- the parts of one way
--- how many members the views of the vertices below n have
-abbrev pub total : (ℕ → List ℕ) → ℕ → ℕ
-total view zero = 0
-total view (suc n) = total view n + length (view n)
-
 module _ {n m : ℕ} {off tgt : List ℕ} (s : Side n m off tgt) where
-  pub offset-le : (i j : ℕ) → i ≤ j → j ≤ n → getD off i 0 ≤ getD off j 0
+  offset-le : (i j : ℕ) → i ≤ j → j ≤ n → getD off i 0 ≤ getD off j 0
   offset-le i zero a b = let e : i ≡ 0 = omega arith in rw e (omega arith)
   offset-le i (suc j) a b =
       elim (ℕ-discrete i (suc j)) as (λ _. getD off i 0 ≤ getD off (suc j) 0) [
@@ -207,75 +180,6 @@ module _ {n m : ℕ} {off tgt : List ℕ} (s : Side n m off tgt) where
       let z = s .offsetsRoom in
       sym (part-whole n off tgt v h (omega arith) (s .grows v h) (omega arith))
 
-  pub part-length : (v : ℕ) → v < n → getD off v 0 + length (partOf n off tgt v) ≡ getD off (v + 1) 0
-  part-length v h =
-      let x = offset-most (v + 1) (omega arith) in
-      let y = s .targetsRoom in
-      let z = s .grows v h in
-      rw (part-slice v h, length-take, length-drop) (omega arith)
-
-  pub part-few : (v : ℕ) → v < n → length (partOf n off tgt v) < n
-  part-few v h = others-few n v (partOf n off tgt v) h (s .good v h)
-
-  pub part-most : (v : ℕ) → v < n → length (partOf n off tgt v) ≤ m
-  part-most v h = let x = offset-most (v + 1) (omega arith) in let y = part-length v h in omega arith
-
-  -- the parts before v take up the targets before v's offset; all of them are the arcs
-  pub total-start : (v : ℕ) → v ≤ n → total (partOf n off tgt) v ≡ getD off v 0
-  total-start zero h = sym (s .begins)
-  total-start (suc v) h = let x = total-start v (omega arith) in let y = rw add-one at (part-length v h) in omega arith
-
-  pub parts-total : total (partOf n off tgt) n ≡ m
-  parts-total = total-start n (omega arith) ∙ s .ends
-
--- each arc stands at its other end, from what holds of its two ends
-pub mirrored-of : (n : ℕ) (from back : ℕ → List ℕ) → ((u w : ℕ) → u < n → mem w (from u) ≡ true → mem u (back w) ≡ true) → mirrored n from back ≡ true
-unfolding mirrored
-mirrored-of n from back h =
-    every-of (λ u. each (λ w. mem u (back w)) (from u)) n
-    (λ u l. each-of (λ w. mem u (back w)) 0 (from u) (λ i k. h u (getD (from u) i 0) l (mem-index (getD (from u) i 0) (from u) i k refl)))
-
--- ---- the parts of a sound graph, each way
-module _ (g : Graph) (s : Sound g) where
-  module _ (v : ℕ) (l : v < g .vertices) where
-    pub outward-slice : outward g v ≡ take (getD (g .outOffsets) (v + 1) 0 - getD (g .outOffsets) v 0) (drop (getD (g .outOffsets) v 0) (g .outTargets))
-    outward-slice = part-slice (s .outwardSide) v l
-
-    pub inward-slice : inward g v ≡ take (getD (g .inOffsets) (v + 1) 0 - getD (g .inOffsets) v 0) (drop (getD (g .inOffsets) v 0) (g .inSources))
-    inward-slice = part-slice (s .inwardSide) v l
-
-    pub outward-few : length (outward g v) < g .vertices
-    outward-few = part-few (s .outwardSide) v l
-
-    pub inward-few : length (inward g v) < g .vertices
-    inward-few = part-few (s .inwardSide) v l
-
-    pub outward-most : length (outward g v) ≤ g .arcs
-    outward-most = part-most (s .outwardSide) v l
-
-    pub inward-most : length (inward g v) ≤ g .arcs
-    inward-most = part-most (s .inwardSide) v l
-
-    -- a neighbour is another vertex
-    pub outward-member : (w : ℕ) → mem w (outward g v) ≡ true → (w < g .vertices) × (w ≡ v → ⊥)
-    outward-member w h =
-        let o = each-mem (other (g .vertices) v) (outward g v) (outward-others g s v l) w h in
-        (other-below (g .vertices) v w o, other-differs (g .vertices) v w o)
-
-    pub inward-member : (w : ℕ) → mem w (inward g v) ≡ true → (w < g .vertices) × (w ≡ v → ⊥)
-    inward-member w h =
-        let o = each-mem (other (g .vertices) v) (inward g v) (inward-others g s v l) w h in
-        (other-below (g .vertices) v w o, other-differs (g .vertices) v w o)
-
-  pub outward-total : total (outward g) (g .vertices) ≡ g .arcs
-  outward-total = parts-total (s .outwardSide)
-
-  pub inward-total : total (inward g) (g .vertices) ≡ g .arcs
-  inward-total = parts-total (s .inwardSide)
-
-  pub name-at : (v : ℕ) → v < g .vertices → getD (names g) v (pos 0) ≡ getD (g .ids) v (pos 0)
-  name-at v l = getD-take (g .vertices) (g .ids) v (pos 0) l
-
-  -- a search of the vertices' identifiers answers the vertex's number
-  pub vertex-found : (id : ℤ) → bisected (names g) id ≡ placeIn (names g) id
-  vertex-found id = find-rising (names g) id (s .idsRise)
+-- a search of the vertices' identifiers answers the vertex's number
+pub vertex-found : (g : Graph) → Sound g → (id : ℤ) → bisected (names g) id ≡ placeIn (names g) id
+vertex-found g s id = find-rising (names g) id (s .idsRise)

@@ -22,9 +22,9 @@ use Rattle.graph.specs.declared.find.Found.{Found}
 use Rattle.graph.specs.declared.find.Found.the-variants.{At, Missing}
 use Rattle.graph.specs.Part.{partOf}
 use Rattle.graph.specs.Find.{bisectBy}
-use Rattle.graph.specs.Sound.{Graph, lent, soundIds, other, soundOffsets, soundPart, soundSide, mirrored, reversed, soundGraph}
-use Rattle.graph.specs.Steps.{idsRise, neverFall, soundParts, soundSides, located, bisectFinds, answered}
-use Rattle.graph.specs.Walk.{Views, bothWays}
+use Rattle.graph.specs.Sound.{Graph, outward, inward, lent, idsRise, soundIds, other, neverFall, soundOffsets, soundPart, soundParts, soundSide, mirrored, bothWays, soundGraph}
+use Rattle.graph.specs.Steps.{soundSides, located, bisectFinds, answered}
+use Rattle.graph.specs.Walk.{Ways}
 use Rattle.graph.proofs.Parts.{part-far}
 use Rattle.graph.proofs.Sounds.{part-rises}
 use Rattle.graph.proofs.Finds.{Halving, halving-here, halving-end, Right, bisect-finds}
@@ -219,7 +219,7 @@ module _ (n : ℕ) (from back : List ℕ) (from′ back′ : List ℕ) where
   mirrored-end u a b h = every-end (λ u. answered n back′ back u (partOf n from′ from u)) n u a b h
 
 -- ---- the whole graph: a clause that fails, and all of them
-graph-is : (g : Graph) → soundGraph g ≡ (soundSides g && reversed g)
+graph-is : (g : Graph) → soundGraph g ≡ (soundSides g && bothWays (g .vertices) (outward g) (inward g))
 unfolding soundGraph soundSides
 graph-is g = refl
 
@@ -271,8 +271,13 @@ module _ (size : Size) (ids : List ℤ) (oo ot io is : List ℕ) where
     pub sides-inward : soundParts (size .vertices) io is ≡ true
     sides-inward = side-parts (size .vertices) (size .arcs) io is (and-second (soundSide (size .vertices) (size .arcs) oo ot) (soundSide (size .vertices) (size .arcs) io is) sides-ways)
 
-    pub sides-views : Views (size .vertices) (partOf (size .vertices) oo ot) (partOf (size .vertices) io is)
-    sides-views = record { outward = sides-outward; inward = sides-inward }
+    pub sides-told : Ways (size .vertices) (partOf (size .vertices) oo ot) io is
+    sides-told =
+        record {
+          arcs = size .arcs;
+          outward = sides-outward;
+          inward = and-second (soundSide (size .vertices) (size .arcs) oo ot) (soundSide (size .vertices) (size .arcs) io is) sides-ways;
+        }
 
     pub graph-ways : (t : Bool) → t ≡ bothWays (size .vertices) (partOf (size .vertices) oo ot) (partOf (size .vertices) io is) → t ≡ soundGraph (lent size ids oo ot io is)
     graph-ways t e = rw (graph-is (lent size ids oo ot io is), s) e

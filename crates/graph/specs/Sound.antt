@@ -43,13 +43,19 @@ inward g v = partOf (g .vertices) (g .inOffsets) (g .inSources) v
 abbrev pub names : Graph → List ℤ
 names g = take (g .vertices) (g .ids)
 
--- "whose areas are too short for its stated counts", and "Identifiers strictly rise"
-unfoldable pub soundIds : Graph → Bool
-soundIds g = leb (g .vertices) (length (g .ids)) && risingZ (names g)
+-- "whose areas are too short for its stated counts", and "Identifiers strictly rise": the first n
+abbrev pub idsRise : ℕ → List ℤ → Bool
+idsRise n ids = leb n (length ids) && risingZ (take n ids)
 
--- "Offsets begin at 0, never fall and end at the arc count"
+unfoldable pub soundIds : Graph → Bool
+soundIds g = idsRise (g .vertices) (g .ids)
+
+-- "Offsets begin at 0, never fall and end at the arc count": the first n + 1
+abbrev pub neverFall : ℕ → List ℕ → Bool
+neverFall n off = every n (λ v. leb (getD off v 0) (getD off (v + 1) 0))
+
 unfoldable pub soundOffsets : ℕ → ℕ → List ℕ → Bool
-soundOffsets n m off = eqb (getD off 0 0) 0 && eqb (getD off n 0) m && every n (λ v. leb (getD off v 0) (getD off (v + 1) 0))
+soundOffsets n m off = eqb (getD off 0 0) 0 && eqb (getD off n 0) m && neverFall n off
 
 -- "names only other vertices below n"
 abbrev pub other : ℕ → ℕ → ℕ → Bool
@@ -59,22 +65,24 @@ other n v w = ltb w n && not (eqb w v)
 abbrev pub soundPart : ℕ → ℕ → List ℕ → Bool
 soundPart n v l = rising l && each (other n v) l
 
+abbrev pub soundParts : ℕ → List ℕ → List ℕ → Bool
+soundParts n off tgt = every n (λ v. soundPart n v (partOf n off tgt v))
+
 -- one way of a graph of n vertices and m arcs
 unfoldable pub soundSide : ℕ → ℕ → List ℕ → List ℕ → Bool
-soundSide n m off tgt =
-    (ltb n (length off) && leb m (length tgt)) && soundOffsets n m off && every n (λ v. soundPart n v (partOf n off tgt v))
+soundSide n m off tgt = (ltb n (length off) && leb m (length tgt)) && soundOffsets n m off && soundParts n off tgt
 
 -- each arc from u, by the first view, stands at its other end in the second
 unfoldable pub mirrored : ℕ → (ℕ → List ℕ) → (ℕ → List ℕ) → Bool
 mirrored n from back = every n (λ u. each (λ w. mem u (back w)) (from u))
 
 -- "the inward arcs are exactly the outward ones reversed"
-abbrev pub reversed : Graph → Bool
-reversed g = mirrored (g .vertices) (outward g) (inward g) && mirrored (g .vertices) (inward g) (outward g)
+abbrev pub bothWays : ℕ → (ℕ → List ℕ) → (ℕ → List ℕ) → Bool
+bothWays n out into = mirrored n out into && mirrored n into out
 
 -- "A graph that breaks any of this, or a limit, or whose areas are too short for its stated counts, is unsound (9)"
 unfoldable pub soundGraph : Graph → Bool
 soundGraph g =
     (leb (g .vertices) mostVertices && leb (g .arcs) mostArcs) && soundIds g
     && (soundSide (g .vertices) (g .arcs) (g .outOffsets) (g .outTargets) && soundSide (g .vertices) (g .arcs) (g .inOffsets) (g .inSources))
-    && reversed g
+    && bothWays (g .vertices) (outward g) (inward g)

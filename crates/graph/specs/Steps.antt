@@ -1,29 +1,14 @@
 -- What the steps of the soundness check answer, piece by piece of `soundGraph`.
-use Prim.Native.Nat.{ℕ, _+_}
+use Prim.Native.Nat.{ℕ}
 use mathlib.Core.Bool.{Bool, true, false, _&&_}
 use mathlib.Core.List.{List}
-use lib.IntN.{ℤ}
-use lib.ListN.{length, getD, take}
 use lib.Dec.{leb, ltb}
-use Rattle.basis.specs.Order.{risingZ}
-use Rattle.basis.specs.Scan.{every, each, mem}
+use Rattle.basis.specs.Scan.{each, mem}
 use Rattle.graph.specs.declared.find.Found.{Found}
 use Rattle.graph.specs.declared.find.Found.the-variants.{At, Missing}
 use Rattle.graph.specs.Part.{partOf}
-use Rattle.graph.specs.Sound.{Graph, mostVertices, mostArcs, soundIds, soundPart, soundSide}
+use Rattle.graph.specs.Sound.{Graph, mostVertices, mostArcs, soundIds, soundSide}
 use Rattle.graph.specs.Find.{bisectBy}
-
--- the first n of a list of identifiers are there and rise
-abbrev pub idsRise : ℕ → List ℤ → Bool
-idsRise n ids = leb n (length ids) && risingZ (take n ids)
-
--- the first n + 1 offsets never fall
-abbrev pub neverFall : ℕ → List ℕ → Bool
-neverFall n off = every n (λ v. leb (getD off v 0) (getD off (v + 1) 0))
-
--- every vertex's part is sound
-abbrev pub soundParts : ℕ → List ℕ → List ℕ → Bool
-soundParts n off tgt = every n (λ v. soundPart n v (partOf n off tgt v))
 
 -- all of `soundGraph` but that the arcs are each other's reversed
 unfoldable pub soundSides : Graph → Bool

@@ -1,39 +1,20 @@
--- One walk over the outward arcs, with a cursor for each vertex into its inward part: what the steps of the quick soundness check say.
-use Prim.Native.Nat.{ℕ, _≤_, _<_}
+-- One walk over the outward arcs, with a cursor for each vertex, the place in the sources area that its next inward arc takes: what the steps of the quick
+-- soundness check say.
+use Prim.Native.Nat.{ℕ, zero, suc, _+_}
 use mathlib.Core.Path.{_≡_}
-use mathlib.Core.Bool.{Bool, true, false, _&&_, _||_}
-use mathlib.Core.List.{List}
-use lib.ListN.{length, getD, take}
-use lib.Dec.{eqb, leb, ltb}
-use Rattle.basis.specs.Scan.{every, mem}
-use Rattle.graph.specs.Sound.{soundPart, mirrored}
+use mathlib.Core.Bool.{Bool, true, false, _&&_}
+use mathlib.Core.List.{List, [], _∷_, _++_}
+use lib.ListN.{length, getD, set, drop}
+use lib.Dec.{eqb, ltb}
+use Rattle.basis.specs.Area.{column}
+use Rattle.basis.specs.Scan.{every}
+use Rattle.graph.specs.Sound.{soundPart, soundSide}
 
--- every part is sound, both ways
-pub record Views (n : ℕ) (out into : ℕ → List ℕ) : Type 0 where
+-- each way is sound for itself, the outward one as a view
+pub record Ways (n : ℕ) (out : ℕ → List ℕ) (off src : List ℕ) : Type 0 where
+  pub arcs : ℕ
   pub outward : every n (λ v. soundPart n v (out v)) ≡ true
-  pub inward : every n (λ v. soundPart n v (into v)) ≡ true
-
--- the arcs of two views are each other's reversed
-abbrev pub bothWays : ℕ → (ℕ → List ℕ) → (ℕ → List ℕ) → Bool
-bothWays n out into = mirrored n out into && mirrored n into out
-
--- the arc from v to w is one of those walked: of the vertices below u, and the first i of u
-abbrev pub walked : (ℕ → List ℕ) → ℕ → ℕ → ℕ → ℕ → Bool
-walked out u i v w = (ltb v u && mem w (out v)) || (eqb v u && mem w (take i (out u)))
-
--- the members before w's cursor are exactly the vertices whose arcs to w are walked
-pub record Cursors (n : ℕ) (out into : ℕ → List ℕ) (u i : ℕ) (cursors : List ℕ) : Type 0 where
-  pub room : n ≤ length cursors
-  pub exact : (w : ℕ) → w < n → (v : ℕ) → mem v (take (getD cursors w 0) (into w)) ≡ walked out u i v w
-
--- a walk over the arcs of the vertices below u: it came through, or the arcs are not each other's reversed
-pub record Walked (n : ℕ) (out into : ℕ → List ℕ) (u : ℕ) (through : Bool) (cursors : List ℕ) : Type 0 where
-  pub came : through ≡ true → Cursors n out into u 0 cursors
-  pub broke : through ≡ false → bothWays n out into ≡ false
-
--- every cursor stands at the end of its part
-abbrev pub atEnds : ℕ → (ℕ → List ℕ) → List ℕ → Bool
-atEnds n into cursors = every n (λ w. leb (length (into w)) (getD cursors w 0))
+  pub inward : soundSide n arcs off src ≡ true
 
 -- what a check that is lent a working area answers and leaves there
 pub record Checked : Type 0 where
@@ -42,3 +23,27 @@ pub record Checked : Type 0 where
 
 abbrev pub checked : Bool → List ℕ → Checked
 checked sound cursors = record { sound = sound; cursors = cursors }
+
+-- every cursor stands where its vertex's part starts
+abbrev pub atStarts : ℕ → List ℕ → List ℕ → List ℕ
+atStarts n off cursors = column (λ w. getD off w 0) 0 n ++ drop n cursors
+
+-- u stands at w's cursor
+abbrev pub isNext : List ℕ → ℕ → List ℕ → ℕ → Bool
+isNext src u cursors w = ltb (getD cursors w 0) (length src) && eqb (getD src (getD cursors w 0) 0) u
+
+-- the arcs from u to a list's members, in order: u stands at the target's cursor, which moves on by one, or the walk breaks off
+unfoldable pub stepped : List ℕ → ℕ → List ℕ → List ℕ → Checked
+stepped src u [] cursors = checked true cursors
+stepped src u (w ∷ l) cursors =
+    elim (isNext src u cursors w) [ true ↦ stepped src u l (set cursors w (getD cursors w 0 + 1)) | false ↦ checked false cursors ]
+
+-- the arcs of the vertices below u, in order
+unfoldable pub walked : List ℕ → (ℕ → List ℕ) → ℕ → List ℕ → Checked
+walked src out zero cursors = checked true cursors
+walked src out (suc u) cursors =
+    let before = walked src out u cursors in elim (before .sound) [ true ↦ stepped src u (out u) (before .cursors) | false ↦ before ]
+
+-- every cursor stands at the end of its vertex's part
+abbrev pub atEnds : ℕ → List ℕ → List ℕ → Bool
+atEnds n off cursors = every n (λ w. eqb (getD cursors w 0) (getD off (w + 1) 0))

@@ -1,42 +1,44 @@
-// Is a lent graph sound, in time linear in its arcs? One walk over the outward arcs, with a cursor for each vertex into its inward part.
+// Is a lent graph sound, in time linear in its arcs? One walk over the outward arcs, with a cursor for each vertex into the inward sources.
 ghost use mathlib.Core.Path.{_≡_};
 ghost use mathlib.Core.Bool.{true};
-ghost use Prim.Native.Nat.{_+_, _≤_, _<_};
+ghost use Prim.Native.Nat.{_≤_, _<_};
 ghost use lib.ListN.{length};
 ghost use Rattle.basis.specs.Area.{cleared};
+ghost use Rattle.basis.specs.Scan.{allBelow};
 ghost use Rattle.graph.specs.Part.{partOf};
-ghost use Rattle.graph.specs.Sound.{lent, soundGraph};
-ghost use Rattle.graph.specs.Walk.{Views, bothWays, Cursors, Walked, atEnds, checked};
+ghost use Rattle.graph.specs.Sound.{lent, soundParts, bothWays, soundGraph};
+ghost use Rattle.graph.specs.Walk.{Ways, atStarts, stepped, walked, atEnds, checked};
 use crate::Size;
 use crate::part::part;
 use crate::sound::sides_sound;
 use crate::sound::sound;
 use basis::area::clear;
 
-// The arcs from u, in order: each stands next in its target's inward part, and the cursor there moves on.
-fn arcs_walked(
-    out_targets: &[usize],
-    out_offsets: &[usize],
-    in_sources: &[usize],
-    in_offsets: &[usize],
-    n: usize,
-    u: usize,
-    cursors: &mut [usize],
-) -> bool
-    requires { ⌜ Views n (partOf n (now «out_offsets») (now «out_targets»)) (partOf n (now «in_offsets») (now «in_sources»)) ⌝ }
-    requires { ⌜ (u < n) × Cursors n (partOf n (now «out_offsets») (now «out_targets»)) (partOf n (now «in_offsets») (now «in_sources»)) u 0 (now cursors) ⌝ }
-    ensures { λ r. ⌜ Walked n (partOf n (now («out_offsets» .entry)) (now («out_targets» .entry))) (partOf n (now («in_offsets» .entry)) (now («in_sources» .entry))) (u + 1) r (now (cursors .exit)) ⌝ }
+// Every cursor is set to the start of its vertex's part.
+fn begin(in_offsets: &[usize], n: usize, cursors: &mut [usize])
+    requires { ⌜ (n < length (now «in_offsets»)) × (n ≤ length (now cursors)) ⌝ }
+    ensures { λ _. ⌜ now (cursors .exit) ≡ atStarts n (now («in_offsets» .entry)) (now (cursors .entry)) ⌝ }
 {
-    let targets = part(out_targets, out_offsets, n, u);
+    let mut w = 0;
+    while w < n {
+        cursors[w] = in_offsets[w];
+        w += 1;
+    }
+}
+
+// The arcs from u, in order: u stands at the target's cursor, which moves on. That a cursor passes its part's end shows at the end of the walk.
+fn arcs_walked(targets: &[usize], in_sources: &[usize], u: usize, cursors: &mut [usize]) -> bool
+    requires { ⌜ allBelow (length (now cursors)) (now targets) ≡ true ⌝ }
+    ensures { λ r. ⌜ checked r (now (cursors .exit)) ≡ stepped (now («in_sources» .entry)) u (now (targets .entry)) (now (cursors .entry)) ⌝ }
+{
     let mut i = 0;
     while i < targets.len() {
         let w = targets[i];
-        let sources = part(in_sources, in_offsets, n, w);
         let cursor = cursors[w];
-        if sources.len() <= cursor {
+        if in_sources.len() <= cursor {
             return false;
         }
-        if sources[cursor] != u {
+        if in_sources[cursor] != u {
             return false;
         }
         cursors[w] = cursor + 1;
@@ -50,25 +52,15 @@ fn all_walked(
     out_targets: &[usize],
     out_offsets: &[usize],
     in_sources: &[usize],
-    in_offsets: &[usize],
     n: usize,
     cursors: &mut [usize],
 ) -> bool
-    requires { ⌜ Views n (partOf n (now «out_offsets») (now «out_targets»)) (partOf n (now «in_offsets») (now «in_sources»)) ⌝ }
-    requires { ⌜ Cursors n (partOf n (now «out_offsets») (now «out_targets»)) (partOf n (now «in_offsets») (now «in_sources»)) 0 0 (now cursors) ⌝ }
-    ensures { λ r. ⌜ Walked n (partOf n (now («out_offsets» .entry)) (now («out_targets» .entry))) (partOf n (now («in_offsets» .entry)) (now («in_sources» .entry))) n r (now (cursors .exit)) ⌝ }
+    requires { ⌜ (soundParts n (now «out_offsets») (now «out_targets») ≡ true) × (n ≤ length (now cursors)) ⌝ }
+    ensures { λ r. ⌜ checked r (now (cursors .exit)) ≡ walked (now («in_sources» .entry)) (partOf n (now («out_offsets» .entry)) (now («out_targets» .entry))) n (now (cursors .entry)) ⌝ }
 {
     let mut u = 0;
     while u < n {
-        if !arcs_walked(
-            out_targets,
-            out_offsets,
-            in_sources,
-            in_offsets,
-            n,
-            u,
-            cursors,
-        ) {
+        if !arcs_walked(part(out_targets, out_offsets, n, u), in_sources, u, cursors) {
             return false;
         }
         u += 1;
@@ -76,15 +68,16 @@ fn all_walked(
     true
 }
 
-// Every cursor stands at the end of its part.
-fn at_ends(in_sources: &[usize], in_offsets: &[usize], n: usize, cursors: &[usize]) -> bool
-    requires { ⌜ n ≤ length (now cursors) ⌝ }
-    ensures { λ r. ⌜ r ≡ atEnds n (partOf n (now («in_offsets» .entry)) (now («in_sources» .entry))) (now (cursors .entry)) ⌝ }
+// Every cursor stands at the end of its vertex's part.
+fn at_ends(in_offsets: &[usize], n: usize, cursors: &[usize]) -> bool
+    requires { ⌜ (n < length (now «in_offsets»)) × (n ≤ length (now cursors)) ⌝ }
+    ensures { λ r. ⌜ r ≡ atEnds n (now («in_offsets» .entry)) (now (cursors .entry)) ⌝ }
 {
     let mut w = 0;
     while w < n {
         let cursor = cursors[w];
-        if cursor < part(in_sources, in_offsets, n, w).len() {
+        let end = in_offsets[w + 1];
+        if cursor != end {
             return false;
         }
         w += 1;
@@ -101,15 +94,15 @@ fn reversed(
     n: usize,
     cursors: &mut [usize],
 ) -> bool
-    requires { ⌜ Views n (partOf n (now «out_offsets») (now «out_targets»)) (partOf n (now «in_offsets») (now «in_sources»)) ⌝ }
+    requires { ⌜ Ways n (partOf n (now «out_offsets») (now «out_targets»)) (now «in_offsets») (now «in_sources») ⌝ }
     requires { ⌜ n ≤ length (now cursors) ⌝ }
     ensures { λ r. ⌜ r ≡ bothWays n (partOf n (now («out_offsets» .entry)) (now («out_targets» .entry))) (partOf n (now («in_offsets» .entry)) (now («in_sources» .entry))) ⌝ }
 {
-    clear(cursors);
-    if !all_walked(out_targets, out_offsets, in_sources, in_offsets, n, cursors) {
+    begin(in_offsets, n, cursors);
+    if !all_walked(out_targets, out_offsets, in_sources, n, cursors) {
         return false;
     }
-    at_ends(in_sources, in_offsets, n, cursors)
+    at_ends(in_offsets, n, cursors)
 }
 
 // A lent graph is sound: what `sound` answers, in linear time where the working area has a place for each vertex. The area is zero afterwards.

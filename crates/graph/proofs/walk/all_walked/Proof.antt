@@ -1,32 +1,37 @@
 use Prim.Native.Nat.{_-_, _≤_}
-use mathlib.Core.Path.{_≡_}
-use native.Mathlib.Omega.{arith}
+use mathlib.Core.Path.{_≡_, refl}
+use mathlib.Core.Bool.{true}
 use lib.ListN.{length}
-use borrow.Author.Needs.{needs}
 use Rattle.graph.specs.Part.{partOf}
-use Rattle.graph.specs.Walk.{Cursors}
-use Rattle.graph.proofs.Walks.{walk-broken, all-came, all-broke, all-end}
+use Rattle.graph.specs.Walk.{checked, walked}
+use Rattle.graph.proofs.Walks.{walked-none, walked-more, walked-stop, walked-all, targets-low}
+use native.Mathlib.Omega.{arith}
+use borrow.Author.Needs.{needs}
 use Rattle.graph.proofs.walk.all_walked.Statement.{statement}
 use Rattle.graph.proofs.walk.all_walked.Tie as tie
+use Rattle.graph.proofs.part.part.Reads as part-reads
+use Rattle.graph.proofs.walk.arcs_walked.Reads as arcs-walked-reads
 
 abbrev Inv-loop : tie.InvT-loop
-Inv-loop out-targets out-offsets in-sources in-offsets n cursors₀ u₀ cursors u =
-    (u ≤ n) × (length cursors ≡ length cursors₀) × Cursors n (partOf n out-offsets out-targets) (partOf n in-offsets in-sources) u 0 cursors
+Inv-loop out-targets out-offsets in-sources n cursors₀ u₀ cursors u = (u ≤ n) × (length cursors ≡ length cursors₀) × (walked in-sources (partOf n out-offsets out-targets) u cursors₀ ≡ checked true cursors)
 
 abbrev μ-loop : tie.MeasureT-loop
-μ-loop out-targets out-offsets in-sources in-offsets n cursors₀ u₀ cursors u = n - u
+μ-loop out-targets out-offsets in-sources n cursors₀ u₀ cursors u = n - u
 
 loop-holds : tie.Need-loop-holds Inv-loop μ-loop
-loop-holds c = search needs
+loop-holds c = (omega arith, refl, walked-none _ _ _)
+
+part-requires : tie.Need-part-requires Inv-loop μ-loop
+part-requires c κs = search needs
 
 arcs-walked-requires : tie.Need-arcs-walked-requires Inv-loop μ-loop
-arcs-walked-requires c κs = (c .before .before .before .before .before .before .before .before .pre .0, (omega arith, c .before .before .loop .inv .2))
+arcs-walked-requires c κs = search targets-low
 
 same-length : tie.Need-same-length Inv-loop μ-loop
 same-length c = search needs
 
 returns : tie.Need-returns Inv-loop μ-loop
-returns c = search (walk-broken, all-broke)
+returns c = search walked-stop
 
 add-u : tie.Need-add-u Inv-loop μ-loop
 add-u c = search needs
@@ -35,13 +40,13 @@ loop-less : tie.Need-loop-less Inv-loop μ-loop
 loop-less c = search needs
 
 loop-again : tie.Need-loop-again Inv-loop μ-loop
-loop-again c = (omega arith, search needs, search all-came)
+loop-again c = (omega arith, search needs, search walked-more)
 
 same-length-2 : tie.Need-same-length-2 Inv-loop μ-loop
 same-length-2 c = search needs
 
 returns-2 : tie.Need-returns-2 Inv-loop μ-loop
-returns-2 c = search all-end
+returns-2 c = search walked-all
 
 pub all-walked-spec : {M : Type 1} → statement M
 all-walked-spec =
@@ -50,6 +55,7 @@ all-walked-spec =
     Inv-loop
     μ-loop
     loop-holds
+    part-requires
     arcs-walked-requires
     same-length
     returns

@@ -1,22 +1,19 @@
 use Prim.Native.Nat.{_-_, _≤_}
 use mathlib.Core.Path.{_≡_}
 use mathlib.Core.Bool.{true}
-use native.Mathlib.Omega.{arith}
-use lib.ListN.{length, getD}
-use lib.Dec.{leb}
-use borrow.Author.Needs.{needs}
-use Rattle.basis.specs.Scan.{every}
 use Rattle.basis.proofs.Scans.{every-none, every-more, every-end}
-use Rattle.graph.specs.Part.{partOf}
+use Rattle.graph.specs.Walk.{atEnds}
 use Rattle.graph.proofs.Walks.{ends-more, ends-stop}
+use native.Mathlib.Omega.{arith}
+use borrow.Author.Needs.{needs}
 use Rattle.graph.proofs.walk.at_ends.Statement.{statement}
 use Rattle.graph.proofs.walk.at_ends.Tie as tie
 
 abbrev Inv-loop : tie.InvT-loop
-Inv-loop in-sources in-offsets n cursors w₀ w = (w ≤ n) × (every w (λ w. leb (length (partOf n in-offsets in-sources w)) (getD cursors w 0)) ≡ true)
+Inv-loop in-offsets n cursors w₀ w = (w ≤ n) × (atEnds w in-offsets cursors ≡ true)
 
 abbrev μ-loop : tie.MeasureT-loop
-μ-loop in-sources in-offsets n cursors w₀ w = n - w
+μ-loop in-offsets n cursors w₀ w = n - w
 
 loop-holds : tie.Need-loop-holds Inv-loop μ-loop
 loop-holds c = (omega arith, every-none _)
@@ -27,11 +24,17 @@ mul-cursor c = search needs
 shared-slice-read-cursor : tie.Need-shared-slice-read-cursor Inv-loop μ-loop
 shared-slice-read-cursor c = search needs
 
-part-requires : tie.Need-part-requires Inv-loop μ-loop
-part-requires c κs = search needs
+add-end : tie.Need-add-end Inv-loop μ-loop
+add-end c = search needs
+
+mul-end : tie.Need-mul-end Inv-loop μ-loop
+mul-end c = search needs
+
+shared-slice-read-end : tie.Need-shared-slice-read-end Inv-loop μ-loop
+shared-slice-read-end c = search needs
 
 returns : tie.Need-returns Inv-loop μ-loop
-returns c = search (ends-stop)
+returns c = search ends-stop
 
 add-w : tie.Need-add-w Inv-loop μ-loop
 add-w c = search needs
@@ -54,7 +57,9 @@ at-ends-spec =
     loop-holds
     mul-cursor
     shared-slice-read-cursor
-    part-requires
+    add-end
+    mul-end
+    shared-slice-read-end
     returns
     add-w
     loop-less

@@ -1,13 +1,13 @@
-use Rattle.graph.proofs.Walks.{walk-none, ways-stop, ways-told}
+use Rattle.graph.proofs.Walks.{ways-room, ways-stop, ways-told}
 use borrow.Author.Needs.{needs}
 use Rattle.graph.proofs.walk.reversed.Statement.{statement}
 use Rattle.graph.proofs.walk.reversed.Tie as tie
 
-clear-requires : tie.Need-clear-requires
-clear-requires c κs = search needs
+begin-requires : tie.Need-begin-requires
+begin-requires c κs = (search ways-room, search needs)
 
 all-walked-requires : tie.Need-all-walked-requires
-all-walked-requires c κs = search walk-none
+all-walked-requires c κs = search needs
 
 same-length : tie.Need-same-length
 same-length c = search needs
@@ -16,7 +16,7 @@ returns : tie.Need-returns
 returns c = search ways-stop
 
 at-ends-requires : tie.Need-at-ends-requires
-at-ends-requires c κs = search needs
+at-ends-requires c κs = (search ways-room, search needs)
 
 same-length-2 : tie.Need-same-length-2
 same-length-2 c = search needs
@@ -28,7 +28,7 @@ pub reversed-spec : {M : Type 1} → statement M
 reversed-spec =
     tie.close
     (tie.spec
-    clear-requires
+    begin-requires
     all-walked-requires
     same-length
     returns

@@ -1,7 +1,7 @@
 use native.Mathlib.Omega.{arith}
 use Rattle.basis.proofs.Tests.{failed, held}
 use Rattle.graph.proofs.Walks.{checks, checks-late}
-use Rattle.graph.proofs.Steps.{sides-views, graph-sides, graph-ways}
+use Rattle.graph.proofs.Steps.{sides-told, graph-sides, graph-ways}
 use borrow.Author.Needs.{needs}
 use Rattle.graph.proofs.walk.sound_over.Statement.{statement}
 use Rattle.graph.proofs.walk.sound_over.Tie as tie
@@ -31,7 +31,7 @@ returns-2 : tie.Need-returns-2
 returns-2 c = search (checks, graph-sides, failed)
 
 reversed-requires : tie.Need-reversed-requires
-reversed-requires c κs = (sides-views _ _ _ _ _ _ (held _ _ (c .before .before .sides-sound .ensures) (c .before .if2 .left)), omega arith)
+reversed-requires c κs = (sides-told _ _ _ _ _ _ (held _ _ (c .before .before .sides-sound .ensures) (c .before .if2 .left)), omega arith)
 
 clear-requires-3 : tie.Need-clear-requires-3
 clear-requires-3 c κs = search needs
