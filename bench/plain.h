@@ -10,6 +10,8 @@ struct graph {
 
 /* Reads two lists that are well formed and rise, into areas that are long enough; 0 where a line is not as it should be. */
 int plain_load(int directed, const uint8_t *vertices, size_t vertices_len, const uint8_t *edges, size_t edges_len, struct graph *g);
+/* Whether a graph is sound, by the engine's own algorithm. */
+int plain_sound(const struct graph *g, size_t *cursors);
 void plain_bfs(const struct graph *g, size_t root, int64_t *depth, size_t *queue);
 void plain_wcc(const struct graph *g, int64_t *result, size_t *parents, size_t *sizes);
 void plain_cdlp(const struct graph *g, int rounds, int64_t *result, size_t *labels, size_t *next, size_t *counts);
