@@ -4,8 +4,10 @@ pub mod Walks
 pub mod Tally
 pub mod Powers
 pub mod Calls
+pub mod Walked
 pub mod Areas
 pub mod Joins
+pub mod Each
 pub mod Answers
 pub mod Forest
 pub mod Faithful
