@@ -7,12 +7,13 @@ pub mod Calls
 pub mod Walked
 pub mod Areas
 pub mod Joins
-pub mod Each
 pub mod Answers
 pub mod Forest
 pub mod Faithful
 pub mod Book
 pub mod Series
 pub mod TwoBook
+pub mod Carried
+pub mod Each
 pub mod Held
 pub mod Worked

@@ -10,7 +10,7 @@ use borrow.Author.Tests.{lt-leb, le-leb}
 use Rattle.basis.specs.declared.refusal.Refusal.{Refusal}
 use Rattle.basis.specs.Refusal.{gives, refuses, plain, unsound}
 use Rattle.basis.proofs.Tests.{held}
-use Rattle.book.specs.Rules.{View, found, heads, walk, walkFrom, headOf, headsOf}
+use Rattle.book.specs.Rules.{View, found, check, heads, walk, walkFrom, headOf, headsOf}
 use Rattle.book.specs.Two.{nextIn, fits}
 use Rattle.book.specs.Steps.{saysWalked}
 use Rattle.book.proofs.Checks.{check-on, check-off, fits-within}
@@ -27,16 +27,17 @@ module _ (a : ℕ) where
   unfolding saysWalked
   walked-ends l = check-on (leb (a / 65536) 16) unsound _ (le-leb (a / 65536) 16 l)
 
-walked-of : (at moves : ℕ) → at < 65536 → moves ≤ 16 → saysWalked (moves * 65536 + at) ≡ gives (found at moves)
-walked-of at moves k l =
+pub walked-of : (at moves : ℕ) → at < 65536 → saysWalked (moves * 65536 + at) ≡ check (leb moves 16) unsound (gives (found at moves))
+unfolding saysWalked
+walked-of at moves k =
     let p : (moves * 65536 + at) / 65536 ≡ moves = omega arith in
     let q : (moves * 65536 + at) % 65536 ≡ at = omega arith in
-    walked-ends (moves * 65536 + at) (omega arith) ∙ ap₂ (λ h k. gives (found h k)) q p
+    ap₂ (λ h k. check (leb k 16) unsound (gives (found h k))) q p
 
 -- ---- the code's loop, where the rest of the walk from `at` is the walk from v
 module _ (ps : List ℕ) (v at moves : ℕ) (e : walkFrom (nextIn ps) (length ps) v ≡ walk (nextIn ps) (length ps) (16 - moves) moves at) where
   pub loop-found : at < length ps → length ps ≤ 65536 → moves ≤ 16 → getD ps at 0 ≡ at → saysWalked (moves * 65536 + at) ≡ walkFrom (nextIn ps) (length ps) v
-  loop-found l k m h = walked-of at moves (omega arith) m ∙ sym (e ∙ walk-head (nextIn ps) (length ps) (16 - moves) moves at (next-head ps at h))
+  loop-found l k m h = walked-of at moves (omega arith) ∙ check-on (leb moves 16) unsound _ (le-leb moves 16 m) ∙ sym (e ∙ walk-head (nextIn ps) (length ps) (16 - moves) moves at (next-head ps at h))
 
   module _ (other : getD ps at 0 ≡ at → ⊥) where
     pub loop-late : 16 ≤ moves → saysWalked 1114112 ≡ walkFrom (nextIn ps) (length ps) v

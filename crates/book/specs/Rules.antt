@@ -187,7 +187,7 @@ writeBook M (refuses r) a = done (refuses r) a
 unfoldable pub joinBook : (M : Machine) → M .Area → ℕ → ℕ → Done Joining (M .Area)
 joinBook M a u v = writeBook M (decide (M .view a) u v) a
 
--- "a group book that grows join by join": the areas after u was joined with each vertex of a list, one after the other
+-- "WCC stands on this book": the areas after u was joined with each vertex of a list, one after the other; "Refused book calls change nothing"
 unfoldable pub joinEach : (M : Machine) → M .Area → ℕ → List ℕ → M .Area
 joinEach M a u [] = a
 joinEach M a u (w ∷ ws) = joinEach M (joinBook M a u w .area) u ws

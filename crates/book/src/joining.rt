@@ -87,7 +87,8 @@ pub fn join(parents: &mut [usize], sizes: &mut [usize], u: usize, v: usize) -> J
     }
 }
 
-// Joins u, whose walk is `at`, with w; the walk of u in the areas as they then stand, which only a merge can have changed.
+// Joins u, whose walk is `at`, with w; the walk of u in the areas as they then stand, which is one move longer where u's head went under the other.
+// It takes u for the contract alone.
 fn join_next(parents: &mut [usize], sizes: &mut [usize], u: usize, at: usize, w: usize) -> usize
     requires { ⌜ Walking (now parents) (now sizes) u at ⌝ }
     ensures { λ r. ⌜ (areas (now (parents .exit)) (now (sizes .exit)) ≡ joinBook twoBook (areas (now (parents .entry)) (now (sizes .entry))) u w .area) × Walking (now (parents .exit)) (now (sizes .exit)) u r ⌝ }
@@ -102,17 +103,27 @@ fn join_next(parents: &mut [usize], sizes: &mut [usize], u: usize, at: usize, w:
     if 16 < to / 65536 {
         return at;
     }
-    match link(parents, sizes, at % 65536, to % 65536) {
-        Joined::Merged => walk(parents, u),
+    let g = at % 65536;
+    let h = to % 65536;
+    match link(parents, sizes, g, h) {
+        Joined::Merged => {
+            if parents[g] == g {
+                return at;
+            }
+            (at / 65536 + 1) * 65536 + h
+        }
         Joined::Already => at,
         Joined::Refused(_) => at,
     }
 }
 
-// Joins u with each of the others, one after the other; a join that is refused changes nothing. The walk of u is kept from join to join.
+// Joins u with each of the others, one after the other; a join that is refused changes nothing. u is walked from once, and its walk carried from join to join.
 pub fn join_each(parents: &mut [usize], sizes: &mut [usize], u: usize, others: &[usize])
     ensures { λ _. ⌜ areas (now (parents .exit)) (now (sizes .exit)) ≡ joinEach twoBook (areas (now (parents .entry)) (now (sizes .entry))) u (now (others .entry)) ⌝ }
 {
+    if others.len() == 0 {
+        return;
+    }
     if !well_lent(parents, sizes) {
         return;
     }
