@@ -96,20 +96,9 @@ module _ (w : View) (u v : ℕ) where
         ∙ sym (check-on (w .fit) noRoom _ (sym e ∙ held t f) ∙ check-on (ltb u (w .count)) notThere _ (lt-ltb u (w .count) d)
         ∙ check-off (ltb v (w .count)) notThere _ (le-ltb v (w .count) l))
 
-    module _ (f : not t ≡ false) (u-in : u < w .count) (v-in : v < w .count) (r : Headed) (a : saysHeaded r ≡ walkFrom (w .next) (w .count) u) where
-      walked : (s : Headed) (y : Headed) → saysHeaded y ≡ walkFrom (w .next) (w .count) v → (z : Headed) → r ≡ s → y ≡ z → pair (saysHeaded s) (saysHeaded z) ≡ headsOf w u v
-      walked s y b z p q =
-          sym (heads-walks (sym e ∙ held t f) u-in v-in ∙ ap₂ pair (sym a ∙ ap saysHeaded p) (sym b ∙ ap saysHeaded q))
-
-      pub heads-lost : (x : Refusal) → r ≡ Headed.Refused x → refuses x ≡ headsOf w u v
-      heads-lost x p = sym (heads-walks (sym e ∙ held t f) u-in v-in ∙ ap (λ s. pair s (walkFrom (w .next) (w .count) v)) (sym a ∙ ap saysHeaded p))
-
-      module _ (g k : ℕ) (p : r ≡ Headed.Head g k) (y : Headed) (b : saysHeaded y ≡ walkFrom (w .next) (w .count) v) where
-        pub heads-lost2 : (x : Refusal) → y ≡ Headed.Refused x → refuses x ≡ headsOf w u v
-        heads-lost2 x q = walked (Headed.Head g k) y b (Headed.Refused x) p q
-
-        pub heads-found : (h l : ℕ) → y ≡ Headed.Head h l → gives (heads g h) ≡ headsOf w u v
-        heads-found h l q = walked (Headed.Head g k) y b (Headed.Head h l) p q
+    pub heads-walked : (s z : Said Found) → not t ≡ false → u < w .count → v < w .count → s ≡ walkFrom (w .next) (w .count) u → z ≡ walkFrom (w .next) (w .count) v
+        → pair s z ≡ headsOf w u v
+    heads-walked s z f a b p q = sym (heads-walks (sym e ∙ held t f) a b ∙ ap₂ pair (sym p) (sym q))
 
   -- ---- whether two are of one group
   module _ (r : Pair) (e : saysPair r ≡ headsOf w u v) where

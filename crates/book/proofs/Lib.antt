@@ -4,6 +4,7 @@ pub mod Walks
 pub mod Tally
 pub mod Powers
 pub mod Calls
+pub mod Walked
 pub mod Areas
 pub mod Joins
 pub mod Answers
@@ -12,5 +13,7 @@ pub mod Faithful
 pub mod Book
 pub mod Series
 pub mod TwoBook
+pub mod Carried
+pub mod Each
 pub mod Held
 pub mod Worked

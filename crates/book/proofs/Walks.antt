@@ -1,12 +1,10 @@
 -- Laws of the walk, a move at a time. Assumes nothing.
-use mathlib.Core.Path.{_≡_, refl, sym, ap, _∙_}
+use mathlib.Core.Path.{_≡_, refl, sym, _∙_}
 use mathlib.Core.List.{List}
-use Prim.Native.Nat.{ℕ, zero, suc, _+_, _-_, _≤_, _<_}
-use native.Mathlib.Omega.{arith}
-use lib.ListN.{length, getD}
+use Prim.Native.Nat.{ℕ, zero, suc, _+_, _≤_, _<_}
+use lib.ListN.{getD}
 use lib.Dec.{ltb}
 use borrow.Author.Tests.{ltb-true, lt-ltb, le-ltb, eq-eqb, ne-eqb}
-use Rattle.basis.specs.declared.refusal.Refusal.{Refusal}
 use Rattle.basis.specs.Refusal.{gives, refuses, plain, unsound}
 use Rattle.book.specs.Rules.{Next, stop, to, Found, found, check, walk, walkFrom}
 use Rattle.book.specs.Two.{nextIn}
@@ -62,23 +60,3 @@ next-head ps v e = simp (eq-eqb _ _ e)
 pub next-other : (ps : List ℕ) (v : ℕ) → (getD ps v 0 ≡ v → ⊥) → nextIn ps v ≡ to (getD ps v 0)
 unfolding nextIn
 next-other ps v d = simp (ne-eqb _ _ d)
-
--- ---- the code's loop, where the rest of the walk from `at` is the walk from v
-module _ (ps : List ℕ) (v at moves : ℕ) (e : walkFrom (nextIn ps) (length ps) v ≡ walk (nextIn ps) (length ps) (16 - moves) moves at) where
-  pub loop-found : getD ps at 0 ≡ at → gives (found at moves) ≡ walkFrom (nextIn ps) (length ps) v
-  loop-found h = sym (e ∙ walk-head (nextIn ps) (length ps) (16 - moves) moves at (next-head ps at h))
-
-  module _ (other : getD ps at 0 ≡ at → ⊥) where
-    pub loop-late : (x : Refusal) → 16 ≤ moves → x ≡ plain unsound → refuses x ≡ walkFrom (nextIn ps) (length ps) v
-    loop-late x l p =
-        let z : 16 - moves ≡ 0 = omega arith in
-        ap refuses p ∙ sym (e ∙ rw z (walk-late (nextIn ps) (length ps) moves at _ (next-other ps at other)))
-
-    pub loop-out : (x : Refusal) → length ps ≤ getD ps at 0 → x ≡ plain unsound → refuses x ≡ walkFrom (nextIn ps) (length ps) v
-    loop-out x l p = ap refuses p ∙ sym (e ∙ walk-out (nextIn ps) (length ps) (16 - moves) moves at _ (next-other ps at other) l)
-
-    pub loop-moves : moves < 16 → getD ps at 0 < length ps
-        → walkFrom (nextIn ps) (length ps) v ≡ walk (nextIn ps) (length ps) (16 - (moves + 1)) (moves + 1) (getD ps at 0)
-    loop-moves k l =
-        let z : 16 - moves ≡ suc (16 - (moves + 1)) = omega arith in
-        e ∙ rw z (walk-move (nextIn ps) (length ps) (16 - (moves + 1)) moves at _ (next-other ps at other) l)

@@ -1,5 +1,6 @@
 -- 01 "The group book": the rules of its calls, over what a book's areas show of a vertex and not over the areas.
 use mathlib.Core.Bool.{Bool, true, false, cond, _&&_}
+use mathlib.Core.List.{List, [], _∷_}
 use Prim.Native.Nat.{ℕ, zero, suc, _+_, _^_}
 use lib.Dec.{leb, ltb, eqb}
 use Rattle.basis.specs.Refusal.{Said, gives, refuses, plain, noRoom, unsound, notThere}
@@ -185,3 +186,8 @@ writeBook M (refuses r) a = done (refuses r) a
 -- a join of u and v
 unfoldable pub joinBook : (M : Machine) → M .Area → ℕ → ℕ → Done Joining (M .Area)
 joinBook M a u v = writeBook M (decide (M .view a) u v) a
+
+-- "WCC stands on this book": the areas after u was joined with each vertex of a list, one after the other; "Refused book calls change nothing"
+unfoldable pub joinEach : (M : Machine) → M .Area → ℕ → List ℕ → M .Area
+joinEach M a u [] = a
+joinEach M a u (w ∷ ws) = joinEach M (joinBook M a u w .area) u ws

@@ -1,10 +1,18 @@
--- What the private functions' contracts cite: parts of a join.
+-- What the private functions' contracts cite: a walk's answer, and parts of a join.
+use mathlib.Core.Path.{_≡_}
+use mathlib.Core.Bool.{true}
 use mathlib.Core.List.{List}
-use Prim.Native.Nat.{ℕ}
-use Rattle.basis.specs.Refusal.{Said, gives, refuses}
-use Rattle.book.specs.Rules.{Heads, heads, Joining, merge, Done, linkHeads, writeBook}
-use Rattle.book.specs.Two.{Areas, areas, two, twoBook}
+use Prim.Native.Nat.{ℕ, _/_, _%_, _<_}
+use lib.ListN.{length}
+use lib.Dec.{leb}
+use Rattle.basis.specs.Refusal.{Said, gives, refuses, unsound}
+use Rattle.book.specs.Rules.{Found, found, check, walkFrom, Heads, heads, Joining, merge, Done, linkHeads, writeBook}
+use Rattle.book.specs.Two.{Areas, areas, nextIn, fits, two, twoBook}
 use Rattle.book.specs.declared.Pair.{Pair}
+
+-- the number of a walk: 65,536 times its moves, and its head; above 16 moves it does not end
+unfoldable pub saysWalked : ℕ → Said Found
+saysWalked a = check (leb (a / 65536) 16) unsound (gives (found (a % 65536) (a / 65536)))
 
 -- the heads of two vertices
 abbrev pub saysPair : Pair → Said Heads
@@ -18,3 +26,9 @@ linkTwo ps ss g h = writeBook twoBook (linkHeads (two ps ss) (heads g h)) (areas
 -- the head `under` goes under the head `top`, whose size becomes `total`
 unfoldable pub hangTwo : List ℕ → List ℕ → ℕ → ℕ → ℕ → Done Joining Areas
 hangTwo ps ss top under total = writeBook twoBook (gives (merge top under total)) (areas ps ss)
+
+-- areas that are well lent, a vertex u of them, and the number of its walk
+pub record Walking (ps ss : List ℕ) (u at : ℕ) : Type 0 where
+  pub lent : fits ps ss ≡ true
+  pub inside : u < length ps
+  pub walk : saysWalked at ≡ walkFrom (nextIn ps) (length ps) u

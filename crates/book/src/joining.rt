@@ -2,15 +2,17 @@
 use super::Joined;
 use super::Pair;
 use super::heads;
+use super::walk;
+use super::well_lent;
 use basis::Refusal;
 use basis::refusal::UNSOUND;
 ghost use mathlib.Core.Path.{_≡_};
 ghost use Prim.Native.Nat.{_<_};
 ghost use lib.ListN.{length};
-ghost use Rattle.book.specs.Rules.{done, joinBook, above, mergeable};
+ghost use Rattle.book.specs.Rules.{done, joinBook, joinEach, above, mergeable};
 ghost use Rattle.book.specs.Two.{areas, twoBook};
 ghost use Rattle.book.specs.Says.{saysJoined};
-ghost use Rattle.book.specs.Steps.{linkTwo, hangTwo};
+ghost use Rattle.book.specs.Steps.{linkTwo, hangTwo, Walking};
 
 // Puts the head `under` under the head `top`, whose size becomes `total`. The old head's size entry stays.
 fn hang(
@@ -82,5 +84,56 @@ pub fn join(parents: &mut [usize], sizes: &mut [usize], u: usize, v: usize) -> J
     match heads(parents, sizes, u, v) {
         Pair::Heads(g, h) => link(parents, sizes, g, h),
         Pair::Refused(r) => Joined::Refused(r),
+    }
+}
+
+// Joins u, whose walk is `at`, with w; the walk of u in the areas as they then stand, which is one move longer where u's head went under the other.
+// It takes u for the contract alone.
+fn join_next(parents: &mut [usize], sizes: &mut [usize], u: usize, at: usize, w: usize) -> usize
+    requires { ⌜ Walking (now parents) (now sizes) u at ⌝ }
+    ensures { λ r. ⌜ (areas (now (parents .exit)) (now (sizes .exit)) ≡ joinBook twoBook (areas (now (parents .entry)) (now (sizes .entry))) u w .area) × Walking (now (parents .exit)) (now (sizes .exit)) u r ⌝ }
+{
+    if parents.len() <= w {
+        return at;
+    }
+    if 16 < at / 65536 {
+        return at;
+    }
+    let to = walk(parents, w);
+    if 16 < to / 65536 {
+        return at;
+    }
+    let g = at % 65536;
+    let h = to % 65536;
+    match link(parents, sizes, g, h) {
+        Joined::Merged => {
+            if parents[g] == g {
+                return at;
+            }
+            (at / 65536 + 1) * 65536 + h
+        }
+        Joined::Already => at,
+        Joined::Refused(_) => at,
+    }
+}
+
+// Joins u with each of the others, one after the other; a join that is refused changes nothing. u is walked from once, and its walk carried from join to join.
+pub fn join_each(parents: &mut [usize], sizes: &mut [usize], u: usize, others: &[usize])
+    ensures { λ _. ⌜ areas (now (parents .exit)) (now (sizes .exit)) ≡ joinEach twoBook (areas (now (parents .entry)) (now (sizes .entry))) u (now (others .entry)) ⌝ }
+{
+    if others.len() == 0 {
+        return;
+    }
+    if !well_lent(parents, sizes) {
+        return;
+    }
+    if parents.len() <= u {
+        return;
+    }
+    let mut at = walk(parents, u);
+    let mut i: usize = 0;
+    while i < others.len() {
+        at = join_next(parents, sizes, u, at, others[i]);
+        i += 1;
     }
 }

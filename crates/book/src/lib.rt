@@ -5,12 +5,11 @@ use basis::refusal::NO_ROOM;
 use basis::refusal::NOT_THERE;
 use basis::refusal::UNSOUND;
 ghost use mathlib.Core.Path.{_≡_};
-ghost use Prim.Native.Nat.{_<_};
+ghost use Prim.Native.Nat.{_≤_, _<_};
 ghost use lib.ListN.{length};
 ghost use Rattle.book.specs.Rules.{walkFrom, headsOf};
 ghost use Rattle.book.specs.Two.{nextIn, fits, two};
-ghost use Rattle.book.specs.Says.{saysHeaded};
-ghost use Rattle.book.specs.Steps.{saysPair};
+ghost use Rattle.book.specs.Steps.{saysWalked, saysPair};
 
 pub mod joining;
 pub mod opening;
@@ -52,6 +51,9 @@ enum Pair {
     Refused(Refusal),
 }
 
+// The number of a walk that does not end: 17 times 65,536.
+const NO_END: usize = 1114112;
+
 // Whether the two areas are of one length, at most 65,536.
 fn well_lent(parents: &[usize], sizes: &[usize]) -> bool
     ensures { λ r. ⌜ r ≡ fits (now (parents .entry)) (now (sizes .entry)) ⌝ }
@@ -63,23 +65,24 @@ fn well_lent(parents: &[usize], sizes: &[usize]) -> bool
     sizes.len() == n
 }
 
-// The walk from `v` to its head, of at most 16 moves.
-fn walk(parents: &[usize], v: usize) -> Headed
-    requires { ⌜ v < length (now parents) ⌝ }
-    ensures { λ r. ⌜ saysHeaded r ≡ walkFrom (nextIn (now (parents .entry))) (length (now (parents .entry))) v ⌝ }
+// The walk from `v` to its head, of at most 16 moves, in one number, since an answer of several goes through memory: 65,536 times the moves, and the head.
+// 17 moves say that no such walk ends.
+fn walk(parents: &[usize], v: usize) -> usize
+    requires { ⌜ (v < length (now parents)) × (length (now parents) ≤ 65536) ⌝ }
+    ensures { λ r. ⌜ saysWalked r ≡ walkFrom (nextIn (now (parents .entry))) (length (now (parents .entry))) v ⌝ }
 {
     let mut at = v;
     let mut moves: usize = 0;
     loop {
         let p = parents[at];
         if p == at {
-            return Headed::Head(at, moves);
+            return moves * 65536 + at;
         }
         if 16 <= moves {
-            return Headed::Refused(Refusal::plain(UNSOUND));
+            return NO_END;
         }
         if parents.len() <= p {
-            return Headed::Refused(Refusal::plain(UNSOUND));
+            return NO_END;
         }
         at = p;
         moves += 1;
@@ -99,12 +102,13 @@ fn heads(parents: &[usize], sizes: &[usize], u: usize, v: usize) -> Pair
     if parents.len() <= v {
         return Pair::Refused(Refusal::plain(NOT_THERE));
     }
-    let g = match walk(parents, u) {
-        Headed::Head(g, _) => g,
-        Headed::Refused(r) => return Pair::Refused(r),
-    };
-    match walk(parents, v) {
-        Headed::Head(h, _) => Pair::Heads(g, h),
-        Headed::Refused(r) => Pair::Refused(r),
+    let a = walk(parents, u);
+    if 16 < a / 65536 {
+        return Pair::Refused(Refusal::plain(UNSOUND));
     }
+    let b = walk(parents, v);
+    if 16 < b / 65536 {
+        return Pair::Refused(Refusal::plain(UNSOUND));
+    }
+    Pair::Heads(a % 65536, b % 65536)
 }

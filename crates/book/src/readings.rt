@@ -26,7 +26,11 @@ pub fn head(parents: &[usize], sizes: &[usize], v: usize) -> Headed
     if parents.len() <= v {
         return Headed::Refused(Refusal::plain(NOT_THERE));
     }
-    walk(parents, v)
+    let a = walk(parents, v);
+    if 16 < a / 65536 {
+        return Headed::Refused(Refusal::plain(UNSOUND));
+    }
+    Headed::Head(a % 65536, a / 65536)
 }
 
 pub fn same_group(parents: &[usize], sizes: &[usize], u: usize, v: usize) -> Compared

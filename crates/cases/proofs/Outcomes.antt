@@ -29,6 +29,7 @@ use Rattle.write.proofs.numbers.put_number as write-put_number
 use Rattle.write.proofs.numbers.put_signed as write-put_signed
 use Rattle.book.proofs.opening.open_book as book-open_book
 use Rattle.book.proofs.joining.join as book-join
+use Rattle.book.proofs.joining.join_each as book-join_each
 use Rattle.book.proofs.readings.head as book-head
 use Rattle.book.proofs.readings.same_group as book-same_group
 use Rattle.book.proofs.readings.group_size as book-group_size
@@ -183,6 +184,9 @@ book-open_book-one = record { promise = book-open_book.Reads.Learnt; told = refl
 
 pub book-join-one : One book-join.ended (λ M 𝓤. book-join.clauses 𝓤)
 book-join-one = record { promise = book-join.Reads.Learnt; told = refl; one = λ _ _ z z′ _ _ p q. (one-joined z z′ (ap (λ o. o .said) (meet p q)), ap (λ o. (o .area .parents, (o .area .sizes, (tt, (tt, tt))))) (meet p q)) }
+
+pub book-join_each-one : One book-join_each.ended (λ M 𝓤. book-join_each.clauses 𝓤)
+book-join_each-one = record { promise = book-join_each.Reads.Learnt; told = refl; one = λ _ _ _ _ _ _ p q. (refl, ap (λ o. (o .parents, (o .sizes, (tt, (tt, tt))))) (meet p q)) }
 
 pub book-head-one : One book-head.ended (λ M 𝓤. book-head.clauses 𝓤)
 book-head-one = record { promise = book-head.Reads.Learnt; told = refl; one = λ _ _ z z′ _ _ p q. (one-headed z z′ (meet p q), refl) }

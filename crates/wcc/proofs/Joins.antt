@@ -14,14 +14,14 @@ use Rattle.basis.specs.Refusal.{Said}
 use Rattle.basis.specs.Scan.{each, allBelow, mem}
 use Rattle.basis.proofs.Tests.{and-first, and-second}
 use Rattle.basis.proofs.Scans.{mem-none-of, mem-head, mem-tail, mem-cases}
-use Rattle.book.specs.Rules.{Done, done, openBook, joinBook}
+use Rattle.book.specs.Rules.{Done, done, openBook, joinBook, joinEach}
 use Rattle.book.specs.Two.{Areas, areas, two, twoBook}
 use Rattle.book.specs.Series.{Slip, slip, headIn, headAt}
 use Rattle.book.specs.Series as series
 use Rattle.book.proofs.TwoBook.{faithful-two}
 use Rattle.book.proofs.Held.{Held, two-open, held-join, held-kept, held-head}
 use Rattle.wcc.specs.Component.{Linked, itself, along, back, on, labels}
-use Rattle.wcc.specs.Steps.{headHere, joinPart, joinArcs, marked, copied, Within, Exact}
+use Rattle.wcc.specs.Steps.{headHere, joinArcs, marked, copied, Within, Exact}
 use Rattle.wcc.proofs.Passes.{Heads, labels-are}
 
 -- ---- the joins along the arcs, the latest first
@@ -33,8 +33,8 @@ slipsOf : (ℕ → List ℕ) → ℕ → List Slip
 slipsOf out zero = []
 slipsOf out (suc u) = slipsPart u (out u) (slipsOf out u)
 
-held-part : (n : ℕ) (a : Areas) (js : List Slip) → Held twoBook n a js → (u : ℕ) (ws : List ℕ) → u < n → allBelow n ws ≡ true → Held twoBook n (joinPart a u ws) (slipsPart u ws js)
-unfolding joinPart slipsPart each
+held-part : (n : ℕ) (a : Areas) (js : List Slip) → Held twoBook n a js → (u : ℕ) (ws : List ℕ) → u < n → allBelow n ws ≡ true → Held twoBook n (joinEach twoBook a u ws) (slipsPart u ws js)
+unfolding joinEach slipsPart each
 held-part n a js H u [] l b = H
 held-part n a js H u (w ∷ ws) l b =
     held-part n (joinBook twoBook a u w .area) (slip u w ∷ js) (held-join twoBook faithful-two n a js H u w l (ltb-true w n (and-first (ltb w n) (allBelow n ws) b))) u ws l

@@ -5,16 +5,14 @@ use mathlib.Core.List.{List}
 use native.Mathlib.Omega.{arith}
 use native.Mathlib.Numerals.{add-one}
 use lib.IntN.{ℤ, pos}
-use lib.ListN.{length, getD, set, drop, drop-of-length-le}
-use lib.Seq.{drop-cons}
+use lib.ListN.{length, getD, set}
 use Rattle.basis.specs.declared.refusal.Refusal.{Refusal}
-use Rattle.basis.specs.Refusal.{Said}
 use Rattle.book.specs.declared.Headed.{Headed}
-use Rattle.book.specs.Rules.{Joining, Done, done, joinBook, headOf}
-use Rattle.book.specs.Two.{Areas, areas, two, twoBook}
+use Rattle.book.specs.Rules.{headOf, joinEach}
+use Rattle.book.specs.Two.{Areas, two, twoBook}
 use Rattle.book.specs.Says.{saysHeaded}
 use Rattle.book.specs.Series.{headIn}
-use Rattle.wcc.specs.Steps.{headHere, joinPart, joinArcs, marked, copied, Within}
+use Rattle.wcc.specs.Steps.{headHere, joinArcs, marked, copied, Within}
 
 -- ---- the head that a call gives
 module _ (ps ss : List ℕ) (v : ℕ) (r : Headed) (e : saysHeaded r ≡ headOf (two ps ss) v) where
@@ -27,25 +25,14 @@ module _ (ps ss : List ℕ) (v : ℕ) (r : Headed) (e : saysHeaded r ≡ headOf 
   head-refused q f = ap (λ (x : Headed). headIn (saysHeaded x)) (sym f) ∙ ap headIn e
 
 -- ---- joins
-module _ (a b : Areas) (u : ℕ) (ws : List ℕ) (i : ℕ) where
-  pub part-more : (d : Said Joining) (ps ss : List ℕ) → i < length ws → done d (areas ps ss) ≡ joinBook twoBook b u (getD ws i 0) → joinPart b u (drop i ws) ≡ a
-      → joinPart (areas ps ss) u (drop (i + 1) ws) ≡ a
-  unfolding joinPart
-  part-more d ps ss l e f =
-      rw add-one (ap (λ (x : Done Joining Areas). joinPart (x .area) u (drop (suc i) ws)) e ∙ ap (joinPart b u) (sym (drop-cons ws i 0 l)) ∙ f)
-
-  pub part-end : length ws ≤ i → joinPart b u (drop i ws) ≡ a → b ≡ a
-  unfolding joinPart
-  part-end l e = ap (joinPart b u) (sym (drop-of-length-le ws l)) ∙ e
-
 module _ (out : ℕ → List ℕ) (a : Areas) where
   pub arcs-none : a ≡ joinArcs out 0 a
   unfolding joinArcs
   arcs-none = refl
 
-  pub arcs-more : (b c : Areas) (u : ℕ) (ws : List ℕ) → b ≡ joinArcs out u a → ws ≡ out u → c ≡ joinPart b u ws → c ≡ joinArcs out (u + 1) a
+  pub arcs-more : (b c : Areas) (u : ℕ) (ws : List ℕ) → b ≡ joinArcs out u a → ws ≡ out u → c ≡ joinEach twoBook b u ws → c ≡ joinArcs out (u + 1) a
   unfolding joinArcs
-  arcs-more b c u ws e q f = rw add-one (f ∙ ap₂ (λ (x : Areas) (l : List ℕ). joinPart x u l) e q)
+  arcs-more b c u ws e q f = rw add-one (f ∙ ap₂ (λ (x : Areas) (l : List ℕ). joinEach twoBook x u l) e q)
 
   pub arcs-end : (b : Areas) (u n : ℕ) → u ≤ n → n ≤ u → b ≡ joinArcs out u a → b ≡ joinArcs out n a
   arcs-end b u n l k e = let q : u ≡ n = omega arith in e ∙ ap (λ (x : ℕ). joinArcs out x a) q

@@ -2,11 +2,11 @@
 use Prim.Native.Nat.{ℕ, zero, suc, _≤_, _<_}
 use mathlib.Core.Path.{_≡_}
 use mathlib.Core.Bool.{true}
-use mathlib.Core.List.{List, [], _∷_}
+use mathlib.Core.List.{List}
 use lib.IntN.{ℤ, pos}
 use lib.ListN.{length, getD, set}
 use Rattle.basis.specs.Scan.{allBelow}
-use Rattle.book.specs.Rules.{headOf, joinBook}
+use Rattle.book.specs.Rules.{headOf, joinEach}
 use Rattle.book.specs.Two.{Areas, two, twoBook}
 use Rattle.book.specs.Series.{headIn}
 
@@ -14,15 +14,10 @@ use Rattle.book.specs.Series.{headIn}
 unfoldable pub headHere : List ℕ → List ℕ → ℕ → ℕ
 headHere ps ss v = headIn (headOf (two ps ss) v)
 
--- the book after u was joined with each vertex of a list
-unfoldable pub joinPart : Areas → ℕ → List ℕ → Areas
-joinPart a u [] = a
-joinPart a u (w ∷ ws) = joinPart (joinBook twoBook a u w .area) u ws
-
 -- the book after the joins along the outward arcs of the first n vertices
 unfoldable pub joinArcs : (ℕ → List ℕ) → ℕ → Areas → Areas
 joinArcs out zero a = a
-joinArcs out (suc u) a = joinPart (joinArcs out u a) u (out u)
+joinArcs out (suc u) a = joinEach twoBook (joinArcs out u a) u (out u)
 
 -- each vertex from n - 1 down to 0 writes its identifier at its head g: the last one written there is the smallest
 unfoldable pub marked : (ℕ → ℕ) → List ℤ → ℕ → List ℤ → List ℤ

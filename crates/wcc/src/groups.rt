@@ -1,12 +1,12 @@
 // The components as groups of a book.
 use book::Headed;
-use book::joining::join;
+use book::joining::join_each;
 use book::readings::head;
 use view::neighbours;
 ghost use mathlib.Core.Path.{_≡_};
 ghost use Rattle.graph.specs.Part.{partOf};
 ghost use Rattle.book.specs.Two.{areas};
-ghost use Rattle.wcc.specs.Steps.{headHere, joinPart, joinArcs};
+ghost use Rattle.wcc.specs.Steps.{headHere, joinArcs};
 
 // The head of v.
 pub(crate) fn head_of(parents: &[usize], sizes: &[usize], v: usize) -> usize
@@ -15,17 +15,6 @@ pub(crate) fn head_of(parents: &[usize], sizes: &[usize], v: usize) -> usize
     match head(parents, sizes, v) {
         Headed::Head(h, _) => h,
         Headed::Refused(_) => 0,
-    }
-}
-
-// Joins u with each of its neighbours.
-fn join_part(parents: &mut [usize], sizes: &mut [usize], u: usize, next: &[usize])
-    ensures { λ _. ⌜ areas (now (parents .exit)) (now (sizes .exit)) ≡ joinPart (areas (now (parents .entry)) (now (sizes .entry))) u (now (next .entry)) ⌝ }
-{
-    let mut i = 0;
-    while i < next.len() {
-        join(parents, sizes, u, next[i]);
-        i += 1;
     }
 }
 
@@ -41,7 +30,7 @@ pub(crate) fn join_arcs(
 {
     let mut u = 0;
     while u < n {
-        join_part(parents, sizes, u, neighbours(targets, offsets, n, u));
+        join_each(parents, sizes, u, neighbours(targets, offsets, n, u));
         u += 1;
     }
 }

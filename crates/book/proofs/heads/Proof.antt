@@ -1,6 +1,7 @@
-use Rattle.book.specs.Two.{two}
-use Rattle.book.proofs.Calls.{heads-unlent, heads-missing, heads-missing2, heads-lost, heads-lost2, heads-found}
 use borrow.Author.Needs.{needs}
+use Rattle.book.specs.Two.{two}
+use Rattle.book.proofs.Calls.{heads-unlent, heads-missing, heads-missing2}
+use Rattle.book.proofs.Walked.{lent-within, heads-late, heads-late2, heads-end}
 use Rattle.book.proofs.heads.Statement.{statement}
 use Rattle.book.proofs.heads.Tie as tie
 
@@ -29,34 +30,28 @@ unfolding two
 returns-3 c = search heads-missing2
 
 walk-requires : tie.Need-walk-requires
-walk-requires c κs = search needs
+walk-requires c κs = search (needs, lent-within)
 
-enum-known-g : tie.Need-enum-known-g
-enum-known-g c = search needs
-
-enum-known-r : tie.Need-enum-known-r
-enum-known-r c = search needs
+plain-requires-4 : tie.Need-plain-requires-4
+plain-requires-4 c κs = search needs
 
 returns-4 : tie.Need-returns-4
 unfolding two
-returns-4 c = search heads-lost
+returns-4 c = search heads-late
 
 walk-requires-2 : tie.Need-walk-requires-2
-walk-requires-2 c κs = search needs
+walk-requires-2 c κs = search (needs, lent-within)
 
-enum-known-h : tie.Need-enum-known-h
-enum-known-h c = search needs
-
-enum-known-r-2 : tie.Need-enum-known-r-2
-enum-known-r-2 c = search needs
+plain-requires-5 : tie.Need-plain-requires-5
+plain-requires-5 c κs = search needs
 
 returns-5 : tie.Need-returns-5
 unfolding two
-returns-5 c = search heads-found
+returns-5 c = search heads-late2
 
 returns-6 : tie.Need-returns-6
 unfolding two
-returns-6 c = search heads-lost2
+returns-6 c = search heads-end
 
 pub heads-spec : {M : Type 1} → statement M
 heads-spec =
@@ -70,11 +65,9 @@ heads-spec =
     plain-requires-3
     returns-3
     walk-requires
-    enum-known-g
-    enum-known-r
+    plain-requires-4
     returns-4
     walk-requires-2
-    enum-known-h
-    enum-known-r-2
+    plain-requires-5
     returns-5
     returns-6)

@@ -5,7 +5,7 @@ use native.Mathlib.Omega.{arith}
 use lib.ListN.{length}
 use Rattle.book.specs.Rules.{walk, walkFrom}
 use Rattle.book.specs.Two.{nextIn}
-use Rattle.book.proofs.Walks.{loop-found, loop-late, loop-out, loop-moves}
+use Rattle.book.proofs.Walked.{loop-found, loop-late, loop-out, loop-moves}
 use Rattle.book.proofs.walk.Statement.{statement}
 use Rattle.book.proofs.walk.Tie as tie
 
@@ -25,17 +25,17 @@ mul-p c = search needs
 shared-slice-read-p : tie.Need-shared-slice-read-p Inv-loop μ-loop
 shared-slice-read-p c = search needs
 
+mul-result : tie.Need-mul-result Inv-loop μ-loop
+mul-result c = search needs
+
+add-result : tie.Need-add-result Inv-loop μ-loop
+add-result c = search needs
+
 returns : tie.Need-returns Inv-loop μ-loop
 returns c = search loop-found
 
-plain-requires : tie.Need-plain-requires Inv-loop μ-loop
-plain-requires c κs = search needs
-
 returns-2 : tie.Need-returns-2 Inv-loop μ-loop
 returns-2 c = search loop-late
-
-plain-requires-2 : tie.Need-plain-requires-2 Inv-loop μ-loop
-plain-requires-2 c κs = search needs
 
 returns-3 : tie.Need-returns-3 Inv-loop μ-loop
 returns-3 c = search loop-out
@@ -58,10 +58,10 @@ walk-spec =
     loop-holds
     mul-p
     shared-slice-read-p
+    mul-result
+    add-result
     returns
-    plain-requires
     returns-2
-    plain-requires-2
     returns-3
     add-moves
     loop-less

@@ -1,6 +1,7 @@
-use Rattle.book.specs.Two.{two}
-use Rattle.book.proofs.Calls.{head-unlent, head-missing, head-walked}
 use borrow.Author.Needs.{needs}
+use Rattle.book.specs.Two.{two}
+use Rattle.book.proofs.Calls.{head-unlent, head-missing}
+use Rattle.book.proofs.Walked.{lent-within, head-late, head-ends}
 use Rattle.book.proofs.readings.head.Statement.{statement}
 use Rattle.book.proofs.readings.head.Tie as tie
 
@@ -22,11 +23,18 @@ unfolding two
 returns-2 c = search head-missing
 
 walk-requires : tie.Need-walk-requires
-walk-requires c κs = search needs
+walk-requires c κs = search (needs, lent-within)
+
+plain-requires-3 : tie.Need-plain-requires-3
+plain-requires-3 c κs = search needs
 
 returns-3 : tie.Need-returns-3
 unfolding two
-returns-3 c = search head-walked
+returns-3 c = search head-late
+
+returns-4 : tie.Need-returns-4
+unfolding two
+returns-4 c = search head-ends
 
 pub head-spec : {M : Type 1} → statement M
 head-spec =
@@ -38,4 +46,6 @@ head-spec =
     plain-requires-2
     returns-2
     walk-requires
-    returns-3)
+    plain-requires-3
+    returns-3
+    returns-4)

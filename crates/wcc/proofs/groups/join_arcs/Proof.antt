@@ -22,8 +22,8 @@ loop-holds c = (omega arith, refl, refl, search arcs-none)
 neighbours-requires : tie.Need-neighbours-requires Inv-loop μ-loop
 neighbours-requires c κs = search needs
 
-join-part-requires : tie.Need-join-part-requires Inv-loop μ-loop
-join-part-requires c κs = search needs
+join-each-requires : tie.Need-join-each-requires Inv-loop μ-loop
+join-each-requires c κs = search needs
 
 add-u : tie.Need-add-u Inv-loop μ-loop
 add-u c = search needs
@@ -51,7 +51,7 @@ join-arcs-spec =
     μ-loop
     loop-holds
     neighbours-requires
-    join-part-requires
+    join-each-requires
     add-u
     loop-less
     loop-again

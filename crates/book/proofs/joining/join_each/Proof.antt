@@ -1,0 +1,101 @@
+use borrow.Author.Needs.{needs}
+use mathlib.Core.Path.{_≡_, refl}
+use Prim.Native.Nat.{_≤_, _-_}
+use native.Mathlib.Omega.{arith}
+use lib.ListN.{length, drop}
+use Rattle.book.specs.Rules.{joinEach}
+use Rattle.book.specs.Two.{areas, twoBook}
+use Rattle.book.specs.Steps.{Walking}
+use Rattle.book.proofs.Walked.{lent-within}
+use Rattle.book.proofs.Each.{each-none, each-unlent, each-missing, walking-start, each-more, each-end}
+use Rattle.book.proofs.joining.join_each.Statement.{statement}
+use Rattle.book.proofs.joining.join_each.Tie as tie
+
+abbrev Inv-loop : tie.InvT-loop
+Inv-loop parents₀ sizes₀ u others at₀ i₀ parents sizes at i = (i ≤ length others) × (length parents ≡ length parents₀) × (length sizes ≡ length sizes₀) × Walking parents sizes u at × (joinEach twoBook (areas parents sizes) u (drop i others) ≡ joinEach twoBook (areas parents₀ sizes₀) u others)
+
+abbrev μ-loop : tie.MeasureT-loop
+μ-loop parents₀ sizes₀ u others at₀ i₀ parents sizes at i = length others - i
+
+returns : tie.Need-returns Inv-loop μ-loop
+returns c = search each-none
+
+well-lent-requires : tie.Need-well-lent-requires Inv-loop μ-loop
+well-lent-requires c κs = search needs
+
+same-length : tie.Need-same-length Inv-loop μ-loop
+same-length c = search needs
+
+same-length-2 : tie.Need-same-length-2 Inv-loop μ-loop
+same-length-2 c = search needs
+
+returns-2 : tie.Need-returns-2 Inv-loop μ-loop
+returns-2 c = search each-unlent
+
+same-length-3 : tie.Need-same-length-3 Inv-loop μ-loop
+same-length-3 c = search needs
+
+same-length-4 : tie.Need-same-length-4 Inv-loop μ-loop
+same-length-4 c = search needs
+
+returns-3 : tie.Need-returns-3 Inv-loop μ-loop
+returns-3 c = each-missing _ _ _ (c .before .before .well-lent .result) (c .before .before .well-lent .ensures) _ (c .before .if2 .left) (c .if3 .taken)
+
+walk-requires : tie.Need-walk-requires Inv-loop μ-loop
+walk-requires c κs = (c .before .if3 .left, lent-within _ _ (c .before .before .before .well-lent .result) (c .before .before .before .well-lent .ensures) (c .before .before .if2 .left))
+
+loop-holds : tie.Need-loop-holds Inv-loop μ-loop
+loop-holds c = (omega arith, refl, refl, walking-start _ _ _ (c .before .before .before .before .well-lent .result) (c .before .before .before .before .well-lent .ensures) _ (c .before .before .before .if2 .left) (c .before .before .if3 .left) (c .walk .ensures), refl)
+
+mul-join-next : tie.Need-mul-join-next Inv-loop μ-loop
+mul-join-next c = search needs
+
+shared-slice-read-join-next : tie.Need-shared-slice-read-join-next Inv-loop μ-loop
+shared-slice-read-join-next c = search needs
+
+join-next-requires : tie.Need-join-next-requires Inv-loop μ-loop
+join-next-requires c κs = search needs
+
+add-i : tie.Need-add-i Inv-loop μ-loop
+add-i c = search needs
+
+loop-less : tie.Need-loop-less Inv-loop μ-loop
+loop-less c = search needs
+
+loop-again : tie.Need-loop-again Inv-loop μ-loop
+loop-again c = (omega arith, search needs, search needs, search needs, search each-more)
+
+same-length-5 : tie.Need-same-length-5 Inv-loop μ-loop
+same-length-5 c = search needs
+
+same-length-6 : tie.Need-same-length-6 Inv-loop μ-loop
+same-length-6 c = search needs
+
+returns-4 : tie.Need-returns-4 Inv-loop μ-loop
+returns-4 c = search each-end
+
+pub join-each-spec : {M : Type 1} → statement M
+join-each-spec =
+    tie.close
+    (tie.spec
+    Inv-loop
+    μ-loop
+    returns
+    well-lent-requires
+    same-length
+    same-length-2
+    returns-2
+    same-length-3
+    same-length-4
+    returns-3
+    walk-requires
+    loop-holds
+    mul-join-next
+    shared-slice-read-join-next
+    join-next-requires
+    add-i
+    loop-less
+    loop-again
+    same-length-5
+    same-length-6
+    returns-4)

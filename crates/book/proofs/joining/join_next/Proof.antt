@@ -1,0 +1,114 @@
+use borrow.Author.Needs.{needs}
+use Rattle.book.proofs.Each.{walking-within, walking-lengths, walking-already, walking-refused, next-missing, next-late, next-late2, next-first, next-first-in, next-second, next-linked, next-top, next-under}
+use borrow.Author.Needs.{needs}
+use Rattle.book.proofs.joining.join_next.Statement.{statement}
+use Rattle.book.proofs.joining.join_next.Tie as tie
+
+returns : tie.Need-returns
+returns c = (search next-missing, search needs)
+
+returns-2 : tie.Need-returns-2
+returns-2 c = (search next-late, search needs)
+
+walk-requires : tie.Need-walk-requires
+walk-requires c κs = search (needs, walking-within)
+
+same-length : tie.Need-same-length
+same-length c = search needs
+
+returns-3 : tie.Need-returns-3
+returns-3 c = (search next-late2, search needs)
+
+link-requires : tie.Need-link-requires
+link-requires c κs = (search walking-lengths, search next-first, search next-second)
+
+enum-told : tie.Need-enum-told
+enum-told c = search needs
+
+mul-if4 : tie.Need-mul-if4
+mul-if4 c = search needs
+
+slice-read-if4 : tie.Need-slice-read-if4
+slice-read-if4 c = search next-first-in
+
+same-length-2 : tie.Need-same-length-2
+same-length-2 c = search needs
+
+same-length-3 : tie.Need-same-length-3
+same-length-3 c = search needs
+
+returns-4 : tie.Need-returns-4
+returns-4 c = (search next-linked, search next-top)
+
+add-result : tie.Need-add-result
+add-result c = search needs
+
+mul-result : tie.Need-mul-result
+mul-result c = search needs
+
+add-result-2 : tie.Need-add-result-2
+add-result-2 c = search needs
+
+enum-told-2 : tie.Need-enum-told-2
+enum-told-2 c = search needs
+
+enum-told-3 : tie.Need-enum-told-3
+enum-told-3 c = search needs
+
+same-length-4 : tie.Need-same-length-4
+same-length-4 c = search needs
+
+same-length-5 : tie.Need-same-length-5
+same-length-5 c = search needs
+
+returns-5 : tie.Need-returns-5
+returns-5 c = (search next-linked, search next-under)
+
+same-length-6 : tie.Need-same-length-6
+same-length-6 c = search needs
+
+same-length-7 : tie.Need-same-length-7
+same-length-7 c = search needs
+
+returns-6 : tie.Need-returns-6
+returns-6 c = (search next-linked, search walking-already)
+
+same-length-8 : tie.Need-same-length-8
+same-length-8 c = search needs
+
+same-length-9 : tie.Need-same-length-9
+same-length-9 c = search needs
+
+returns-7 : tie.Need-returns-7
+returns-7 c = (search next-linked, search walking-refused)
+
+pub join-next-spec : {M : Type 1} → statement M
+join-next-spec =
+    tie.close
+    (tie.spec
+    returns
+    returns-2
+    walk-requires
+    same-length
+    returns-3
+    link-requires
+    enum-told
+    mul-if4
+    slice-read-if4
+    same-length-2
+    same-length-3
+    returns-4
+    add-result
+    mul-result
+    add-result-2
+    enum-told-2
+    enum-told-3
+    same-length-4
+    same-length-5
+    returns-5
+    same-length-6
+    same-length-7
+    returns-6
+    same-length-8
+    same-length-9
+    returns-7)
