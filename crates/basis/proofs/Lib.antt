@@ -1,5 +1,7 @@
 -- Laws that every layer cites.
 pub mod Tests
+pub mod Saids
 pub mod Scans
 pub mod Orders
+pub mod Sets
 pub mod Areas

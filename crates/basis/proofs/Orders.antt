@@ -1,7 +1,7 @@
 -- Laws of order, over any type with a test for same and one for less; numbers and signed numbers are two of them. Assumes nothing.
-use Prim.Native.Nat.{ℕ, zero, suc, _+_, _-_, _^_, _≤_, _<_}
+use Prim.Native.Nat.{ℕ, zero, suc, _-_, _^_, _<_}
 use mathlib.Core.Path.{_≡_, refl, sym, ap, _∙_, subst}
-use mathlib.Core.Bool.{Bool, true, false, _&&_, false≢true}
+use mathlib.Core.Bool.{Bool, true, false}
 use mathlib.Core.List.{List, [], _∷_}
 use native.Mathlib.Omega.{arith}
 use native.Mathlib.Nat.{not-suc-le-zero}
@@ -13,7 +13,7 @@ use lib.Dec.{eqb, ltb}
 use mir.Syntax.{w64}
 use mir.Val.{ofZ, hbits}
 use borrow.Author.Tests.{eq-eqb, ne-eqb, eqb-true, eqb-false, lt-ltb, le-ltb, ltb-true, ltb-false}
-use Rattle.basis.specs.Order.{sameZ, aboveBy, risingBy, rising, risingZ}
+use Rattle.basis.specs.Order.{sameZ, aboveBy, risingBy, rising}
 use Rattle.basis.proofs.Tests.{clash, false-of, bool-cases, and-first, and-second, and-both}
 
 -- what the two tests must be
@@ -59,10 +59,6 @@ module _ {A : Type 0} (less : A → A → Bool) (z : A) where
 
   pub risingBy-fail : (l : List A) (i : ℕ) → suc i < length l → less (getD l i z) (getD l (suc i) z) ≡ false → risingBy less l ≡ false
   risingBy-fail l i g h = false-of (risingBy less l) (λ e. clash (risingBy-next l e i g) h)
-
-  pub risingBy-tail : (x : A) (l : List A) → risingBy less (x ∷ l) ≡ true → risingBy less l ≡ true
-  risingBy-tail x [] h = refl
-  risingBy-tail x (y ∷ l) h = and-second (less x y) (aboveBy less y l) h
 
 module _ {A : Type 0} {same less : A → A → Bool} (order : Order same less) (z : A) (l : List A) (r : risingBy less l ≡ true) where
   pub rising-less : (i j : ℕ) → i < j → j < length l → less (getD l i z) (getD l j z) ≡ true
@@ -112,9 +108,6 @@ number-order =
 pub rising-lt : (l : List ℕ) → rising l ≡ true → (i j : ℕ) → i < j → j < length l → getD l i 0 < getD l j 0
 rising-lt l r i j a b = ltb-true (getD l i 0) (getD l j 0) (rising-less number-order 0 l r i j a b)
 
-pub rising-of : (l : List ℕ) → ((i : ℕ) → suc i < length l → getD l i 0 < getD l (suc i) 0) → rising l ≡ true
-rising-of l h = risingBy-of ltb 0 l (λ i g. lt-ltb (getD l i 0) (getD l (suc i) 0) (h i g))
-
 -- ---- signed numbers
 refl-z : (a : ℤ) → sameZ a a ≡ true
 refl-z (pos a) = eq-eqb a a refl
@@ -153,21 +146,6 @@ eq-z (negsuc a) (negsuc b) h k = ap negsuc (number-order .less-eq a b k h)
 
 pub signed-order : Order sameZ ltZ
 signed-order = record { same-refl = refl-z; same-eq = same-z; less-not = not-z; less-asym = asym-z; less-down = down-z; less-eq = eq-z }
-
--- ---- signed numbers of 64 bits as numbers, on which `omega` works: key z is z + 2 ^ 63
-abbrev pub key : ℤ → ℕ
-key (pos n) = 2 ^ 63 + n
-key (negsuc n) = 2 ^ 63 - suc n
-
-ltb-same : (a b c d : ℕ) (t : Bool) → ltb a b ≡ t → (a < b → c < d) → (b ≤ a → d ≤ c) → ltb a b ≡ ltb c d
-ltb-same a b c d true e f g = e ∙ sym (lt-ltb c d (f (ltb-true a b e)))
-ltb-same a b c d false e f g = e ∙ sym (le-ltb c d (g (ltb-false a b e)))
-
-pub key-lt : (a b : ℤ) → mag a < 2 ^ 63 → mag b < 2 ^ 63 → ltZ a b ≡ ltb (key a) (key b)
-key-lt (pos a) (pos b) f g = ltb-same a b (2 ^ 63 + a) (2 ^ 63 + b) (ltb a b) refl (λ h. omega arith) (λ h. omega arith)
-key-lt (pos a) (negsuc b) f g = sym (le-ltb (2 ^ 63 + a) (2 ^ 63 - suc b) (omega arith))
-key-lt (negsuc a) (pos b) f g = sym (lt-ltb (2 ^ 63 - suc a) (2 ^ 63 + b) (omega arith))
-key-lt (negsuc a) (negsuc b) f g = ltb-same b a (2 ^ 63 - suc a) (2 ^ 63 - suc b) (ltb b a) refl (λ h. omega arith) (λ h. omega arith)
 
 -- ---- the machine's bits of signed numbers are the same exactly where the numbers are
 neg-inj : (a b : ℕ) → a < 2 ^ 63 → b < 2 ^ 63 → 2 ^ 64 - suc a ≡ 2 ^ 64 - suc b → a ≡ b

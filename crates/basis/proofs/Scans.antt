@@ -12,7 +12,7 @@ use lib.ListN.{length, getD}
 use lib.Dec.{eqb, ltb}
 use borrow.Author.Tests.{eq-eqb, ne-eqb, eqb-true, ltb-true, lt-ltb}
 use Rattle.basis.specs.Scan.{every, each, allBelow, mem}
-use Rattle.basis.proofs.Tests.{clash, false-of, same-test, and-first, and-second, and-both, or-first, or-second, or-cases}
+use Rattle.basis.proofs.Tests.{clash, false-of, same-test, and-first, and-second, and-both, or-first, or-second, or-cases, or-assoc, and-assoc}
 
 -- ---- every number below a bound
 module _ (p : ℕ → Bool) where
@@ -65,11 +65,39 @@ module _ {A : Type 0} (p : A → Bool) (z : A) where
       (λ h. each-of l (λ i g. every-at (λ i. p (getD l i z)) (length l) i g h))
       (λ h. every-of (λ i. p (getD l i z)) (length l) (λ i g. each-at l h i g))
 
+pub each-append : {A : Type 0} (p : A → Bool) (a b : List A) → each p (a ++ b) ≡ (each p a && each p b)
+unfolding each
+each-append p [] b = refl
+each-append p (x ∷ a) b = ap (λ (t : Bool). p x && t) (each-append p a b) ∙ and-assoc (p x) (each p a) (each p b)
+
 pub below-at : (n : ℕ) (l : List ℕ) → allBelow n l ≡ true → (i : ℕ) → i < length l → getD l i 0 < n
 below-at n l h i g = ltb-true (getD l i 0) n (each-at (λ x. ltb x n) 0 l h i g)
 
 pub below-of : (n : ℕ) (l : List ℕ) → ((i : ℕ) → i < length l → getD l i 0 < n) → allBelow n l ≡ true
 below-of n l h = each-of (λ x. ltb x n) 0 l (λ i g. lt-ltb (getD l i 0) n (h i g))
+
+pub below-up : (n m : ℕ) (l : List ℕ) → n ≤ m → allBelow n l ≡ true → allBelow m l ≡ true
+below-up n m l g h = below-of m l (λ i k. let a = below-at n l h i k in omega arith)
+
+-- member by member
+module _ (n : ℕ) where
+  pub below-none : allBelow n [] ≡ true
+  unfolding each
+  below-none = refl
+
+  pub below-more : (x : ℕ) (l : List ℕ) → x < n → allBelow n l ≡ true → allBelow n (x ∷ l) ≡ true
+  unfolding each
+  below-more x l h g = and-both (lt-ltb x n h) g
+
+  pub below-first : (x : ℕ) (l : List ℕ) → allBelow n (x ∷ l) ≡ true → x < n
+  below-first x l h = below-at n (x ∷ l) h 0 (omega arith)
+
+  pub below-rest : (x : ℕ) (l : List ℕ) → allBelow n (x ∷ l) ≡ true → allBelow n l ≡ true
+  unfolding each
+  below-rest x l h = and-second (ltb x n) (allBelow n l) h
+
+  pub below-append : (a b : List ℕ) → allBelow n a ≡ true → allBelow n b ≡ true → allBelow n (a ++ b) ≡ true
+  below-append a b h g = each-append (λ x. ltb x n) a b ∙ and-both h g
 
 -- ---- membership
 pub mem-index : (x : ℕ) (l : List ℕ) (i : ℕ) → i < length l → getD l i 0 ≡ x → mem x l ≡ true
@@ -114,10 +142,6 @@ pub mem-append : (x : ℕ) (a b : List ℕ) → mem x (a ++ b) ≡ (mem x a || m
 unfolding mem
 mem-append x [] b = refl
 mem-append x (y ∷ a) b = ap (λ (t : Bool). eqb x y || t) (mem-append x a b) ∙ or-assoc (eqb x y) (mem x a) (mem x b)
-  where
-    or-assoc : (r s t : Bool) → (r || (s || t)) ≡ ((r || s) || t)
-    or-assoc true s t = refl
-    or-assoc false s t = refl
 
 pub below-mem : (n : ℕ) (l : List ℕ) → allBelow n l ≡ true → (x : ℕ) → mem x l ≡ true → x < n
 below-mem n l h x m = ltb-true x n (each-mem (λ x. ltb x n) l h x m)

@@ -2,11 +2,18 @@
 use mathlib.Core.Path.{_≡_, refl, sym, ap, _∙_}
 use mathlib.Core.Logic.{_⊎_, inl, inr}
 use mathlib.Core.Bool.{Bool, true, false, not, _&&_, _||_, false≢true}
-use borrow.Author.Tests.{not-true, not-false}
+use Prim.Native.Nat.{ℕ}
+use native.Mathlib.Omega.{arith}
+use lib.Dec.{eqb}
+use borrow.Author.Tests.{not-true, not-false, eq-eqb, eqb-true}
 
 -- a test that is both ways proves anything
 pub clash {ℓ} : {X : Type ℓ} {t : Bool} → t ≡ true → t ≡ false → X
 clash h g = absurd (false≢true (sym g ∙ h))
+
+-- `no-case cc`: what is given says that two things of different make are the same
+pub no-case {ℓ} : {X : Type ℓ} → _≡_ {A = ℕ} 0 1 → X
+no-case e = absurd (let z : ⊥ = omega arith in z)
 
 pub false-of : (t : Bool) → (t ≡ true → ⊥) → t ≡ false
 false-of true h = absurd (h refl)
@@ -37,6 +44,16 @@ pub and-off : (s t : Bool) → t ≡ false → (s && t) ≡ false
 and-off true t h = h
 and-off false t h = refl
 
+pub and-swap : (s t : Bool) → (s && t) ≡ (t && s)
+and-swap true true = refl
+and-swap true false = refl
+and-swap false true = refl
+and-swap false false = refl
+
+pub and-assoc : (r s t : Bool) → (r && (s && t)) ≡ ((r && s) && t)
+and-assoc true s t = refl
+and-assoc false s t = refl
+
 pub or-first : (s t : Bool) → s ≡ true → (s || t) ≡ true
 or-first s t h = ap (λ (x : Bool). x || t) h
 
@@ -47,6 +64,13 @@ or-second false t h = h
 pub or-cases : (s t : Bool) → (s || t) ≡ true → (s ≡ true) ⊎ (t ≡ true)
 or-cases true t h = inl refl
 or-cases false t h = inr h
+
+pub or-assoc : (r s t : Bool) → (r || (s || t)) ≡ ((r || s) || t)
+or-assoc true s t = refl
+or-assoc false s t = refl
+
+pub eqb-swap : (a b : ℕ) → eqb a b ≡ eqb b a
+eqb-swap a b = same-test (eqb a b) (eqb b a) (λ h. eq-eqb b a (sym (eqb-true a b h))) (λ h. eq-eqb a b (sym (eqb-true b a h)))
 
 -- after `if !f(..)`: what the answer t of a call says of the test b that it promises
 pub failed : (t b : Bool) → t ≡ b → not t ≡ true → b ≡ false

@@ -1,5 +1,6 @@
 -- 01 "Refusal numbers": what a call says, in the paper's numbers.
 use Prim.Native.Nat.{ℕ}
+use mathlib.Core.Bool.{Bool, cond}
 use Rattle.basis.specs.declared.refusal.Refusal.{Refusal}
 
 -- "A refusal returns its number, a file number and a line counted from 1"
@@ -75,3 +76,16 @@ sheetFile = 4
 pub data Said (A : Type 0) : Type 0 where
   gives : A → Said A
   refuses : Refusal → Said A
+
+-- "The first fault met is the answer": what a call says that goes on from what another gives, and is refused where that is
+abbrev pub onward : {A B : Type 0} → Said A → (A → Said B) → Said B
+onward (gives x) f = f x
+onward (refuses r) f = refuses r
+
+-- the same where nothing more is refused
+abbrev pub said : {A B : Type 0} → (A → B) → Said A → Said B
+said f x = onward x (λ a. gives (f a))
+
+-- a check: what a call says where the test holds, else the refusal with its number, which "meets no line"
+abbrev pub check : {A : Type 0} → Bool → ℕ → Said A → Said A
+check t number s = cond t s (refuses (plain number))

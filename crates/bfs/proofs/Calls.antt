@@ -95,12 +95,6 @@ module _ (g : Graph) (root : ℤ) where
         ∙ rw (h, call-place h f b ∙ a)
         (room-cases D Q (depths (g .vertices) (outward g) v) (leb (g .vertices) (length D) && leb (g .vertices) (length Q)))
 
-    -- for callers: a sound graph, a root that is there and room enough
-    pub call-done : (v : ℕ) → soundGraph g ≡ true → placeIn (names g) root ≡ At v → g .vertices ≤ length D → g .vertices ≤ length Q
-        → bfsCall g root D Q ≡ outcome (gives tt) (padZ (length D) (depths (g .vertices) (outward g) v)) (cleared Q)
-    unfolding bfsCall bfsSays kernelSays
-    call-done v h p d q = rw (h, p, le-leb (g .vertices) (length D) d, le-leb (g .vertices) (length Q) q)
-
 -- the check of the graph left zeros in the queue
 queue-zero : (g : Graph) (root : ℤ) (D : List ℤ) (Q Q₁ : List ℕ) → Q₁ ≡ cleared Q → bfsCall g root D Q₁ ≡ bfsCall g root D Q
 unfolding bfsCall bfsSays

@@ -2,17 +2,17 @@
 use mathlib.Core.Path.{_≡_, refl, sym, ap, _∙_}
 use mathlib.Core.Bool.{Bool, true, false, cond}
 use Prim.Native.Nat.{ℕ}
-use native.Mathlib.Omega.{arith}
+use Rattle.basis.proofs.Saids.{refused-given, given-one}
 use Rattle.basis.specs.declared.refusal.Refusal.{Refusal}
-use Rattle.basis.specs.Refusal.{Said, gives, refuses, plain, noRoom}
+use Rattle.basis.specs.Refusal.{Said, gives, refuses, plain, noRoom, onward}
+use Rattle.basis.proofs.Tests.{no-case}
 use Rattle.book.specs.declared.Opened.{Opened}
 use Rattle.book.specs.declared.Joined.{Joined}
 use Rattle.book.specs.declared.Headed.{Headed}
 use Rattle.book.specs.declared.Compared.{Compared}
 use Rattle.book.specs.declared.Reading.{Reading}
-use Rattle.book.specs.Rules.{Found, Heads, Step, already, merge, Joining, merged, same, Machine, Done, done, onward, headsOf, linkHeads, decide, openBook, writeBook, joinBook}
+use Rattle.book.specs.Rules.{Found, Heads, Step, already, merge, Joining, merged, same, Machine, Done, done, headsOf, linkHeads, decide, openBook, writeBook, joinBook}
 use Rattle.book.specs.Says.{saysOpened, saysJoined, saysHeaded, saysCompared, saysReading}
-use Rattle.book.proofs.Checks.{refused-given, given-one}
 use Rattle.book.proofs.Calls.{heads-inside}
 use Rattle.book.proofs.Joins.{link-already}
 
@@ -24,7 +24,7 @@ one-opened (Opened.Refused r) Opened.Ready e = refused-given e
 one-opened (Opened.Refused r) (Opened.Refused s) e = cc
 
 merged-same {ℓ} : {X : Type ℓ} → _≡_ {A = Said Joining} (gives merged) (gives same) → X
-merged-same e = absurd (let z : _≡_ {A = ℕ} 0 1 = cc in omega arith)
+merged-same e = no-case cc
 
 pub one-joined : (a b : Joined) → saysJoined a ≡ saysJoined b → a ≡ b
 one-joined Joined.Merged Joined.Merged e = refl
@@ -44,7 +44,7 @@ one-headed (Headed.Refused r) (Headed.Head h l) e = refused-given e
 one-headed (Headed.Refused r) (Headed.Refused s) e = cc
 
 true-false {ℓ} : {X : Type ℓ} → _≡_ {A = Said Bool} (gives true) (gives false) → X
-true-false e = absurd (let z : _≡_ {A = ℕ} 0 1 = cc in omega arith)
+true-false e = no-case cc
 
 pub one-compared : (a b : Compared) → saysCompared a ≡ saysCompared b → a ≡ b
 one-compared Compared.Together Compared.Together e = refl

@@ -1,10 +1,11 @@
 -- Laws of two areas: an opening, for each `return` of the code, and the bounds of what the other calls read. Assumes nothing.
-use mathlib.Core.Path.{_≡_, sym, ap, ap₂, _∙_}
+use mathlib.Core.Path.{_≡_, ap, ap₂, _∙_}
 use mathlib.Core.List.{List, _++_}
 use mathlib.Core.Bool.{Bool, true, false, not}
 use Prim.Native.Nat.{ℕ, _≤_, _<_}
 use native.Mathlib.Omega.{arith}
 use lib.ListN.{length, getD, drop, replicate}
+use Rattle.basis.proofs.Tests.{failed, held}
 use Rattle.basis.specs.declared.refusal.Refusal.{Refusal}
 use Rattle.basis.specs.Refusal.{gives, refuses, plain, noRoom}
 use Rattle.basis.specs.Area.{column}
@@ -14,16 +15,16 @@ use Rattle.book.specs.declared.Reading.{Reading}
 use Rattle.book.specs.Rules.{done, openBook, headOf, groupSize}
 use Rattle.book.specs.Two.{areas, fits, two, twoBook}
 use Rattle.book.specs.Says.{saysHeaded, saysReading}
-use Rattle.book.proofs.Checks.{failed, held, fits-same, fits-within}
+use Rattle.book.proofs.Checks.{fits-same, fits-within}
 use Rattle.book.proofs.Calls.{size-below, size-is, limit-size}
 
 module _ (ps ss : List ℕ) (t : Bool) (e : t ≡ fits ps ss) where
   pub open-unlent : (x : Refusal) → not t ≡ true → x ≡ plain noRoom → done (refuses x) (areas ps ss) ≡ openBook twoBook (areas ps ss)
   unfolding openBook two
-  open-unlent x f p = rw (sym e ∙ failed t f, p)
+  open-unlent x f p = rw (failed t _ e f, p)
 
   pub open-lengths : not t ≡ false → length ss ≡ length ps
-  open-lengths f = fits-same ps ss (sym e ∙ held t f)
+  open-lengths f = fits-same ps ss (held t _ e f)
 
   pub open-ready : (i : ℕ) (p s : List ℕ) → not t ≡ false → length ps ≤ i → i ≤ length ps → p ≡ column (λ v. v) 0 i ++ drop i ps → s ≡ column (λ v. 1) 0 i ++ drop i ss
       → done (gives tt) (areas p s) ≡ openBook twoBook (areas ps ss)
@@ -31,7 +32,7 @@ module _ (ps ss : List ℕ) (t : Bool) (e : t ≡ fits ps ss) where
   open-ready i p s f l k a b =
       let q : i ≡ length ps = omega arith in
       let z = open-lengths f in
-      rw (sym e ∙ held t f) (ap₂ (λ p s. done (gives tt) (areas p s)) (column-end (λ v. v) i (length ps) ps p q l a)
+      rw (held t _ e f) (ap₂ (λ p s. done (gives tt) (areas p s)) (column-end (λ v. v) i (length ps) ps p q l a)
       (fill-end 1 i ss s (omega arith) (omega arith) b ∙ ap (λ (m : ℕ). replicate m 1) z))
 
 -- the head whose size is read is in the area

@@ -12,8 +12,8 @@ use borrow.Author.Tests.{eq-eqb, ne-eqb}
 use Rattle.book.specs.declared.Headed.{Headed}
 use Rattle.book.specs.declared.Pair.{Pair}
 use Rattle.book.specs.declared.Reading.{Reading}
-use Rattle.basis.specs.Refusal.{gives, refuses, plain, notThere}
-use Rattle.book.specs.Rules.{stop, View, found, heads, Step, already, merge, Machine, onward, walkFrom, headOf, pair, headsOf, sameGroup, groupSize, tally, isStop, groupCount, largest, stepLimit, above, mergeHeads, linkHeads, decide}
+use Rattle.basis.specs.Refusal.{gives, refuses, plain, notThere, onward}
+use Rattle.book.specs.Rules.{stop, View, found, heads, Step, already, merge, Machine, walkFrom, headOf, pair, headsOf, sameGroup, groupSize, tally, isStop, groupCount, largest, stepLimit, above, mergeHeads, linkHeads, decide}
 use Rattle.basis.proofs.Tests.{clash}
 use Rattle.book.specs.Series.{Slip, slip, Linked, back, on}
 use Rattle.book.proofs.Calls.{head-walk, heads-walks, heads-missing, heads-missing2, same-is, size-is, count-is, limit-is}

@@ -8,17 +8,17 @@ use native.Mathlib.Numerals.{add-one}
 use lib.ListN.{getD}
 use lib.Dec.{leb, ltb, eqb}
 use borrow.Author.Tests.{ltb-true, leb-true, lt-ltb, le-ltb, le-leb, lt-leb, eq-eqb, ne-eqb}
+use Rattle.basis.proofs.Saids.{refused-given, given-one, check-on, check-off, check-passed, onward-passed}
 use Rattle.basis.specs.declared.refusal.Refusal.{Refusal}
-use Rattle.basis.specs.Refusal.{Said, gives, refuses, plain, noRoom, unsound, notThere}
-use Rattle.basis.proofs.Tests.{and-first, and-second, and-both, and-off}
+use Rattle.basis.specs.Refusal.{Said, gives, refuses, plain, noRoom, unsound, notThere, onward}
+use Rattle.basis.proofs.Tests.{and-first, and-second, and-both, and-off, failed, held}
 use Rattle.book.specs.declared.Headed.{Headed}
 use Rattle.book.specs.declared.Pair.{Pair}
 use Rattle.book.specs.declared.Reading.{Reading}
-use Rattle.book.specs.Rules.{stop, View, Found, found, Heads, heads, onward, walkFrom, headOf, pair, headsOf, oneHead, sameGroup, sizeAt, groupSize, tally, isStop, groupCount, largest, limitOf, stepLimit}
+use Rattle.book.specs.Rules.{stop, View, Found, found, Heads, heads, walkFrom, headOf, pair, headsOf, oneHead, sameGroup, sizeAt, groupSize, tally, isStop, groupCount, largest, limitOf, stepLimit}
 use Rattle.book.specs.Two.{nextIn}
 use Rattle.book.specs.Says.{saysHeaded, saysReading}
 use Rattle.book.specs.Steps.{saysPair}
-use Rattle.book.proofs.Checks.{failed, held, refused-given, given-one, check-on, check-off, check-passed, onward-passed}
 use Rattle.book.proofs.Walks.{walkFrom-in, next-head, next-other}
 use Rattle.book.proofs.Tally.{tally-yes, tally-no}
 
@@ -39,14 +39,14 @@ module _ (w : View) (v : ℕ) where
   module _ (t : Bool) (e : t ≡ w .fit) where
     pub head-unlent : (x : Refusal) → not t ≡ true → x ≡ plain noRoom → refuses x ≡ headOf w v
     unfolding headOf
-    head-unlent x f p = ap refuses p ∙ sym (check-off (w .fit) noRoom _ (sym e ∙ failed t f))
+    head-unlent x f p = ap refuses p ∙ sym (check-off (w .fit) noRoom _ (failed t _ e f))
 
     pub head-missing : (x : Refusal) → not t ≡ false → w .count ≤ v → x ≡ plain notThere → refuses x ≡ headOf w v
     unfolding headOf
-    head-missing x f l p = ap refuses p ∙ sym (check-on (w .fit) noRoom _ (sym e ∙ held t f) ∙ check-off (ltb v (w .count)) notThere _ (le-ltb v (w .count) l))
+    head-missing x f l p = ap refuses p ∙ sym (check-on (w .fit) noRoom _ (held t _ e f) ∙ check-off (ltb v (w .count)) notThere _ (le-ltb v (w .count) l))
 
     pub head-walked : (s : Said Found) → not t ≡ false → v < w .count → s ≡ walkFrom (w .next) (w .count) v → s ≡ headOf w v
-    head-walked s f l p = p ∙ sym (head-walk (sym e ∙ held t f) l)
+    head-walked s f l p = p ∙ sym (head-walk (held t _ e f) l)
 
 -- ---- the heads of two vertices
 module _ (w : View) (u v : ℕ) where
@@ -83,22 +83,22 @@ module _ (w : View) (u v : ℕ) where
   module _ (t : Bool) (e : t ≡ w .fit) where
     pub heads-unlent : (x : Refusal) → not t ≡ true → x ≡ plain noRoom → refuses x ≡ headsOf w u v
     unfolding headsOf
-    heads-unlent x f p = ap refuses p ∙ sym (check-off (w .fit) noRoom _ (sym e ∙ failed t f))
+    heads-unlent x f p = ap refuses p ∙ sym (check-off (w .fit) noRoom _ (failed t _ e f))
 
     pub heads-missing : (x : Refusal) → not t ≡ false → w .count ≤ u → x ≡ plain notThere → refuses x ≡ headsOf w u v
     unfolding headsOf
-    heads-missing x f l p = ap refuses p ∙ sym (check-on (w .fit) noRoom _ (sym e ∙ held t f) ∙ check-off (ltb u (w .count)) notThere _ (le-ltb u (w .count) l))
+    heads-missing x f l p = ap refuses p ∙ sym (check-on (w .fit) noRoom _ (held t _ e f) ∙ check-off (ltb u (w .count)) notThere _ (le-ltb u (w .count) l))
 
     pub heads-missing2 : (x : Refusal) → not t ≡ false → u < w .count → w .count ≤ v → x ≡ plain notThere → refuses x ≡ headsOf w u v
     unfolding headsOf
     heads-missing2 x f d l p =
         ap refuses p
-        ∙ sym (check-on (w .fit) noRoom _ (sym e ∙ held t f) ∙ check-on (ltb u (w .count)) notThere _ (lt-ltb u (w .count) d)
+        ∙ sym (check-on (w .fit) noRoom _ (held t _ e f) ∙ check-on (ltb u (w .count)) notThere _ (lt-ltb u (w .count) d)
         ∙ check-off (ltb v (w .count)) notThere _ (le-ltb v (w .count) l))
 
     pub heads-walked : (s z : Said Found) → not t ≡ false → u < w .count → v < w .count → s ≡ walkFrom (w .next) (w .count) u → z ≡ walkFrom (w .next) (w .count) v
         → pair s z ≡ headsOf w u v
-    heads-walked s z f a b p q = sym (heads-walks (sym e ∙ held t f) a b ∙ ap₂ pair (sym p) (sym q))
+    heads-walked s z f a b p q = sym (heads-walks (held t _ e f) a b ∙ ap₂ pair (sym p) (sym q))
 
   -- ---- whether two are of one group
   module _ (r : Pair) (e : saysPair r ≡ headsOf w u v) where
@@ -182,10 +182,10 @@ module _ (ps : List ℕ) (i : ℕ) where
 module _ (w : View) (t : Bool) (e : t ≡ w .fit) where
   pub count-unlent : (x : Refusal) → not t ≡ true → x ≡ plain noRoom → refuses x ≡ groupCount w
   unfolding groupCount
-  count-unlent x f p = ap refuses p ∙ sym (check-off (w .fit) noRoom _ (sym e ∙ failed t f))
+  count-unlent x f p = ap refuses p ∙ sym (check-off (w .fit) noRoom _ (failed t _ e f))
 
   pub count-is : (i k : ℕ) → not t ≡ false → w .count ≤ i → i ≤ w .count → k ≡ tally (λ v. isStop (w .next v)) i → gives k ≡ groupCount w
   unfolding groupCount
   count-is i k f a b p =
       let q : i ≡ w .count = omega arith in
-      sym (check-on (w .fit) noRoom _ (sym e ∙ held t f) ∙ ap gives (sym (p ∙ ap (tally (λ v. isStop (w .next v))) q)))
+      sym (check-on (w .fit) noRoom _ (held t _ e f) ∙ ap gives (sym (p ∙ ap (tally (λ v. isStop (w .next v))) q)))

@@ -7,11 +7,12 @@ use native.Mathlib.Decide.{decLt}
 use lib.ListN.{length, set, length-set}
 use lib.Dec.{leb}
 use borrow.Author.Tests.{le-leb, lt-leb}
-use Rattle.basis.specs.Refusal.{gives, refuses, plain, unsound}
-use Rattle.book.specs.Rules.{Next, stop, to, Found, found, check, walk, walkFrom}
+use Rattle.basis.specs.Refusal.{gives, refuses, plain, unsound, check}
+use Rattle.book.specs.Rules.{Next, stop, to, Found, found, walk, walkFrom}
 use Rattle.book.specs.Two.{areas, nextIn, two}
 use Rattle.book.specs.Steps.{saysWalked, Walking}
-use Rattle.book.proofs.Checks.{refused-given, given-one, check-on, check-off, fits-within}
+use Rattle.basis.proofs.Saids.{refused-given, given-one, check-on, check-off}
+use Rattle.book.proofs.Checks.{fits-within}
 use Rattle.book.proofs.Walks.{walk-head, walk-move, walk-late, walk-out}
 use Rattle.book.proofs.Walked.{walked-ends, walked-of}
 use Rattle.book.proofs.Forest.{Reach, reach-in, reach-walk, reach-other, reach-under}

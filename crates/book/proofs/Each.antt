@@ -10,15 +10,16 @@ use native.Mathlib.Decide.{ℕ-discrete}
 use lib.ListN.{length, getD, set, drop, drop-of-length-le}
 use lib.Seq.{drop-cons, getD-set-same, getD-set-other}
 use Rattle.basis.specs.declared.refusal.Refusal.{Refusal}
-use Rattle.basis.specs.Refusal.{Said, gives, refuses, plain, noRoom, notThere, unsound}
+use Rattle.basis.specs.Refusal.{Said, gives, refuses, plain, noRoom, notThere, unsound, onward}
 use Rattle.basis.proofs.Tests.{held}
 use Rattle.book.specs.declared.Joined.{Joined}
 use Rattle.book.specs.declared.Pair.{Pair}
-use Rattle.book.specs.Rules.{stop, to, heads, Step, already, merge, Joining, merged, same, Machine, Done, done, onward, above, mergeable, walkFrom, headsOf, linkHeads, decide, writeBook, joinBook, joinEach}
+use Rattle.book.specs.Rules.{stop, to, heads, Step, already, merge, Joining, merged, same, Machine, Done, done, above, mergeable, walkFrom, headsOf, linkHeads, decide, writeBook, joinBook, joinEach}
 use Rattle.book.specs.Two.{Areas, areas, nextIn, fits, two, twoBook}
 use Rattle.book.specs.Says.{saysJoined}
 use Rattle.book.specs.Steps.{saysWalked, saysPair, linkTwo, Walking}
-use Rattle.book.proofs.Checks.{refused-given, fits-of, fits-same, fits-within}
+use Rattle.basis.proofs.Saids.{refused-given}
+use Rattle.book.proofs.Checks.{fits-of, fits-same, fits-within}
 use Rattle.book.proofs.Calls.{heads-unlent, heads-missing, heads-missing2, heads-below}
 use Rattle.book.proofs.Walks.{next-other}
 use Rattle.book.proofs.Faithful.{Mergeable}

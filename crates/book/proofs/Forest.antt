@@ -9,6 +9,7 @@ use native.Mathlib.Decide.{ℕ-discrete}
 use lib.Dec.{eqb}
 use borrow.Author.Tests.{eq-eqb, ne-eqb}
 use Rattle.basis.specs.Refusal.{gives}
+use Rattle.basis.proofs.Tests.{no-case}
 use Rattle.book.specs.Rules.{Next, stop, to, found, isStop, tally, walk}
 use Rattle.book.specs.Series.{Slip, slip, Linked, itself, by, back, on}
 use Rattle.book.proofs.Walks.{walk-head, walk-move}
@@ -44,7 +45,7 @@ module _ (next : ℕ → Next) (n : ℕ) where
 module _ (next next′ : ℕ → Next) (n top under : ℕ) (top-in : top < n) (top-head : next top ≡ stop) (under-head : next under ≡ stop) (apart : top ≡ under → ⊥)
     (at : next′ under ≡ to top) (off : (x : ℕ) → (x ≡ under → ⊥) → next′ x ≡ next x) where
   moves-on : (x p : ℕ) → next x ≡ to p → x ≡ under → ⊥
-  moves-on x p m e = let q : stop ≡ to p = sym under-head ∙ ap next (sym e) ∙ m in let z : _≡_ {A = ℕ} 0 1 = cc in omega arith
+  moves-on x p m e = let q : stop ≡ to p = sym under-head ∙ ap next (sym e) ∙ m in no-case cc
 
   pub reach-other : (k v h : ℕ) → (h ≡ under → ⊥) → Reach next n v h k → Reach next′ n v h k
   reach-other zero v h d r = (r .0, r .1, off v (λ e. d (sym (r .1) ∙ e)) ∙ r .2)
@@ -158,7 +159,7 @@ module _ (n : ℕ) (next next′ : ℕ → Next) (size size′ : ℕ → ℕ) (j
   -- a head of the new book was one before, and is not `under`
   still : (h : ℕ) → next′ h ≡ stop → (h ≡ under → ⊥) × (next h ≡ stop)
   still h e =
-      let d : h ≡ under → ⊥ = λ q. (let f : to top ≡ stop = sym at ∙ ap next′ (sym q) ∙ e in let z : _≡_ {A = ℕ} 0 1 = cc in omega arith) in
+      let d : h ≡ under → ⊥ = λ q. (let f : to top ≡ stop = sym at ∙ ap next′ (sym q) ∙ e in no-case cc) in
       (d, sym (off h d) ∙ e)
 
   merged-sized : (h : ℕ) → h < n → next′ h ≡ stop → size′ h ≡ tally (λ x. eqb (head′ x) h) n

@@ -7,14 +7,15 @@ use native.Mathlib.Omega.{arith}
 use lib.ListN.{length, getD}
 use lib.Dec.{leb, ltb}
 use borrow.Author.Tests.{leb-true, lt-ltb, le-ltb, le-leb, lt-leb, eq-eqb, ne-eqb}
+use Rattle.basis.proofs.Saids.{check-on, check-off}
 use Rattle.basis.specs.declared.refusal.Refusal.{Refusal}
-use Rattle.basis.specs.Refusal.{gives, refuses, plain, unsound}
-use Rattle.basis.proofs.Tests.{and-second, and-both, and-off, same-test}
+use Rattle.basis.specs.Refusal.{gives, refuses, plain, unsound, check, onward}
+use Rattle.basis.proofs.Tests.{and-second, and-both, and-off, same-test, failed, held}
 use Rattle.book.specs.declared.Pair.{Pair}
-use Rattle.book.specs.Rules.{View, Heads, heads, Step, already, merge, Joining, same, Done, done, check, onward, above, mergeable, mergeHeads, linkHeads, headsOf, decide, writeBook, joinBook}
+use Rattle.book.specs.Rules.{View, Heads, heads, Step, already, merge, Joining, same, Done, done, above, mergeable, mergeHeads, linkHeads, headsOf, decide, writeBook, joinBook}
 use Rattle.book.specs.Two.{Areas, areas, two, twoBook}
 use Rattle.book.specs.Steps.{saysPair, linkTwo, hangTwo}
-use Rattle.book.proofs.Checks.{failed, held, check-on, check-off, fits-same}
+use Rattle.book.proofs.Checks.{fits-same}
 use Rattle.book.proofs.Calls.{heads-inside, heads-below}
 
 -- ---- which head goes above
@@ -93,15 +94,15 @@ module _ (ps ss : List ℕ) (g h : ℕ) where
   module _ (apart : g ≡ h → ⊥) (t : Bool) (e : t ≡ mergeable (length ps) (getD ss g 0) (getD ss h 0)) where
     pub two-unsound : (x : Refusal) → not t ≡ true → x ≡ plain unsound → done (refuses x) (areas ps ss) ≡ linkTwo ps ss g h
     unfolding linkTwo writeBook two
-    two-unsound x f p = rw (link-unsound (two ps ss) g h apart (sym e ∙ failed t f), p)
+    two-unsound x f p = rw (link-unsound (two ps ss) g h apart (failed t _ e f), p)
 
     -- the sum does not pass the area's length
     pub two-sum : not t ≡ false → getD ss g 0 + getD ss h 0 ≤ length ps
-    two-sum f = mergeable-sum (length ps) (getD ss g 0) (getD ss h 0) (sym e ∙ held t f)
+    two-sum f = mergeable-sum (length ps) (getD ss g 0) (getD ss h 0) (held t _ e f)
 
     two-merges : not t ≡ false → (s : Step) → mergeHeads (getD ss g 0) (getD ss h 0) g h ≡ s → writeBook twoBook (gives s) (areas ps ss) ≡ linkTwo ps ss g h
     unfolding linkTwo two
-    two-merges f s q = sym (ap (λ d. writeBook twoBook d (areas ps ss)) (link-merges (two ps ss) g h apart (sym e ∙ held t f) ∙ ap gives q))
+    two-merges f s q = sym (ap (λ d. writeBook twoBook d (areas ps ss)) (link-merges (two ps ss) g h apart (held t _ e f) ∙ ap gives q))
 
     pub two-above : (k : Bool) (d : Done Joining Areas) → not t ≡ false → k ≡ above (getD ss g 0) (getD ss h 0) g h → k ≡ true
         → d ≡ hangTwo ps ss g h (getD ss g 0 + getD ss h 0) → d ≡ linkTwo ps ss g h

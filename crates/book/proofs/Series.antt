@@ -3,15 +3,15 @@ use mathlib.Core.Path.{_≡_, refl, sym, ap, ap₂, _∙_}
 use mathlib.Core.List.{List, [], _∷_}
 use mathlib.Core.Bool.{true}
 use mathlib.Core.Logic.{_⊎_, inl, inr, _↔_}
-use Prim.Native.Nat.{ℕ, suc, _+_, _-_, _^_, _≤_, _<_}
+use Prim.Native.Nat.{ℕ, suc, _+_, _^_, _≤_, _<_}
 use native.Mathlib.Omega.{arith}
 use native.Mathlib.Decide.{decLt}
 use lib.Dec.{eqb}
+use Rattle.basis.proofs.Saids.{refused-given}
 use Rattle.basis.specs.declared.refusal.Refusal.{Refusal}
 use Rattle.basis.specs.Refusal.{Said, gives, refuses, plain, notThere}
 use Rattle.book.specs.Rules.{View, Machine, found, Step, Joining, merged, same, done, walkFrom, openBook, joinBook, writeBook, decide, largest}
 use Rattle.book.specs.Series.{Call, Answer, State, Linked, Kept, Demand3, after, afterJoin, answer, run, headIn, movesIn, headAt, movesAt, members}
-use Rattle.book.proofs.Checks.{refused-given}
 use Rattle.book.proofs.Walks.{walk-head}
 use Rattle.book.proofs.Powers.{largest-low, largest-high, largest-most}
 use Rattle.book.proofs.Tally.{tally-same, tally-le}

@@ -8,12 +8,13 @@ use lib.ListN.{length, getD}
 use lib.Dec.{leb}
 use borrow.Author.Tests.{lt-leb, le-leb}
 use Rattle.basis.specs.declared.refusal.Refusal.{Refusal}
-use Rattle.basis.specs.Refusal.{gives, refuses, plain, unsound}
+use Rattle.basis.specs.Refusal.{gives, refuses, plain, unsound, check}
 use Rattle.basis.proofs.Tests.{held}
-use Rattle.book.specs.Rules.{View, found, check, heads, walk, walkFrom, headOf, headsOf}
+use Rattle.book.specs.Rules.{View, found, heads, walk, walkFrom, headOf, headsOf}
 use Rattle.book.specs.Two.{nextIn, fits}
 use Rattle.book.specs.Steps.{saysWalked}
-use Rattle.book.proofs.Checks.{check-on, check-off, fits-within}
+use Rattle.basis.proofs.Saids.{check-on, check-off}
+use Rattle.book.proofs.Checks.{fits-within}
 use Rattle.book.proofs.Walks.{walk-head, walk-move, walk-late, walk-out, next-head, next-other}
 use Rattle.book.proofs.Calls.{head-walked, heads-walked}
 

@@ -5,10 +5,10 @@ use Prim.Native.Nat.{ℕ, zero, suc, _+_, _≤_, _<_}
 use lib.ListN.{getD}
 use lib.Dec.{ltb}
 use borrow.Author.Tests.{ltb-true, lt-ltb, le-ltb, eq-eqb, ne-eqb}
-use Rattle.basis.specs.Refusal.{gives, refuses, plain, unsound}
-use Rattle.book.specs.Rules.{Next, stop, to, Found, found, check, walk, walkFrom}
+use Rattle.basis.proofs.Saids.{refused-given, check-on, check-off, check-passed}
+use Rattle.basis.specs.Refusal.{gives, refuses, plain, unsound, check}
+use Rattle.book.specs.Rules.{Next, stop, to, Found, found, walk, walkFrom}
 use Rattle.book.specs.Two.{nextIn}
-use Rattle.book.proofs.Checks.{refused-given, check-on, check-off, check-passed}
 
 module _ (next : ℕ → Next) (n : ℕ) where
   pub walk-head : (left moves at : ℕ) → next at ≡ stop → walk next n left moves at ≡ gives (found at moves)

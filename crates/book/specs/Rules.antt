@@ -3,7 +3,7 @@ use mathlib.Core.Bool.{Bool, true, false, cond, _&&_}
 use mathlib.Core.List.{List, [], _∷_}
 use Prim.Native.Nat.{ℕ, zero, suc, _+_, _^_}
 use lib.Dec.{leb, ltb, eqb}
-use Rattle.basis.specs.Refusal.{Said, gives, refuses, plain, noRoom, unsound, notThere}
+use Rattle.basis.specs.Refusal.{Said, gives, refuses, plain, noRoom, unsound, notThere, onward, check}
 
 -- "A head is its own parent": a walk stops at a head, and goes from any other vertex to its parent
 pub data Next : Type 0 where
@@ -16,15 +16,6 @@ pub record View : Type 0 where
   pub count : ℕ
   pub next : ℕ → Next
   pub size : ℕ → ℕ
-
--- a check: what a call says where the test holds, else the refusal with its number
-abbrev pub check : {A : Type 0} → Bool → ℕ → Said A → Said A
-check t number s = cond t s (refuses (plain number))
-
--- what a call says that goes on from what another gives, and is refused where that is
-abbrev pub onward : {A B : Type 0} → Said A → (A → Said B) → Said B
-onward (gives x) f = f x
-onward (refuses r) f = refuses r
 
 -- ---- the walk
 

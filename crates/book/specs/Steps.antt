@@ -5,8 +5,8 @@ use mathlib.Core.List.{List}
 use Prim.Native.Nat.{ℕ, _/_, _%_, _<_}
 use lib.ListN.{length}
 use lib.Dec.{leb}
-use Rattle.basis.specs.Refusal.{Said, gives, refuses, unsound}
-use Rattle.book.specs.Rules.{Found, found, check, walkFrom, Heads, heads, Joining, merge, Done, linkHeads, writeBook}
+use Rattle.basis.specs.Refusal.{Said, gives, refuses, unsound, check}
+use Rattle.book.specs.Rules.{Found, found, walkFrom, Heads, heads, Joining, merge, Done, linkHeads, writeBook}
 use Rattle.book.specs.Two.{Areas, areas, nextIn, fits, two, twoBook}
 use Rattle.book.specs.declared.Pair.{Pair}
 

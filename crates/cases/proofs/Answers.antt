@@ -1,7 +1,8 @@
 -- What an answer says determines it: of kernels, files and loads. The other crates have theirs. Assumes nothing.
 use Prim.Native.Nat.{ℕ}
-use mathlib.Core.Path.{_≡_, refl, sym, ap, _∙_}
+use mathlib.Core.Path.{_≡_, refl}
 use Rattle.basis.specs.Refusal.{Said, gives, refuses}
+use Rattle.basis.proofs.Saids.{one-of}
 use Rattle.graph.specs.declared.Size.{Size}
 use Rattle.kernels.specs.declared.Answer.{Answer}
 use Rattle.kernels.specs.Answer as K
@@ -9,10 +10,6 @@ use Rattle.lists.specs.declared.Listed.{Listed}
 use Rattle.lists.specs.Calls.{listedSays}
 use Rattle.load.specs.declared.Loaded.{Loaded}
 use Rattle.load.specs.Load as L
-
--- what has a way back is injective
-one-of : {A B : Type 0} (f : A → B) (g : B → A) → ((x : A) → g (f x) ≡ x) → (x y : A) → f x ≡ f y → x ≡ y
-one-of f g back x y e = sym (back x) ∙ ap g e ∙ back y
 
 abbrev answered : Said (Unit {0}) → Answer
 answered (gives x) = Answer.Done

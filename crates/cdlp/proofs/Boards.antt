@@ -1,6 +1,7 @@
 -- What a round asks and gives, vertex by vertex, and that rounds can go on. Assumes nothing.
 use Prim.Native.Nat.{ℕ, _+_, _≤_, _<_}
 use mathlib.Core.Path.{_≡_, refl, sym, ap, ap₂, _∙_, subst}
+use mathlib.Core.Bool.{true}
 use mathlib.Core.List.{List, _++_}
 use native.Mathlib.Omega.{arith}
 use native.Mathlib.Numerals.{add-one}
@@ -8,12 +9,13 @@ use lib.ListN.{length, getD, set, drop, replicate}
 use lib.Dec.{eqb, ltb}
 use Rattle.basis.specs.Area.{column}
 use Rattle.basis.proofs.Areas.{column-none, column-more, column-end}
+use Rattle.basis.specs.Scan.{allBelow}
+use Rattle.basis.proofs.Scans.{below-append}
 use Rattle.graph.specs.Part.{partOf}
 use Rattle.cdlp.specs.Label.{nextLabel}
 use Rattle.cdlp.specs.Rounds.{around, labelsAt, nextAt, oneRound, rounds}
-use Rattle.cdlp.specs.Steps.{Low, Inside, Parts, Board, near, nextNumbers, numbersAfter}
+use Rattle.cdlp.specs.Steps.{Inside, Parts, Board, near, nextNumbers, numbersAfter}
 use Rattle.cdlp.proofs.Names.{rounds-low, rounds-length}
-use Rattle.cdlp.proofs.Lists.{low-append}
 
 -- the first v places of next have the next labels of their vertices
 pub record Filled (io is oo ot labels next₀ next : List ℕ) (v : ℕ) : Type 0 where
@@ -31,7 +33,7 @@ module _ {io is oo ot labels : List ℕ} where
   parts-of s v h p q e =
       record {
         sides = rw (p, q) (s .inside v h);
-        lowLabels = subst (λ (n : ℕ). Low n labels) (sym (s .roomCounts) ∙ sym (ap length e)) (s .lowLabels);
+        lowLabels = subst (λ (n : ℕ). allBelow n labels ≡ true) (sym (s .roomCounts) ∙ sym (ap length e)) (s .lowLabels);
         fresh = subst (λ (D : List ℕ). D ≡ replicate (length D) 0) (sym e) (s .fresh);
       }
 
@@ -55,9 +57,9 @@ module _ {io is oo ot labels : List ℕ} where
       column-end (nextAt eqb ltb 0 (near (length labels) io is oo ot) (length labels) labels) v (length labels) next₀ next (omega arith)
       (let l = s .roomNext in omega arith) (f .front)
 
-pub near-low : (n : ℕ) (io is oo ot : List ℕ) → Inside n io is oo ot → (v : ℕ) → v < n → Low n (near n io is oo ot v)
+pub near-low : (n : ℕ) (io is oo ot : List ℕ) → Inside n io is oo ot → (v : ℕ) → v < n → allBelow n (near n io is oo ot v) ≡ true
 unfolding around
-near-low n io is oo ot h v l = low-append n (partOf n io is v) (partOf n oo ot v) (h v l .lowIn) (h v l .lowOut)
+near-low n io is oo ot h v l = below-append n (partOf n io is v) (partOf n oo ot v) (h v l .lowIn) (h v l .lowOut)
 
 module _ {io is oo ot L N C : List ℕ} (s : Board io is oo ot L N C) where
   -- after any number of rounds the next one can be run
@@ -65,10 +67,10 @@ module _ {io is oo ot L N C : List ℕ} (s : Board io is oo ot L N C) where
   board-on {L′} k e p q =
       let nears = near-low (length L) io is oo ot (s .inside) in
       let len : length L′ ≡ length L = ap length e ∙ rounds-length (near (length L) io is oo ot) (length L) nears L k refl in
-      let low : Low (length L) L′ = rw e (rounds-low (near (length L) io is oo ot) (length L) nears L k refl (s .lowLabels)) in
+      let low : allBelow (length L) L′ ≡ true = rw e (rounds-low (near (length L) io is oo ot) (length L) nears L k refl (s .lowLabels)) in
       record {
         inside = subst (λ (n : ℕ). Inside n io is oo ot) (sym len) (s .inside);
-        lowLabels = subst (λ (n : ℕ). Low n L′) (sym len) low;
+        lowLabels = subst (λ (n : ℕ). allBelow n L′ ≡ true) (sym len) low;
         roomNext = p ∙ s .roomNext ∙ sym len;
         roomCounts = ap length q ∙ s .roomCounts ∙ sym len;
         fresh = subst (λ (D : List ℕ). D ≡ replicate (length D) 0) (sym q) (s .fresh);

@@ -1,5 +1,5 @@
 -- Laws of the call's promise: one for each way that a function of it ends, its premises the code's tests. Assumes nothing.
-use Prim.Native.Nat.{ℕ, zero, suc, _-_, _≤_, _<_}
+use Prim.Native.Nat.{ℕ, _≤_, _<_}
 use mathlib.Core.Path.{_≡_, refl, sym, ap, ap₂, _∙_}
 use mathlib.Core.Bool.{Bool, true, false, not, _&&_}
 use mathlib.Core.List.{List, [], _++_}
@@ -11,10 +11,11 @@ use lib.Seq.{length-take-le, length-front}
 use lib.Dec.{T, leb, ltb}
 use mir.Syntax.{w64}
 use mir.Val.{Fits}
-use borrow.Author.Tests.{lt-leb, le-leb, leb-true, ltb-false, not-true, not-false}
+use borrow.Author.Tests.{lt-leb, le-leb, leb-true, ltb-false, not-true}
 use Rattle.basis.specs.Refusal.{Said, gives, refuses, plain}
 use Rattle.basis.specs.Area.{cleared, clearedZ, padWith}
-use Rattle.basis.proofs.Tests.{clash, and-first, and-second}
+use Rattle.basis.proofs.Tests.{clash, and-first, and-second, failed, held}
+use Rattle.basis.proofs.Areas.{pad-lent}
 use Rattle.graph.specs.declared.Size.{Size}
 use Rattle.graph.specs.Sound.{Graph, lent, soundGraph}
 use Rattle.graph.specs.Walk.{checked}
@@ -130,16 +131,9 @@ ready-of size ids oo ot io is R R₁ L N C s h e =
       roomCounts = sym (taken-counts (size .vertices) R L N C h);
     }
 
-drop-zeros : {A : Type 0} (z : A) (n m : ℕ) → drop n (replicate m z) ≡ replicate (m - n) z
-drop-zeros z zero m = let e : m ≡ m - 0 = omega arith in ap (λ k. replicate k z) e
-drop-zeros z (suc n) zero = let e : _≡_ {A = ℕ} 0 (0 - suc n) = omega arith in ap (λ k. replicate k z) e
-drop-zeros z (suc n) (suc m) = let e : m - n ≡ suc m - suc n = omega arith in drop-zeros z n m ∙ ap (λ k. replicate k z) e
-
 -- the labels with zeros behind them
 fill-result : (g : Graph) (k : ℕ) (R R₁ X : List ℤ) → Sound g → R₁ ≡ clearedZ R → X ≡ cdlpOf g k → X ++ drop (g .vertices) R₁ ≡ padWith (pos 0) (length R) (cdlpOf g k)
-fill-result g k R R₁ X s e q =
-    ap₂ (λ x y. x ++ y) q (ap (drop (g .vertices)) e ∙ drop-zeros (pos 0) (g .vertices) (length R))
-    ∙ ap (λ (j : ℕ). cdlpOf g k ++ replicate (length R - j) (pos 0)) (sym (cdlp-length g s k))
+fill-result g k R R₁ X s e q = ap₂ (λ x y. x ++ drop (g .vertices) y) q e ∙ pad-lent (pos 0) (g .vertices) (length R) (cdlpOf g k) (cdlp-length g s k)
 
 -- zeros throughout, whatever the first places held
 front-cleared : (n : ℕ) (L M : List ℕ) → length M ≡ length (take n L) → cleared (M ++ drop n L) ≡ cleared L
@@ -157,13 +151,6 @@ module _ (size : Size) (ids : List ℤ) (oo ot io is : List ℕ) (k : ℕ) (R R�
       (ap (λ (t : Worked). t .next) w ∙ front-cleared (size .vertices) N N₂ n)
       (ap (λ (t : Worked). t .counts) w ∙ front-cleared (size .vertices) C C₂ c)
 
--- ---- a test of the code that passed, and one that failed
-pub passed : (t s : Bool) → t ≡ s → not t ≡ false → s ≡ true
-passed t s e h = sym e ∙ not-false t h
-
-failed : (t s : Bool) → t ≡ s → not t ≡ true → s ≡ false
-failed t s e h = sym e ∙ not-true t h
-
 -- ---- the call: how it ends, by its tests in their order; z′ is z as it is handed on
 module _ (size : Size) (ids : List ℤ) (oo ot io is : List ℕ) (z : ℤ) (R : List ℤ) (L N C : List ℕ) (o : Outcome)
     (s : Bool) (e : s ≡ soundGraph (lent size ids oo ot io is)) where
@@ -177,16 +164,16 @@ module _ (size : Size) (ids : List ℤ) (oo ot io is : List ℕ) (z : ℤ) (R : 
   module _ (h : not s ≡ false) (z′ : ℤ) (same : z′ ≡ z) (a : Bool) (f : a ≡ goodRounds z′) where
     ends-outside : not a ≡ true → o ≡ leftBy (refuses (plain 11)) [] R L N C → o ≡ cdlpCall g z R L N C
     unfolding cdlpCall kernelSays leftBy
-    ends-outside k q = q ∙ rw (passed s (soundGraph g) e h, ← same, failed a (goodRounds z′) f k)
+    ends-outside k q = q ∙ rw (held s (soundGraph g) e h, ← same, failed a (goodRounds z′) f k)
 
     module _ (k : not a ≡ false) (r : Bool) (i : r ≡ roomFor (size .vertices) R L N C) where
       ends-short : not r ≡ true → o ≡ leftBy (refuses (plain 8)) [] R L N C → o ≡ cdlpCall g z R L N C
       unfolding cdlpCall kernelSays leftBy
-      ends-short l q = q ∙ rw (passed s (soundGraph g) e h, ← same, passed a (goodRounds z′) f k, failed r (roomFor (size .vertices) R L N C) i l)
+      ends-short l q = q ∙ rw (held s (soundGraph g) e h, ← same, held a (goodRounds z′) f k, failed r (roomFor (size .vertices) R L N C) i l)
 
       ends-done : not r ≡ false → o ≡ leftBy (gives tt) (cdlpOf g (natAbs z′)) R L N C → o ≡ cdlpCall g z R L N C
       unfolding cdlpCall kernelSays leftBy
-      ends-done l q = q ∙ rw (passed s (soundGraph g) e h, ← same, passed a (goodRounds z′) f k, passed r (roomFor (size .vertices) R L N C) i l)
+      ends-done l q = q ∙ rw (held s (soundGraph g) e h, ← same, held a (goodRounds z′) f k, held r (roomFor (size .vertices) R L N C) i l)
 
 -- the check of the graph left zeros in the counts
 call-over : (g : Graph) (z : ℤ) (R : List ℤ) (L N C C₁ : List ℕ) → C₁ ≡ cleared C → cdlpCall g z R L N C₁ ≡ cdlpCall g z R L N C
@@ -220,6 +207,6 @@ module _ (size : Size) (ids : List ℤ) (oo ot io is : List ℕ) (z : ℤ) (R : 
 pub rounds-cast : (z : ℤ) (a : Bool) → a ≡ goodRounds z → not a ≡ false → T (nonNeg z) × Fits w64 (natAbs z)
 unfolding goodRounds
 rounds-cast (pos k) a e h =
-    let l = ltb-false 1000 k (not-true (ltb 1000 k) (and-second (not (ltb k 0)) (not (ltb 1000 k)) (passed a (goodRounds (pos k)) e h))) in
+    let l = ltb-false 1000 k (not-true (ltb 1000 k) (and-second (not (ltb k 0)) (not (ltb 1000 k)) (held a (goodRounds (pos k)) e h))) in
     (tt, record { fits = omega arith })
-rounds-cast (negsuc k) a e h = clash (passed a (goodRounds (negsuc k)) e h) refl
+rounds-cast (negsuc k) a e h = clash (held a (goodRounds (negsuc k)) e h) refl

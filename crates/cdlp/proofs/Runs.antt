@@ -1,23 +1,25 @@
 -- A whole run on a sound graph: from the vertex numbers, through the rounds, to the identifiers of the labels. Assumes nothing.
-use Prim.Native.Nat.{ℕ, zero, suc, _-_, _<_}
+use Prim.Native.Nat.{ℕ, zero, suc, _<_}
 use mathlib.Core.Path.{_≡_, sym, ap, ap₂, _∙_, subst}
+use mathlib.Core.Bool.{true}
 use mathlib.Core.List.{List}
 use native.Mathlib.Omega.{arith}
 use lib.IntN.{ℤ, pos}
 use lib.Signed.{ltZ}
-use lib.ListN.{length, take, replicate, length-replicate}
-use lib.Seq.{take-at}
+use lib.ListN.{length, replicate, length-replicate}
 use lib.Dec.{eqb, ltb}
 use Rattle.basis.specs.Order.{sameZ}
-use Rattle.basis.specs.Area.{cleared, padWith}
+use Rattle.basis.specs.Area.{cleared}
 use Rattle.basis.proofs.Areas.{column-length}
 use Rattle.basis.proofs.Orders.{signed-order}
+use Rattle.basis.specs.Scan.{allBelow}
+use Rattle.basis.proofs.Scans.{below-up}
 use Rattle.graph.specs.declared.Size.{Size}
 use Rattle.graph.specs.Sound.{Graph, lent, inward, outward, names}
-use Rattle.graph.proofs.Sounds.{Sound, sound-of, names-length, inward-rises, inward-below, outward-rises, outward-below}
+use Rattle.graph.proofs.Sounds.{Sound, sound-of, names-length, inward-below, outward-below, inward-few, outward-few}
 use Rattle.cdlp.specs.Rounds.{around, labelsAt, oneRound, rounds, cdlpOf}
-use Rattle.cdlp.specs.Steps.{Low, Inside, Board, near, numbersAfter, itself, upTo, Ready, Nameable}
-use Rattle.cdlp.proofs.Lists.{low-up, below-low, rising-short, labels-front}
+use Rattle.cdlp.specs.Steps.{Inside, Board, near, numbersAfter, itself, upTo, Ready, Nameable}
+use Rattle.cdlp.proofs.Lists.{labels-front}
 use Rattle.cdlp.proofs.Names.{rounds-low, rounds-length, upTo-low, numbers-named}
 use Rattle.cdlp.proofs.Boards.{near-low}
 
@@ -25,11 +27,11 @@ use Rattle.cdlp.proofs.Boards.{near-low}
 pub sound-inside : (g : Graph) → Sound g → Inside (g .vertices) (g .inOffsets) (g .inSources) (g .outOffsets) (g .outTargets)
 sound-inside g s v l =
     let few = s .fewVertices in
-    let a = rising-short (g .vertices) (inward g v) (inward-rises g s v l) (inward-below g s v l) in
-    let b = rising-short (g .vertices) (outward g v) (outward-rises g s v l) (outward-below g s v l) in
+    let a = inward-few g s v l in
+    let b = outward-few g s v l in
     record {
-      lowIn = below-low (g .vertices) (inward g v) (inward-below g s v l);
-      lowOut = below-low (g .vertices) (outward g v) (outward-below g s v l);
+      lowIn = inward-below g s v l;
+      lowOut = outward-below g s v l;
       shortIn = omega arith;
       shortOut = omega arith;
     }
@@ -40,10 +42,6 @@ unfolding cdlpOf rounds oneRound
 cdlp-length g s zero = names-length g s
 cdlp-length g s (suc k) = column-length _ 0 (g .vertices)
 
--- after so many rounds the first places of an area hold the labels
-pub cdlp-taken : (g : Graph) → Sound g → (k size : ℕ) → take (g .vertices) (padWith (pos 0) size (cdlpOf g k)) ≡ cdlpOf g k
-cdlp-taken g s k size = take-at (cdlpOf g k) (replicate (size - length (cdlpOf g k)) (pos 0)) (g .vertices) (cdlp-length g s k)
-
 -- labels are identifiers of the graph: those of the vertices that rounds on vertex numbers give
 pub cdlp-numbers : (g : Graph) → Sound g → (k : ℕ)
     → labelsAt (pos 0) (names g) (rounds eqb ltb 0 (around (inward g) (outward g)) (g .vertices) (upTo (g .vertices)) k) ≡ cdlpOf g k
@@ -53,7 +51,7 @@ cdlp-numbers g s k =
     let n = names-length g s in
     subst (λ (j : ℕ). labelsAt (pos 0) (names g) (rounds eqb ltb 0 near j (upTo j) k) ≡ rounds sameZ ltZ (pos 0) near j (names g) k) n
     (numbers-named signed-order (pos 0) (names g) (s .idsRise) near
-    (λ v l. subst (λ (j : ℕ). Low j (near v)) (sym n) (near-low (g .vertices) (g .inOffsets) (g .inSources) (g .outOffsets) (g .outTargets) (sound-inside g s) v (omega arith))) k)
+    (λ v l. subst (λ (j : ℕ). allBelow j (near v) ≡ true) (sym n) (near-low (g .vertices) (g .inOffsets) (g .inSources) (g .outOffsets) (g .outTargets) (sound-inside g s) v (omega arith))) k)
 
 module _ {size : Size} {ids : List ℤ} {oo ot io is : List ℕ} {R : List ℤ} {L N C L₁ C₁ : List ℕ} (x : Ready size ids oo ot io is R L N C)
     (e₁ : L₁ ≡ upTo (length L)) (e₂ : C₁ ≡ cleared C) where
@@ -81,26 +79,26 @@ module _ {size : Size} {ids : List ℤ} {oo ot io is : List ℕ} {R : List ℤ} 
       let c : length C₁ ≡ length C = ap length e₂ ∙ length-replicate (length C) 0 in
       record {
         inside = subst (λ (k : ℕ). Inside k io is oo ot) (sym numbers-length) (sound-inside g s);
-        lowLabels = subst (λ (k : ℕ). Low k L₁) (sym numbers-length) (subst (Low n) (sym numbers) (upTo-low n));
+        lowLabels = subst (λ (k : ℕ). allBelow k L₁ ≡ true) (sym numbers-length) (subst (λ (l : List ℕ). allBelow n l ≡ true) (sym numbers) (upTo-low n));
         roomNext = x .roomNext ∙ sym numbers-length;
         roomCounts = c ∙ x .roomCounts ∙ sym numbers-length;
         fresh = e₂ ∙ ap (λ (k : ℕ). replicate k 0) (sym c);
       }
 
   module _ {L₂ : List ℕ} (k : ℕ) (e₃ : L₂ ≡ numbersAfter io is oo ot L₁ k) where
-    nears : (v : ℕ) → v < n → Low n (near n io is oo ot v)
+    nears : (v : ℕ) → v < n → allBelow n (near n io is oo ot v) ≡ true
     nears = near-low n io is oo ot (sound-inside g s)
 
     run : L₂ ≡ rounds eqb ltb 0 (near n io is oo ot) n (upTo n) k
     run = e₃ ∙ ap₂ (λ j M. rounds eqb ltb 0 (near j io is oo ot) j M k) numbers-length numbers
 
-    low : Low n L₂
-    low = subst (Low n) (sym run) (rounds-low (near n io is oo ot) n nears (upTo n) k upTo-length (upTo-low n))
+    low : allBelow n L₂ ≡ true
+    low = subst (λ (l : List ℕ). allBelow n l ≡ true) (sym run) (rounds-low (near n io is oo ot) n nears (upTo n) k upTo-length (upTo-low n))
 
     pub run-nameable : Nameable ids L₂ R
     run-nameable =
         record {
-          lowLabels = low-up n (length ids) L₂ (s .idsRoom) low;
+          lowLabels = below-up n (length ids) L₂ (s .idsRoom) low;
           roomResult = x .roomResult ∙ sym (ap length run ∙ rounds-length (near n io is oo ot) n nears (upTo n) k upTo-length);
         }
 

@@ -11,11 +11,14 @@ use lib.Seq.{getD-set-same, getD-set-other, ext-getD}
 use lib.Dec.{eqb, ltb}
 use borrow.Author.Tests.{eq-eqb, ne-eqb, ltb-true, ltb-false, lt-ltb, le-ltb}
 use Rattle.basis.proofs.Orders.{number-order}
+use Rattle.basis.specs.Scan.{allBelow}
+use Rattle.basis.proofs.Scans.{below-first, below-rest, below-append}
+use Rattle.basis.proofs.Areas.{replicate-at}
 use Rattle.cdlp.specs.declared.label.Best.{Best}
 use Rattle.cdlp.specs.Label.{one, times, mostCommon, standing, smallestOr, nextLabel}
 use Rattle.cdlp.specs.Rounds.{labelsAt}
-use Rattle.cdlp.specs.Steps.{Low, Under, best, leading, Tally, tally, counted, countedAll, forgotten, Walk, Heard, Parts}
-use Rattle.cdlp.proofs.Lists.{replicate-at, low-append, labels-low, labels-append, labels-length, labels-step, labels-end}
+use Rattle.cdlp.specs.Steps.{Under, best, leading, Tally, tally, counted, countedAll, forgotten, Walk, Heard, Parts}
+use Rattle.cdlp.proofs.Lists.{labels-low, labels-append, labels-length, labels-step, labels-end}
 use Rattle.cdlp.proofs.Labels.{Chosen, next-chosen, chosen-one}
 
 -- the four ways of a lead
@@ -179,10 +182,10 @@ unfolding times told
 told-times [] T x = omega arith
 told-times (l ∷ ls) T x = let r = told-times ls (heard l T) x in omega arith
 
-counted-all : (n own : ℕ) (ls : List ℕ) (T : ℕ → ℕ) (S : Tally) → Low n ls → Counting n T own S → Counting n (told ls T) own (countedAll ls S)
+counted-all : (n own : ℕ) (ls : List ℕ) (T : ℕ → ℕ) (S : Tally) → allBelow n ls ≡ true → Counting n T own S → Counting n (told ls T) own (countedAll ls S)
 unfolding countedAll told
 counted-all n own [] T S h v = v
-counted-all n own (l ∷ ls) T S h v = counted-all n own ls (heard l T) (counted l S) (h .1) (counted-one n T own l S (h .0) v)
+counted-all n own (l ∷ ls) T S h v = counted-all n own ls (heard l T) (counted l S) (below-rest n l ls h) (counted-one n T own l S (below-first n l ls h) v)
 
 nothing : ℕ → ℕ
 nothing x = 0
@@ -266,7 +269,7 @@ forgotten-zero (l ∷ ls) C j h = forgotten-zero ls (set C l 0) j (λ e.
 abbrev after : ℕ → ℕ → List ℕ → Tally
 after n own ls = countedAll ls (tally (replicate n 0) (best own 0))
 
-module _ (n own : ℕ) (L us : List ℕ) (h : Low (length L) us) (hL : Low n L) where
+module _ (n own : ℕ) (L us : List ℕ) (h : allBelow (length L) us ≡ true) (hL : allBelow n L ≡ true) where
   counting : Counting n (told (labelsAt 0 L us) nothing) own (after n own (labelsAt 0 L us))
   counting = counted-all n own (labelsAt 0 L us) nothing (tally (replicate n 0) (best own 0)) (labels-low n L us h hL) (counting-start n own)
 
@@ -289,10 +292,10 @@ module _ (n own : ℕ) (L us : List ℕ) (h : Low (length L) us) (hL : Low n L) 
 
 -- ---- a vertex's two parts: what the steps of `settle` ask, and what they give in the end
 pub walk-in : {L a b C D : List ℕ} → Parts a b L C → length D ≡ length C → Walk a L D
-walk-in {L} p e = record { lowPart = p .sides .lowIn; lowLabels = subst (λ (k : ℕ). Low k L) (sym e) (p .lowLabels) }
+walk-in {L} p e = record { lowPart = p .sides .lowIn; lowLabels = subst (λ (k : ℕ). allBelow k L ≡ true) (sym e) (p .lowLabels) }
 
 pub walk-out : {L a b C D : List ℕ} → Parts a b L C → length D ≡ length C → Walk b L D
-walk-out {L} p e = record { lowPart = p .sides .lowOut; lowLabels = subst (λ (k : ℕ). Low k L) (sym e) (p .lowLabels) }
+walk-out {L} p e = record { lowPart = p .sides .lowOut; lowLabels = subst (λ (k : ℕ). allBelow k L ≡ true) (sym e) (p .lowLabels) }
 
 pub settle-first : (L a b C : List ℕ) → Parts a b L C → Heard a L C
 settle-first L a b C p =
@@ -322,8 +325,8 @@ module _ (own : ℕ) (L a b C₀ : List ℕ) (p : Parts a b L C₀) (C₁ : List
       }
 
   module _ (C₂ : List ℕ) (b₂ : Best) (e₂ : tally C₂ b₂ ≡ countedAll (labelsAt 0 L b) (tally C₁ b₁)) where
-    low : Low (length L) (a ++ b)
-    low = low-append (length L) a b (p .sides .lowIn) (p .sides .lowOut)
+    low : allBelow (length L) (a ++ b) ≡ true
+    low = below-append (length L) a b (p .sides .lowIn) (p .sides .lowOut)
 
     twice : tally C₂ b₂ ≡ after n own (labelsAt 0 L (a ++ b))
     twice =

@@ -7,16 +7,12 @@ use lib.IntN.{ℤ}
 use lib.ListN.{length, getD, set, replicate}
 use lib.Dec.{eqb, ltb}
 use Rattle.basis.specs.Area.{column}
+use Rattle.basis.specs.Scan.{allBelow}
 use Rattle.graph.specs.declared.Size.{Size}
 use Rattle.graph.specs.Part.{partOf}
 use Rattle.graph.specs.Sound.{lent, soundGraph}
 use Rattle.cdlp.specs.Rounds.{around, oneRound, rounds}
 use Rattle.cdlp.specs.declared.label.Best.{Best}
-
--- each number of a list is below n
-abbrev pub Low : ℕ → List ℕ → Type 0
-Low n [] = Unit {0}
-Low n (x ∷ l) = (x < n) × Low n l
 
 -- no count is above k
 abbrev pub Under : ℕ → List ℕ → Type 0
@@ -52,8 +48,8 @@ forgotten (l ∷ ls) C = forgotten ls (set C l 0)
 
 -- a part can be walked: its vertices have labels, and the labels have counts
 pub record Walk (part labels counts : List ℕ) : Type 0 where
-  pub lowPart : Low (length labels) part
-  pub lowLabels : Low (length counts) labels
+  pub lowPart : allBelow (length labels) part ≡ true
+  pub lowLabels : allBelow (length counts) labels ≡ true
 
 -- and its labels counted: no count wraps
 pub record Heard (part labels counts : List ℕ) : Type 0 where
@@ -63,15 +59,15 @@ pub record Heard (part labels counts : List ℕ) : Type 0 where
 
 -- the two parts of a vertex of n: vertices below n, and no more of them than a graph may have
 pub record Near (n : ℕ) (inward outward : List ℕ) : Type 0 where
-  pub lowIn : Low n inward
-  pub lowOut : Low n outward
+  pub lowIn : allBelow n inward ≡ true
+  pub lowOut : allBelow n outward ≡ true
   pub shortIn : length inward ≤ 65536
   pub shortOut : length outward ≤ 65536
 
 -- a vertex's two parts, the labels, and counts that are zero
 pub record Parts (inward outward labels counts : List ℕ) : Type 0 where
   pub sides : Near (length labels) inward outward
-  pub lowLabels : Low (length counts) labels
+  pub lowLabels : allBelow (length counts) labels ≡ true
   pub fresh : counts ≡ replicate (length counts) 0
 
 -- the arcs of n vertices stay inside
@@ -81,7 +77,7 @@ Inside n io is oo ot = (v : ℕ) → v < n → Near n (partOf n io is v) (partOf
 -- a round can be run: the arcs stay inside, labels are vertex numbers, the other areas are as long, and the counts are zero
 pub record Board (io is oo ot labels next counts : List ℕ) : Type 0 where
   pub inside : Inside (length labels) io is oo ot
-  pub lowLabels : Low (length labels) labels
+  pub lowLabels : allBelow (length labels) labels ≡ true
   pub roomNext : length next ≡ length labels
   pub roomCounts : length counts ≡ length labels
   pub fresh : counts ≡ replicate (length counts) 0
@@ -113,7 +109,7 @@ pub record Ready (size : Size) (ids : List ℤ) (oo ot io is : List ℕ) (result
 
 -- the labels can be named: each has an identifier, and each name a place
 pub record Nameable (ids : List ℤ) (labels : List ℕ) (result : List ℤ) : Type 0 where
-  pub lowLabels : Low (length ids) labels
+  pub lowLabels : allBelow (length ids) labels ≡ true
   pub roomResult : length result ≡ length labels
 
 -- the three working areas

@@ -16,7 +16,7 @@ use Rattle.basis.specs.Scan.{each, mem, allBelow}
 use Rattle.basis.specs.Area.{column, cleared}
 use Rattle.basis.proofs.Tests.{clash, false-of, bool-cases, same-test, and-first, and-second, and-both, and-off, or-first, or-second}
 use Rattle.basis.proofs.Scans.{every-at, every-of, every-fail, each-mem, mem-index, mem-none, mem-head, mem-append, each-at, below-at, below-of}
-use Rattle.basis.proofs.Orders.{rising-lt, rising-of}
+use Rattle.basis.proofs.Orders.{rising-lt, risingBy-of}
 use Rattle.basis.proofs.Areas.{column-more, column-length, column-at}
 use Rattle.graph.specs.Part.{partOf}
 use Rattle.graph.specs.Sound.{soundPart, other, soundParts, mirrored, bothWays}
@@ -48,7 +48,9 @@ mem-new l c r h =
 
 -- one member more than all others
 rising-last : (x : ℕ) (l : List ℕ) → rising l ≡ true → ((v : ℕ) → mem v l ≡ true → v < x) → rising (l ++ (x ∷ [])) ≡ true
-rising-last x l r h = rising-of (l ++ (x ∷ [])) (λ i g. steps i (let e = length-append l (x ∷ []) in omega arith))
+rising-last x l r h =
+    risingBy-of ltb 0 (l ++ (x ∷ []))
+    (λ i g. lt-ltb (getD (l ++ (x ∷ [])) i 0) (getD (l ++ (x ∷ [])) (suc i) 0) (steps i (let e = length-append l (x ∷ []) in omega arith)))
   where
     steps : (i : ℕ) → i < length l → getD (l ++ (x ∷ [])) i 0 < getD (l ++ (x ∷ [])) (suc i) 0
     steps i g =

@@ -1,7 +1,7 @@
 -- 01 "The loaded graph" and "Kernels": what every kernel answers.
 use Prim.Native.Nat.{ℕ}
-use mathlib.Core.Bool.{Bool, true, false, cond}
-use Rattle.basis.specs.Refusal.{Said, gives, refuses, plain, unsound, noRoom}
+use mathlib.Core.Bool.{Bool}
+use Rattle.basis.specs.Refusal.{Said, gives, refuses, unsound, noRoom, check}
 use Rattle.kernels.specs.declared.Answer.{Answer}
 use Rattle.kernels.specs.declared.Answer.the-variants.{Done, Refused}
 
@@ -13,7 +13,7 @@ says (Refused r) = refuses r
 -- "Kernels check 9, then 10 or 11, then 8": by whether the graph is sound, the parameter good (else the refusal with its number) and the room enough
 unfoldable pub kernelSays : Bool → Bool → ℕ → Bool → Said (Unit {0})
 kernelSays sound given number room =
-    cond sound (cond given (cond room (gives tt) (refuses (plain noRoom))) (refuses (plain number))) (refuses (plain unsound))
+    check sound unsound (check given number (check room noRoom (gives tt)))
 
 -- the numbers of the kernels: "kernel (1 BFS, 2 WCC, 3 CDLP, 4 LCC)"
 abbrev pub bfsNumber : ℕ

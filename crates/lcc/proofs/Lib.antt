@@ -3,7 +3,6 @@ pub mod Commons
 pub mod Ratios
 pub mod Merges
 pub mod Coefficients
-pub mod Rising
 pub mod Neighbours
 pub mod Calls
 pub mod Meaning

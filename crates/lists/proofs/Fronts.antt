@@ -1,5 +1,5 @@
 -- Laws of the areas after a file was read: values written from the front, as far as there is room. Assumes nothing.
-use Prim.Native.Nat.{ℕ, zero, suc, _+_, _-_, _≤_}
+use Prim.Native.Nat.{ℕ, suc, _+_, _≤_}
 use mathlib.Core.Path.{_≡_, refl, sym, ap, ap₂, _∙_}
 use mathlib.Core.List.{List, [], _∷_, _++_}
 use mathlib.Core.Bool.{Bool}
@@ -9,26 +9,22 @@ use native.Mathlib.Nat.{zero-add}
 use lib.IntN.{ℤ, pos}
 use lib.ListN.{length, take, drop, set, replicate, length-replicate, length-take, take-append-drop, drop-of-length-le}
 use lib.Seq.{sets, sets-eq, length-sets, set-out}
-use Rattle.basis.specs.Refusal.{Said, gives, refuses}
+use Rattle.basis.specs.Refusal.{gives, refuses, said}
 use Rattle.basis.specs.declared.refusal.Refusal.{Refusal}
 use Rattle.basis.specs.Area.{pad, padZ, padWith}
+use Rattle.basis.proofs.Areas.{pad-lent}
+use Rattle.basis.proofs.Saids.{said-gives, said-refuses}
 use Rattle.graph.specs.declared.find.Found.{Found}
 use Rattle.store.specs.Held.{seconds}
 use Rattle.store.specs.Steps.{bumps}
 use Rattle.lists.specs.declared.Listed.{Listed}
 use Rattle.lists.specs.declared.Listed.the-variants.{Lines, Refused}
-use Rattle.lists.specs.Lines.{said}
 use Rattle.lists.specs.Files.{identifiers, edgesOf, allNumbered}
 use Rattle.lists.specs.Calls.{vertexOutcome, vertexCall, edgeOutcome, edgeCall}
 use Rattle.lists.specs.Steps.{idsInto, idsLeft, numberedInto, edgesLeft}
 
 -- ---- values written to an area of one value throughout
 module _ {A : Type 0} (z : A) where
-  pub drop-same : (m k : ℕ) → drop m (replicate k z) ≡ replicate (k - m) z
-  drop-same zero k = let e : k ≡ k - 0 = omega arith in ap (λ (j : ℕ). replicate j z) e
-  drop-same (suc m) zero = let e : 0 ≡ 0 - suc m = omega arith in ap (λ (j : ℕ). replicate j z) e
-  drop-same (suc m) (suc k) = let e : k - m ≡ suc k - suc m = omega arith in drop-same m k ∙ ap (λ (j : ℕ). replicate j z) e
-
   sets-out : (d vs : List A) (i : ℕ) → length d ≤ i → sets d i vs ≡ d
   sets-out d [] i h = refl
   sets-out d (v ∷ vs) i h = ap (λ l. sets l (suc i) vs) (set-out d i v h) ∙ sets-out d vs (suc i) (omega arith)
@@ -40,7 +36,7 @@ module _ {A : Type 0} (z : A) where
   front : (k : ℕ) (vs : List A) → length vs ≤ k → sets (replicate k z) 0 vs ≡ padWith z k vs
   front k vs h =
       let l = length-replicate k z in
-      sets-eq vs (replicate k z) 0 (omega arith) ∙ ap (λ r. vs ++ r) (drop-same (0 + length vs) k ∙ ap (λ (j : ℕ). replicate (k - j) z) (zero-add (length vs)))
+      sets-eq vs (replicate k z) 0 (omega arith) ∙ pad-lent z (0 + length vs) k vs (sym (zero-add (length vs)))
 
   rest-out : (k : ℕ) (vs : List A) → sets (sets (replicate k z) 0 (take k vs)) (0 + length (take k vs)) (drop k vs) ≡ sets (replicate k z) 0 (take k vs)
   rest-out k vs =
@@ -60,14 +56,6 @@ module _ {A : Type 0} (z : A) where
       ap (sets (replicate k z) 0) (sym (take-append-drop k vs)) ∙ sets-append (replicate k z) (take k vs) (drop k vs) 0 ∙ rest-out k vs ∙ front k (take k vs) (omega arith)
 
 -- ---- the calls
-said-gives : {A B : Type 0} (f : A → B) (x : Said A) (y : B) → gives y ≡ said f x → (a : A) × (x ≡ gives a) × (y ≡ f a)
-said-gives f (gives a) y h = (a, refl, (cc))
-said-gives f (refuses r) y h = let z : _≡_ {A = ℕ} 0 1 = cc in absurd (let o : ⊥ = omega arith in o)
-
-said-refuses : {A B : Type 0} (f : A → B) (x : Said A) (r : Refusal) → refuses r ≡ said f x → x ≡ refuses r
-said-refuses f (gives a) r h = let z : _≡_ {A = ℕ} 0 1 = cc in absurd (let o : ⊥ = omega arith in o)
-said-refuses f (refuses q) r h = cc
-
 -- cleared once more
 again : {A : Type 0} (z : A) (size : ℕ) (a b : List A) → a ≡ replicate size z → length b ≡ length a → replicate (length b) z ≡ replicate size z
 again z size a b e k = ap (λ (j : ℕ). replicate j z) (k ∙ ap length e ∙ length-replicate size z)

@@ -7,11 +7,12 @@ use native.Mathlib.Omega.{arith}
 use native.Mathlib.Decide.{ℕ-discrete, decLt}
 use native.Mathlib.Nat.{add-zero}
 use native.Mathlib.Numerals.{add-one}
-use lib.ListN.{length, getD, set, replicate, length-set, length-replicate, getD-replicate}
+use lib.ListN.{length, getD, set, replicate, length-set}
 use lib.Seq.{sets, getD-set-same, getD-set-other, set-out}
 use lib.IntN.{ℤ, pos}
-use Rattle.basis.specs.Refusal.{Said, gives, refuses, edgeFile}
-use Rattle.basis.proofs.Areas.{past-end}
+use Rattle.basis.specs.Refusal.{Said, gives, refuses, edgeFile, said}
+use Rattle.basis.proofs.Tests.{no-case}
+use Rattle.basis.proofs.Areas.{replicate-at}
 use Rattle.text.specs.Word.{identOf}
 use Rattle.text.specs.Line.{twoOf, edgeLine}
 use Rattle.graph.specs.Arcs.{Arc}
@@ -23,20 +24,13 @@ use Rattle.lists.specs.declared.Listed.the-variants.{Lines, Refused}
 use Rattle.lists.specs.declared.edges.Edges.{Edges}
 use Rattle.lists.specs.declared.edges.EdgeStep.{EdgeStep}
 use Rattle.lists.specs.declared.edges.EdgeStep.the-variants as ES
-use Rattle.lists.specs.Lines.{after, said}
+use Rattle.lists.specs.Lines.{after}
 use Rattle.lists.specs.Files.{edgeTest, edgesOf, numbered, allNumbered}
 use Rattle.lists.specs.Calls.{listedSays}
 use Rattle.lists.specs.Steps.{Step, more, stop, beforeBy, pairOf, withNumbers, edgeStep, edgeStepSays, numberedInto, edgesLeft}
 use Rattle.lists.proofs.Runs.{line-moves, left, left-start, left-lines, left-refused, left-more, Moved, before-next}
 
 -- ---- what the loop keeps
-zero-at : (n i : ℕ) → getD (replicate {A = ℕ} n 0) i 0 ≤ 0
-zero-at n i =
-    elim (decLt i n) as (λ _. getD (replicate {A = ℕ} n 0) i 0 ≤ 0) [
-      | yes h ↦ let e = getD-replicate {A = ℕ} n i 0 0 h in omega arith
-      | no h ↦ let e = past-end 0 (replicate {A = ℕ} n 0) i (let l = length-replicate {A = ℕ} n 0 in omega arith) in omega arith
-    ]
-
 bump-few : (counts : List ℕ) (u k : ℕ) → ((i : ℕ) → getD counts i 0 ≤ k) → (i : ℕ) → getD (bump counts u) i 0 ≤ k + 1
 bump-few counts u k h i =
     elim (decLt u (length counts)) as (λ _. getD (bump counts u) i 0 ≤ k + 1) [
@@ -57,7 +51,7 @@ into-more place counts targets k e (gives es) =
     cc
 
 numbers-more : (place : ℤ → Found) (x : Step (ℤ × ℤ)) (e : ℤ × ℤ) (a : Arc) (next k : ℕ) → more (e, a) next k ≡ withNumbers place x → (more e next k ≡ x) × (a ≡ numbered place e)
-numbers-more place (stop r) e a next k h = let z : _≡_ {A = ℕ} 0 1 = cc in absurd (let o : ⊥ = omega arith in o)
+numbers-more place (stop r) e a next k h = no-case cc
 numbers-more place (more d n m) e a next k h =
     let q : _≡_ {A = (ℤ × ℤ) × Arc} (e, a) (d, numbered place d) = cc in
     let p : e ≡ d = ap (λ (x : (ℤ × ℤ) × Arc). x .0) q in
@@ -65,7 +59,7 @@ numbers-more place (more d n m) e a next k h =
 
 numbers-stop : (place : ℤ → Found) (x : Step (ℤ × ℤ)) (r : Said ℕ) → stop r ≡ withNumbers place x → stop r ≡ x
 numbers-stop place (stop q) r h = cc
-numbers-stop place (more d n m) r h = let z : _≡_ {A = ℕ} 0 1 = cc in absurd (let o : ⊥ = omega arith in o)
+numbers-stop place (more d n m) r h = no-case cc
 
 module _ (s : List ℕ) (most : ℕ) (both : Bool) (place : ℤ → Found) (counts₀ targets₀ : List ℕ) where
   abbrev edgeLeft : Edges → Said (List (ℤ × ℤ))
@@ -87,7 +81,7 @@ module _ (s : List ℕ) (most : ℕ) (both : Bool) (place : ℤ → Found) (coun
         within = omega arith;
         longCounts = refl;
         longTargets = refl;
-        few = λ i. subst (λ (l : List ℕ). getD l i 0 ≤ 0) (sym a) (zero-at (length counts₀) i);
+        few = λ i. subst (λ (l : List ℕ). getD l i 0 ≤ 0) (sym a) (let e = replicate-at {A = ℕ} 0 (length counts₀) i in omega arith);
         same = ap (said (numberedInto place counts₀ targets₀ 0)) (left-start edgeFile most (edgeTest both place) edgeLine s);
       }
 

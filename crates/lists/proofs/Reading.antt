@@ -1,5 +1,5 @@
 -- Laws of reading a file line by line. Assumes nothing.
-use Prim.Native.Nat.{ℕ, zero, suc, _+_, _-_, _≤_, _<_}
+use Prim.Native.Nat.{ℕ, zero, suc, _+_, _≤_, _<_}
 use mathlib.Core.Path.{_≡_, refl, sym, ap, ap₂, _∙_}
 use mathlib.Core.Bool.{Bool, true, false, cond, _&&_, _||_}
 use mathlib.Core.List.{List}
@@ -11,6 +11,7 @@ use lib.Signed.{ltZ}
 use Rattle.basis.specs.Refusal.{gives, refuses, at, tooMany, notAbove, vertexFile, edgeFile}
 use Rattle.basis.specs.Order.{sameZ}
 use Rattle.basis.specs.declared.refusal.Refusal.{Refusal}
+use Rattle.basis.proofs.Tests.{no-case}
 use Rattle.text.specs.Line.{LineSaid, line, fault, vertexLine, vertexSays, edgeLine, edgeSays}
 use Rattle.text.specs.declared.line.Cursor.{Cursor}
 use Rattle.text.specs.declared.line.VertexLine.{VertexLine}
@@ -267,5 +268,5 @@ module _ (both : Bool) (most : ℕ) (place : ℤ → Found) (s : List ℕ) (c : 
         where
           numbers : (x y : Found) → lookedBy x y ≡ found (u, v) → _≡_ {A = ℕ × ℕ} (numberOf x, numberOf y) (u, v)
           numbers (At i) (At j) h = cc
-          numbers (At i) Missing h = let z : _≡_ {A = ℕ} 0 1 = cc in absurd (let o : ⊥ = omega arith in o)
-          numbers Missing y h = let z : _≡_ {A = ℕ} 0 1 = cc in absurd (let o : ⊥ = omega arith in o)
+          numbers (At i) Missing h = no-case cc
+          numbers Missing y h = no-case cc

@@ -11,10 +11,10 @@ use lib.ListN.{length, drop, set, length-drop, length-set}
 use lib.Seq.{sets}
 use lib.Dec.{leb, eqb}
 use lib.IntN.{ℤ, pos}
-use Rattle.basis.specs.Refusal.{Said, gives, refuses, at, vertexFile}
+use Rattle.basis.specs.Refusal.{Said, gives, refuses, at, vertexFile, said}
 use Rattle.basis.specs.declared.refusal.Refusal.{Refusal}
 use Rattle.basis.specs.Scan.{mem}
-use Rattle.basis.proofs.Tests.{clash}
+use Rattle.basis.proofs.Tests.{clash, no-case}
 use Rattle.text.specs.Word.{Word, malformed, outside, value, identOf}
 use Rattle.text.specs.Line.{LineSaid, line, none, fault, lf, upTo, lineSays, lineBy, vertexLine}
 use Rattle.lists.specs.declared.Listed.{Listed}
@@ -22,7 +22,7 @@ use Rattle.lists.specs.declared.Listed.the-variants.{Lines, Refused}
 use Rattle.lists.specs.declared.vertices.Vertices.{Vertices}
 use Rattle.lists.specs.declared.vertices.VertexStep.{VertexStep}
 use Rattle.lists.specs.declared.vertices.VertexStep.the-variants as VS
-use Rattle.lists.specs.Lines.{good, linesFrom, linesOf, Before, first, after, said, unless, faultOf, valuesFrom, valuesOf}
+use Rattle.lists.specs.Lines.{good, linesFrom, linesOf, Before, first, after, unless, faultOf, valuesFrom, valuesOf}
 use Rattle.lists.specs.Files.{vertexTest, identifiers}
 use Rattle.lists.specs.Steps.{more, stop, byFault, stepBy, beforeBy, vertexStep, vertexStepSays, idsInto, idsLeft}
 
@@ -37,8 +37,8 @@ up-to-below c (b ∷ l) h = go (eqb c b) refl h (up-to-below c l)
     go false e h f = let g = f (rw e at h) in omega arith
 
 says-line : {A : Type 0} (place next : ℕ) (w : Word A) (v : A) (k : ℕ) → lineSays place next w ≡ line v k → next ≡ k
-says-line place next malformed v k e = let z : _≡_ {A = ℕ} 0 1 = cc in omega arith
-says-line place next outside v k e = let z : _≡_ {A = ℕ} 0 1 = cc in omega arith
+says-line place next malformed v k e = no-case cc
+says-line place next outside v k e = no-case cc
 says-line place next (value w) v k e = cc
 
 module _ {A : Type 0} (word : List ℕ → Word A) (s : List ℕ) where
@@ -49,8 +49,8 @@ module _ {A : Type 0} (word : List ℕ → Word A) (s : List ℕ) where
       go : (t u : Bool) → leb (length s) place ≡ t → mem lf (drop place s) ≡ u
           → cond t (none place) (cond u (lineSays place (place + length (upTo lf (drop place s)) + 1) (word (upTo lf (drop place s)))) (fault 2 place)) ≡ line v next
           → (place < next) × (next ≤ length s)
-      go true u p q h = let z : _≡_ {A = ℕ} 0 1 = cc in absurd (let o : ⊥ = omega arith in o)
-      go false false p q h = let z : _≡_ {A = ℕ} 0 1 = cc in absurd (let o : ⊥ = omega arith in o)
+      go true u p q h = no-case cc
+      go false false p q h = no-case cc
       go false true p q h =
           let n = says-line place (place + length (upTo lf (drop place s)) + 1) (word (upTo lf (drop place s))) v next h in
           let b = up-to-below lf (drop place s) q in
@@ -74,24 +74,24 @@ module _ {A : Type 0} (file most : ℕ) (test : Before A → A → ℕ) (read : 
       where
         go : (x : LineSaid A) → read s place ≡ x → stop (gives n) ≡ stepBy file most test k before x → (n ≡ k) × (left k before place ≡ gives [])
         go (none p) q h = (cc, rw (q, linesFrom))
-        go (fault m p) q h = let z : _≡_ {A = ℕ} 0 1 = cc in absurd (let o : ⊥ = omega arith in o)
+        go (fault m p) q h = no-case cc
         go (line v next) q h = by (faultOf file most test k before (good v)) h
           where
             by : (f : ℕ) → stop (gives n) ≡ byFault file most test k v next f → (n ≡ k) × (left k before place ≡ gives [])
-            by zero h = let z : _≡_ {A = ℕ} 0 1 = cc in absurd (let o : ⊥ = omega arith in o)
-            by (suc f) h = let z : _≡_ {A = ℕ} 0 1 = cc in absurd (let o : ⊥ = omega arith in o)
+            by zero h = no-case cc
+            by (suc f) h = no-case cc
 
     pub left-refused : (r : Refusal) → stop (refuses r) ≡ stepBy file most test k before (read s place) → left k before place ≡ refuses r
     unfolding left linesFrom valuesFrom
     left-refused r e = go (read s place) refl e
       where
         go : (x : LineSaid A) → read s place ≡ x → stop (refuses r) ≡ stepBy file most test k before x → left k before place ≡ refuses r
-        go (none p) q h = let z : _≡_ {A = ℕ} 0 1 = cc in absurd (let o : ⊥ = omega arith in o)
+        go (none p) q h = no-case cc
         go (fault m p) q h = rw (q, linesFrom, valuesFrom) (cc)
         go (line v next) q h = rw (q, linesFrom, valuesFrom) (by (faultOf file most test k before (good v)) (said (λ vs. v ∷ vs) (valuesFrom file most test (k + 1) (after v) (linesFrom (read s) (length s - k) next))) h)
           where
             by : (f : ℕ) (rest : Said (List A)) → stop (refuses r) ≡ byFault file most test k v next f → unless f file (k + 1) rest ≡ refuses r
-            by zero rest h = let z : _≡_ {A = ℕ} 0 1 = cc in absurd (let o : ⊥ = omega arith in o)
+            by zero rest h = no-case cc
             by (suc f) rest h = cc
 
     pub record Moved (v : A) (next m : ℕ) : Type 0 where
@@ -107,12 +107,12 @@ module _ {A : Type 0} (file most : ℕ) (test : Before A → A → ℕ) (read : 
     left-more moves low v next m e = go (read s place) refl e
       where
         go : (x : LineSaid A) → read s place ≡ x → more v next m ≡ stepBy file most test k before x → Moved v next m
-        go (none p) q h = let z : _≡_ {A = ℕ} 0 1 = cc in absurd (let o : ⊥ = omega arith in o)
-        go (fault n p) q h = let z : _≡_ {A = ℕ} 0 1 = cc in absurd (let o : ⊥ = omega arith in o)
+        go (none p) q h = no-case cc
+        go (fault n p) q h = no-case cc
         go (line w after-w) q h = by (faultOf file most test k before (good w)) refl h
           where
             by : (f : ℕ) → faultOf file most test k before (good w) ≡ f → more v next m ≡ byFault file most test k w after-w f → Moved v next m
-            by (suc f) g h = let z : _≡_ {A = ℕ} 0 1 = cc in absurd (let o : ⊥ = omega arith in o)
+            by (suc f) g h = no-case cc
             by zero g h =
                 let a : v ≡ w = cc in
                 let b : next ≡ after-w = cc in

@@ -4,14 +4,13 @@ use mathlib.Core.Bool.{Bool}
 use mathlib.Core.List.{List}
 use lib.IntN.{ℤ, pos}
 use lib.ListN.{length, take, replicate}
-use Rattle.basis.specs.Refusal.{Said, gives, refuses}
+use Rattle.basis.specs.Refusal.{Said, gives, refuses, said}
 use Rattle.basis.specs.Area.{pad, padZ}
 use Rattle.graph.specs.declared.find.Found.{Found}
 use Rattle.store.specs.Held.{seconds}
 use Rattle.store.specs.Steps.{bumps}
 use Rattle.lists.specs.declared.Listed.{Listed}
 use Rattle.lists.specs.declared.Listed.the-variants.{Lines, Refused}
-use Rattle.lists.specs.Lines.{said}
 use Rattle.lists.specs.Files.{identifiers, edgesOf, allNumbered}
 
 -- how many lines a file has, or why it was refused

@@ -4,7 +4,7 @@ use mathlib.Core.Bool.{cond}
 use mathlib.Core.List.{List, [], _∷_}
 use lib.ListN.{length}
 use lib.Dec.{leb}
-use Rattle.basis.specs.Refusal.{Said, gives, refuses, at, tooMany}
+use Rattle.basis.specs.Refusal.{Said, gives, refuses, at, tooMany, said}
 use Rattle.text.specs.Line.{LineSaid, line, none, fault}
 
 -- a line of a file: its values, or the number of its fault of form or range
@@ -25,14 +25,6 @@ linesOf read s = linesFrom (read s) (suc (length s)) 0
 pub data Before (A : Type 0) : Type 0 where
   first : Before A
   after : A → Before A
-
--- what follows where a call gives a value
-abbrev pub onward : {A B : Type 0} → Said A → (A → Said B) → Said B
-onward (gives x) f = f x
-onward (refuses r) f = refuses r
-
-abbrev pub said : {A B : Type 0} → (A → B) → Said A → Said B
-said f x = onward x (λ a. gives (f a))
 
 -- a number that is no fault lets go on
 abbrev pub unless : {A : Type 0} → ℕ → ℕ → ℕ → Said A → Said A

@@ -1,5 +1,5 @@
 -- A load is accepted exactly when both files have the form and order that 01 asks for and the areas have room. Assumes nothing.
-use Prim.Native.Nat.{ℕ, zero, suc, _+_, _-_, _≤_, _<_}
+use Prim.Native.Nat.{ℕ, zero, suc, _+_, _≤_, _<_}
 use mathlib.Core.Path.{_≡_, refl, sym, ap, subst, _∙_}
 use mathlib.Core.Logic.{_↔_}
 use mathlib.Core.Bool.{Bool, true, false, not, cond, _&&_}
@@ -11,17 +11,18 @@ use lib.ListN.{length, drop, length-append, drop-of-length-le, length-drop}
 use lib.Dec.{leb, ltb}
 use lib.IntN.{ℤ}
 use lib.Signed.{ltZ}
-use Rattle.basis.specs.Refusal.{Said, gives, refuses, plain, vertexFile, edgeFile, unknownNumber}
+use Rattle.basis.specs.Refusal.{gives, vertexFile, edgeFile, unknownNumber, noRoom}
 use Rattle.basis.specs.Order.{sameZ, aboveBy, risingBy, risingZ}
 use Rattle.basis.specs.Scan.{each, mem}
-use Rattle.basis.proofs.Tests.{and-first, and-second, and-both}
+use Rattle.basis.proofs.Tests.{and-first, and-second, and-both, no-case}
+use Rattle.basis.proofs.Saids.{given-one, check-passed, onward-passed}
 use Rattle.text.specs.Word.{Word, malformed, outside, value, identOf}
 use Rattle.text.specs.Line.{LineSaid, line, none, fault, lf, upTo, past, lineSays, lineBy, twoOf, vertexLine, edgeLine}
 use Rattle.text.proofs.Bytes.{cut-at, upTo-none, mem-cut, upTo-cut, drop-past}
 use Rattle.graph.specs.Arcs.{Arc, arcs}
 use Rattle.graph.specs.Find.{placeIn}
 use Rattle.load.specs.declared.Limits.{Limits}
-use Rattle.lists.specs.Lines.{good, bad, linesFrom, linesOf, Before, first, after, onward}
+use Rattle.lists.specs.Lines.{good, bad, linesFrom, linesOf, Before, first, after}
 use Rattle.lists.specs.Files.{vertexTest, identifiers, abovePair, isAbove, isThere, edgeTest, edgesOf, allNumbered}
 use Rattle.load.specs.Load.{Lists, Room, isUndirected, vertexRoom, arcRoom, withRoom, arcsRead, listsRead, loaded}
 use Rattle.load.specs.Good.{joined, Says, FileSays, allGood, Passes, GoodVertices, GoodEdges, GoodLoad}
@@ -39,8 +40,8 @@ module _ {A : Type 0} (word : List ℕ → Word A) (s : List ℕ) where
     says : word w ≡ value v
 
   said-line : (place next : ℕ) (x : Word A) (v : A) (k : ℕ) → lineSays place next x ≡ line v k → (x ≡ value v) × (next ≡ k)
-  said-line place next malformed v k e = let z : _≡_ {A = ℕ} 0 1 = cc in absurd (let o : ⊥ = omega arith in o)
-  said-line place next outside v k e = let z : _≡_ {A = ℕ} 0 1 = cc in absurd (let o : ⊥ = omega arith in o)
+  said-line place next malformed v k e = no-case cc
+  said-line place next outside v k e = no-case cc
   said-line place next (value w) v k e = (cc, (cc))
 
   line-read : (place : ℕ) (v : A) (next : ℕ) → lineBy word s place ≡ line v next → Read place v next
@@ -49,8 +50,8 @@ module _ {A : Type 0} (word : List ℕ → Word A) (s : List ℕ) where
     where
       go : (t u : Bool) → mem lf (drop place s) ≡ u
           → cond t (none place) (cond u (lineSays place (place + length (upTo lf (drop place s)) + 1) (word (upTo lf (drop place s)))) (fault 2 place)) ≡ line v next → Read place v next
-      go true u q h = let z : _≡_ {A = ℕ} 0 1 = cc in absurd (let o : ⊥ = omega arith in o)
-      go false false q h = let z : _≡_ {A = ℕ} 0 1 = cc in absurd (let o : ⊥ = omega arith in o)
+      go true u q h = no-case cc
+      go false false q h = no-case cc
       go false true q h =
           let n = said-line place (place + length (upTo lf (drop place s)) + 1) (word (upTo lf (drop place s))) v next h in
           let c = cut-at lf (drop place s) q in
@@ -67,15 +68,15 @@ module _ {A : Type 0} (word : List ℕ → Word A) (s : List ℕ) where
   line-none place p e = go (leb (length s) place) (mem lf (drop place s)) refl e
     where
       says-none : (x : Word A) (next : ℕ) → lineSays place next x ≡ none p → ⊥
-      says-none malformed next h = let z : _≡_ {A = ℕ} 0 1 = cc in omega arith
-      says-none outside next h = let z : _≡_ {A = ℕ} 0 1 = cc in omega arith
-      says-none (value v) next h = let z : _≡_ {A = ℕ} 0 1 = cc in omega arith
+      says-none malformed next h = no-case cc
+      says-none outside next h = no-case cc
+      says-none (value v) next h = no-case cc
 
       go : (t u : Bool) → leb (length s) place ≡ t
           → cond t (none place) (cond u (lineSays place (place + length (upTo lf (drop place s)) + 1) (word (upTo lf (drop place s)))) (fault 2 place)) ≡ none p → drop place s ≡ []
       go true u q h = drop-of-length-le s (leb-true (length s) place q)
       go false true q h = absurd (says-none (word (upTo lf (drop place s))) (place + length (upTo lf (drop place s)) + 1) h)
-      go false false q h = let z : _≡_ {A = ℕ} 0 1 = cc in absurd (let o : ⊥ = omega arith in o)
+      go false false q h = no-case cc
 
   -- from the reader to the bytes: with more turns than bytes are left
   reader-says : (m place : ℕ) (vs : List A) → length (drop place s) < m → linesFrom (lineBy word s) m place ≡ allGood vs → FileSays word (drop place s) vs
@@ -87,10 +88,10 @@ module _ {A : Type 0} (word : List ℕ → Word A) (s : List ℕ) where
           → elim x [ line v next ↦ good v ∷ linesFrom (lineBy word s) m next | none p ↦ [] | fault n p ↦ bad n ∷ [] ] ≡ allGood vs
           → ((next : ℕ) (vs : List A) → length (drop next s) < m → linesFrom (lineBy word s) m next ≡ allGood vs → FileSays word (drop next s) vs) → FileSays word (drop place s) vs
       go (none p) q [] h f = record { words = []; whole = line-none place p q; values = tt }
-      go (none p) q (v ∷ vs) h f = let z : _≡_ {A = ℕ} 0 1 = cc in absurd (let o : ⊥ = omega arith in o)
-      go (fault n p) q [] h f = let z : _≡_ {A = ℕ} 0 1 = cc in absurd (let o : ⊥ = omega arith in o)
-      go (fault n p) q (v ∷ vs) h f = let z : _≡_ {A = ℕ} 0 1 = cc in absurd (let o : ⊥ = omega arith in o)
-      go (line u next) q [] h f = let z : _≡_ {A = ℕ} 0 1 = cc in absurd (let o : ⊥ = omega arith in o)
+      go (none p) q (v ∷ vs) h f = no-case cc
+      go (fault n p) q [] h f = no-case cc
+      go (fault n p) q (v ∷ vs) h f = no-case cc
+      go (line u next) q [] h f = no-case cc
       go (line u next) q (v ∷ vs) h f =
           let r = line-read place u next q in
           let a : u ≡ v = cc in
@@ -241,14 +242,6 @@ edges-accepted both most ids s es = (
 )
 
 -- ---- the load
-onward-gives : {A B : Type 0} (x : Said A) (f : A → Said B) (y : B) → onward x f ≡ gives y → (a : A) × (x ≡ gives a) × (f a ≡ gives y)
-onward-gives (gives a) f y h = (a, refl, h)
-onward-gives (refuses r) f y h = let z : _≡_ {A = ℕ} 0 1 = cc in absurd (let o : ⊥ = omega arith in o)
-
-room-gives : {A : Type 0} (t : Bool) (x y : A) → withRoom t x ≡ gives y → (t ≡ true) × (x ≡ y)
-room-gives true x y h = (refl, (cc))
-room-gives false x y h = let z : _≡_ {A = ℕ} 0 1 = cc in absurd (let o : ⊥ = omega arith in o)
-
 module _ (limits : Limits) (mode : ℕ) (room : Room) (vertices edges : List ℕ) (g : Lists) where
   abbrev both : Bool
   both = isUndirected mode
@@ -259,36 +252,34 @@ module _ (limits : Limits) (mode : ℕ) (room : Room) (vertices edges : List ℕ
   load-good : loaded limits mode room vertices edges ≡ gives g → GoodLoad limits mode room vertices edges g
   unfolding loaded listsRead arcsRead
   load-good h =
-      let m = by-mode (leb mode 1) refl h in
-      let a = onward-gives (identifiers (limits .vertices) vertices) _ g (m .1) in
-      let b = onward-gives (withRoom (hasPlaces (a .0)) (a .0)) _ g (a .2) in
-      let r = room-gives (hasPlaces (a .0)) (a .0) (b .0) (b .1) in
-      let c = onward-gives (arcsRead both (limits .edges) (b .0) edges (room .outTargets) (room .inSources)) _ g (b .2) in
-      let d = onward-gives (edgesOf both (limits .edges) (placeIn (b .0)) edges) _ (c .0) (c .1) in
-      let k = room-gives (arcRoom (room .outTargets) (room .inSources) (length (arcs both (allNumbered (placeIn (b .0)) (d .0))))) (arcs both (allNumbered (placeIn (b .0)) (d .0))) (c .0) (d .2) in
+      let m = check-passed (leb mode 1) unknownNumber (listsRead limits both room vertices edges) g h in
+      let a = onward-passed (identifiers (limits .vertices) vertices) _ g (m .1) in
+      let b = onward-passed (withRoom (hasPlaces (a .0)) (a .0)) _ g (a .2) in
+      let r = check-passed (hasPlaces (a .0)) noRoom (gives (a .0)) (b .0) (b .1) in
+      let c = onward-passed (arcsRead both (limits .edges) (b .0) edges (room .outTargets) (room .inSources)) _ g (b .2) in
+      let d = onward-passed (edgesOf both (limits .edges) (placeIn (b .0)) edges) _ (c .0) (c .1) in
+      let es = arcs both (allNumbered (placeIn (b .0)) (d .0)) in
+      let k = check-passed (arcRoom (room .outTargets) (room .inSources) (length es)) noRoom (gives es) (c .0) (d .2) in
+      let same-ids : a .0 ≡ b .0 = given-one (r .1) in
+      let same-arcs : es ≡ c .0 = given-one (k .1) in
       let q : _≡_ {A = Lists} (record { ids = b .0; arcs = c .0 }) g = (let e = c .2 in cc) in
-      let p : hasPlaces (b .0) ≡ true = subst (λ (l : List ℤ). hasPlaces l ≡ true) (r .1) (r .0) in
+      let p : hasPlaces (b .0) ≡ true = subst (λ (l : List ℤ). hasPlaces l ≡ true) same-ids (r .0) in
       let n = length (b .0) in
       let o = and-second (leb n (room .ids)) (ltb n (room .outOffsets) && ltb n (room .inOffsets)) p in
-      let t : arcRoom (room .outTargets) (room .inSources) (length (c .0)) ≡ true = subst (λ (l : List Arc). arcRoom (room .outTargets) (room .inSources) (length l) ≡ true) (k .1) (k .0) in
+      let t : arcRoom (room .outTargets) (room .inSources) (length (c .0)) ≡ true = subst (λ (l : List Arc). arcRoom (room .outTargets) (room .inSources) (length l) ≡ true) same-arcs (k .0) in
       subst (GoodLoad limits mode room vertices edges) q
       (record {
         known = leb-true mode 1 (m .0);
-        goodVertices = vertices-accepted (limits .vertices) vertices (b .0) .0 (a .1 ∙ ap gives (r .1));
+        goodVertices = vertices-accepted (limits .vertices) vertices (b .0) .0 (a .1 ∙ r .1);
         idsFit = leb-true n (room .ids) (and-first (leb n (room .ids)) (ltb n (room .outOffsets) && ltb n (room .inOffsets)) p);
         outOffsetsFit = ltb-true n (room .outOffsets) (and-first (ltb n (room .outOffsets)) (ltb n (room .inOffsets)) o);
         inOffsetsFit = ltb-true n (room .inOffsets) (and-second (ltb n (room .outOffsets)) (ltb n (room .inOffsets)) o);
         list = d .0;
         goodEdges = edges-accepted both (limits .edges) (b .0) edges (d .0) .0 (d .1);
-        arcsAre = sym (k .1);
+        arcsAre = sym same-arcs;
         outTargetsFit = leb-true (length (c .0)) (room .outTargets) (and-first (leb (length (c .0)) (room .outTargets)) (leb (length (c .0)) (room .inSources)) t);
         inSourcesFit = leb-true (length (c .0)) (room .inSources) (and-second (leb (length (c .0)) (room .outTargets)) (leb (length (c .0)) (room .inSources)) t);
       })
-    where
-      by-mode : (t : Bool) → leb mode 1 ≡ t → cond t (listsRead limits (isUndirected mode) room vertices edges) (refuses (plain unknownNumber)) ≡ gives g
-          → (leb mode 1 ≡ true) × (listsRead limits (isUndirected mode) room vertices edges ≡ gives g)
-      by-mode true q h = (q, h)
-      by-mode false q h = let z : _≡_ {A = ℕ} 0 1 = cc in absurd (let o : ⊥ = omega arith in o)
 
   good-load : GoodLoad limits mode room vertices edges g → loaded limits mode room vertices edges ≡ gives g
   unfolding loaded listsRead arcsRead

@@ -10,11 +10,12 @@ use lib.ListN.{length, getD, set, take, drop, replicate}
 use lib.Seq.{set-at, take-suc, take-all, drop-cons, length-take-le}
 use lib.Dec.{leb, ltb}
 use lib.IntN.{ℤ}
-use Rattle.basis.specs.Refusal.{Said, gives, refuses, plain, noRoom, edgeFile}
+use Rattle.basis.specs.Refusal.{Said, gives, refuses, plain, noRoom, edgeFile, said}
 use Rattle.basis.specs.declared.refusal.Refusal.{Refusal}
 use Rattle.basis.specs.Area.{pad}
 use Rattle.basis.specs.Scan.{each}
 use Rattle.basis.proofs.Tests.{and-off, and-both}
+use Rattle.basis.proofs.Saids.{said-gives, said-refuses}
 use Rattle.text.specs.Line.{edgeLine}
 use Rattle.graph.specs.Arcs.{Arc, arcs, parts, start, offsets}
 use Rattle.graph.specs.Find.{placeIn, bisected}
@@ -28,7 +29,7 @@ use Rattle.store.proofs.Order.{Valid, valid-ends}
 use Rattle.store.proofs.Built.{offsets-length, parts-seconds, held-built}
 use Rattle.lists.specs.declared.Listed.{Listed}
 use Rattle.lists.specs.declared.Listed.the-variants.{Lines, Refused}
-use Rattle.lists.specs.Lines.{linesOf, first, said}
+use Rattle.lists.specs.Lines.{linesOf, first}
 use Rattle.lists.specs.Files.{edgeTest, edgesOf, allNumbered}
 use Rattle.lists.specs.Calls.{listedSays, EdgesRead, edgeOutcome, countsArea, targetsArea, edgeCall}
 use Rattle.load.specs.Load.{arcRoom}
@@ -83,15 +84,6 @@ sums-offsets l n size h b f =
     ap (λ (x : List ℕ). bumps x l) (counted-none (n + 1) size (omega arith)) ∙ bumps-counted [] l (n + 1) (replicate (size - (n + 1)) 0) b in
     let k = offsets-length l n in
     rw (c, sums-counted l (n + 1) (replicate (size - (n + 1)) 0) (rw (start-length l (n + 1) b) f), add-one n, k)
-
--- ---- what a call gives, taken apart
-pub said-gives : {A B : Type 0} (f : A → B) (x : Said A) (y : B) → gives y ≡ said f x → (a : A) × (x ≡ gives a) × (y ≡ f a)
-said-gives f (gives a) y h = (a, refl, (cc))
-said-gives f (refuses r) y h = let z : _≡_ {A = ℕ} 0 1 = cc in absurd (let o : ⊥ = omega arith in o)
-
-pub said-refuses : {A B : Type 0} (f : A → B) (x : Said A) (r : Refusal) → refuses r ≡ said f x → x ≡ refuses r
-said-refuses f (gives a) r h = let z : _≡_ {A = ℕ} 0 1 = cc in absurd (let o : ⊥ = omega arith in o)
-said-refuses f (refuses q) r h = cc
 
 -- ---- the edges of a file, read into the areas fo and ft, which hold c and t then
 module _ (both : Bool) (most : ℕ) (ids : List ℤ) (s : List ℕ) (fo ft to tt : List ℕ) (blank : Blank ids fo to)

@@ -1,7 +1,7 @@
 -- Laws of the four areas of a graph: a directed file's edges as they were arranged, an undirected file's arcs the same both ways. Assumes nothing.
 use Prim.Native.Nat.{ℕ, suc, _+_, _-_, _≤_}
 use mathlib.Core.Path.{_≡_, refl, sym, ap, ap₂, subst, _∙_}
-use mathlib.Core.Bool.{Bool, true, false, _&&_}
+use mathlib.Core.Bool.{Bool, true, false}
 use mathlib.Core.List.{List, [], _∷_, _++_}
 use native.Mathlib.Omega.{arith}
 use borrow.Author.Tests.{leb-true}
@@ -9,47 +9,37 @@ use lib.ListN.{length, take, drop, replicate}
 use lib.Seq.{take-at, drop-append-add}
 use lib.Dec.{leb}
 use lib.IntN.{ℤ}
-use Rattle.basis.specs.Refusal.{Said, gives, refuses, edgeFile}
+use Rattle.basis.specs.Refusal.{Said, gives, refuses, edgeFile, onward, said, noRoom}
 use Rattle.basis.specs.declared.refusal.Refusal.{Refusal}
 use Rattle.basis.specs.Area.{pad}
 use Rattle.basis.specs.Order.{risingZ}
-use Rattle.basis.proofs.Tests.{and-first, and-second}
+use Rattle.basis.proofs.Tests.{and-first, and-second, no-case, and-swap}
+use Rattle.basis.proofs.Areas.{column-ext, drop-replicate}
+use Rattle.basis.proofs.Saids.{said-gives, said-refuses, given-one, check-passed}
 use Rattle.text.specs.Line.{edgeLine}
 use Rattle.graph.specs.Find.{placeIn}
 use Rattle.graph.specs.Arcs.{Arc, arcs, parts, start, offsets}
 use Rattle.store.specs.Held.{inArcs}
 use Rattle.store.specs.Spread.{arcCount}
-use Rattle.store.proofs.Columns.{column-ext}
 use Rattle.store.proofs.Arcs.{start-length}
 use Rattle.store.proofs.Passes.{below-in, length-backward}
 use Rattle.store.proofs.Order.{Valid, valid-ends}
 use Rattle.store.proofs.Built.{offsets-length, both-parts, parts-seconds}
 use Rattle.lists.specs.declared.Listed.{Listed}
 use Rattle.lists.specs.declared.Listed.the-variants.{Lines, Refused}
-use Rattle.lists.specs.Lines.{linesOf, first, onward, said}
+use Rattle.lists.specs.Lines.{linesOf, first}
 use Rattle.lists.specs.Files.{edgeTest, edgesOf, allNumbered}
 use Rattle.load.specs.Load.{arcRoom, withRoom, arcsRead}
 use Rattle.load.specs.Steps.{edgesRead, Arranged, arranged, arrangedBy, arrangedLeft, Filled, filled, filledBy}
 use Rattle.load.proofs.Values.{values-accepted}
 use Rattle.load.proofs.Valids.{valid-edges}
 use Rattle.store.proofs.Fits.{arc-count}
-use Rattle.lists.proofs.Fronts.{drop-same}
-use Rattle.load.proofs.Arranges.{length-seconds, said-gives, said-refuses}
+use Rattle.load.proofs.Arranges.{length-seconds}
 
 -- ---- the arcs of a file are those of its edges, and the order of the two rooms does not matter
 said-room : {A B : Type 0} (f : A → B) (t : Bool) (x : A) → withRoom t (f x) ≡ said f (withRoom t x)
 said-room f true x = refl
 said-room f false x = refl
-
-room-true : {A : Type 0} (t : Bool) (x y : A) → withRoom t x ≡ gives y → (t ≡ true) × (x ≡ y)
-room-true true x y h = (refl, (cc))
-room-true false x y h = let z : _≡_ {A = ℕ} 0 1 = cc in absurd (let o : ⊥ = omega arith in o)
-
-and-swap : (p q : Bool) → (p && q) ≡ (q && p)
-and-swap true true = refl
-and-swap true false = refl
-and-swap false true = refl
-and-swap false false = refl
 
 module _ (both : Bool) (most : ℕ) (ids : List ℤ) (s : List ℕ) where
   pub arcs-edges : (t t′ : ℕ) → arcsRead both most ids s t t′ ≡ said (arcs both) (edgesRead both most ids s t t′)
@@ -81,9 +71,10 @@ module _ (both : Bool) (most : ℕ) (ids : List ℤ) (s : List ℕ) where
             → onward x (λ es. withRoom (arcRoom t t′ (length (arcs both (allNumbered (placeIn ids) es)))) (allNumbered (placeIn ids) es)) ≡ gives es
             → (l : List (ℤ × ℤ)) × (edgesOf both most (placeIn ids) s ≡ gives l) × (allNumbered (placeIn ids) l ≡ es) × (arcRoom t t′ (length (arcs both es)) ≡ true)
         go (gives l) q h =
-            let r = room-true (arcRoom t t′ (length (arcs both (allNumbered (placeIn ids) l)))) (allNumbered (placeIn ids) l) es h in
-            (l, q, r .1, subst (λ (x : List Arc). arcRoom t t′ (length (arcs both x)) ≡ true) (r .1) (r .0))
-        go (refuses r) q h = let z : _≡_ {A = ℕ} 0 1 = cc in absurd (let o : ⊥ = omega arith in o)
+            let r = check-passed (arcRoom t t′ (length (arcs both (allNumbered (placeIn ids) l)))) noRoom (gives (allNumbered (placeIn ids) l)) es h in
+            let e = given-one (r .1) in
+            (l, q, e, subst (λ (x : List Arc). arcRoom t t′ (length (arcs both x)) ≡ true) e (r .0))
+        go (refuses r) q h = no-case cc
 
     pub read-valid : Valid both (length ids) es
     read-valid =
@@ -130,7 +121,7 @@ copy-pad xs ys a b k e h =
     let m : b - length ys - (k - length ys) ≡ b - length xs = omega arith in
     rw (take-at xs (replicate (a - length xs) 0) k e)
     (ap (λ (r : List ℕ). xs ++ r)
-    (ap (λ (n : ℕ). drop n (ys ++ replicate (b - length ys) 0)) (sym j) ∙ drop-append-add ys (replicate (b - length ys) 0) (k - length ys) ∙ drop-same 0 (k - length ys) (b - length ys)
+    (ap (λ (n : ℕ). drop n (ys ++ replicate (b - length ys) 0)) (sym j) ∙ drop-append-add ys (replicate (b - length ys) 0) (k - length ys) ∙ drop-replicate 0 (k - length ys) (b - length ys)
     ∙ ap (λ (n : ℕ). replicate {A = ℕ} n 0) m))
 
 -- ---- an undirected file, arranged in the inward areas i, j and the outward areas o, t

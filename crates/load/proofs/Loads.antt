@@ -10,11 +10,12 @@ use lib.Seq.{take-at, take-all}
 use lib.Dec.{eqb, leb, ltb}
 use lib.IntN.{ℤ, pos}
 use lib.Signed.{ltZ}
-use Rattle.basis.specs.Refusal.{Said, gives, refuses, plain, noRoom, unknownNumber, vertexFile}
+use Rattle.basis.specs.Refusal.{Said, gives, refuses, plain, noRoom, unknownNumber, vertexFile, said}
 use Rattle.basis.specs.declared.refusal.Refusal.{Refusal}
 use Rattle.basis.specs.Area.{padZ}
 use Rattle.basis.specs.Order.{aboveBy, risingZ}
-use Rattle.basis.proofs.Tests.{and-first, and-second, and-both, and-off}
+use Rattle.basis.proofs.Tests.{and-first, and-second, and-both, and-off, no-case}
+use Rattle.basis.proofs.Saids.{said-gives, said-refuses}
 use Rattle.text.specs.Line.{vertexLine}
 use Rattle.graph.specs.declared.Size.{Size}
 use Rattle.graph.specs.Arcs.{Arc, arcs}
@@ -23,14 +24,13 @@ use Rattle.load.specs.declared.Loaded.{Loaded}
 use Rattle.load.specs.declared.Loaded.the-variants as L
 use Rattle.lists.specs.declared.Listed.{Listed}
 use Rattle.lists.specs.declared.Listed.the-variants.{Lines, Refused}
-use Rattle.lists.specs.Lines.{linesOf, first, after, said}
+use Rattle.lists.specs.Lines.{linesOf, first, after}
 use Rattle.lists.specs.Files.{vertexTest, identifiers}
 use Rattle.lists.specs.Calls.{listedSays, Vertexes, vertexOutcome, idsArea, vertexCall}
 use Rattle.load.specs.Load.{Room, roomOf, vertexRoom, arcsRead, listsRead, loaded, Outcome, outcome, outcomeOf, loadCall}
 use Rattle.load.specs.Steps.{Blank, Filled, filled, filledBy, filledLeft, outcomeBy, outcomeLeft, Emptied}
 use Rattle.load.specs.Good.{Passes}
 use Rattle.load.proofs.Values.{values-accepted}
-use Rattle.load.proofs.Arranges.{said-gives, said-refuses}
 
 -- ---- places for identifiers and offsets
 module _ (n ids oo io : ℕ) where
@@ -68,9 +68,9 @@ module _ (room : Room) (ids : List ℤ) (a : List ℤ) (h : a ≡ padZ (room .id
       → filledLeft r oo ot io is ≡ said (filledBy (length ids) (room .outOffsets) (room .outTargets) (room .inOffsets) (room .inSources)) x
       → outcomeLeft r a oo ot io is ≡ said (outcomeBy room) (said (λ l. record { ids = ids; arcs = l }) x)
   unfolding outcomeOf
-  five-areas (L.Refused o) oo ot io is (gives l) e = let z : _≡_ {A = ℕ} 0 1 = cc in absurd (let o : ⊥ = omega arith in o)
+  five-areas (L.Refused o) oo ot io is (gives l) e = no-case cc
   five-areas (L.Refused o) oo ot io is (refuses q) e = let p : o ≡ q = cc in ap refuses p
-  five-areas (L.Graph size) oo ot io is (refuses q) e = let z : _≡_ {A = ℕ} 0 1 = cc in absurd (let o : ⊥ = omega arith in o)
+  five-areas (L.Graph size) oo ot io is (refuses q) e = no-case cc
   five-areas (L.Graph size) oo ot io is (gives l) e =
       let f : filled size oo ot io is ≡ filledBy (length ids) (room .outOffsets) (room .outTargets) (room .inOffsets) (room .inSources) l = cc in
       ap gives (outcome-of (ap gives (ap (λ (y : Filled). y .size) f)) h (ap (λ (y : Filled). y .outOffsets) f) (ap (λ (y : Filled). y .outTargets) f)

@@ -10,25 +10,24 @@ use lib.ListN.{length, getD, drop, replicate}
 use lib.Seq.{take-at}
 use lib.Dec.{eqb, leb}
 use lib.IntN.{ℤ, pos}
-use Rattle.basis.specs.Refusal.{gives, refuses, vertexFile, edgeFile}
+use Rattle.basis.specs.Refusal.{gives, refuses, vertexFile, edgeFile, said}
 use Rattle.basis.specs.declared.refusal.Refusal.{Refusal}
 use Rattle.basis.specs.Area.{padZ}
 use Rattle.basis.specs.Order.{sameZ, risingZ}
 use Rattle.basis.specs.Scan.{each, mem}
-use Rattle.basis.proofs.Tests.{and-first, and-second, and-both}
+use Rattle.basis.proofs.Tests.{and-first, and-second, and-both, no-case, eqb-swap, and-swap}
 use Rattle.basis.proofs.Areas.{pad-length}
 use Rattle.basis.proofs.Orders.{signed-order, same-places}
 use Rattle.text.specs.Word.{Word, malformed, outside, value, identOf}
 use Rattle.text.specs.Line.{LineSaid, line, none, fault, lf, upTo, lineSays, lineBy, twoOf, vertexLine, edgeLine}
-use Rattle.text.proofs.Bytes.{eqb-swap}
 use Rattle.graph.specs.Arcs.{Arc, arcs}
 use Rattle.graph.specs.Find.{placeIn}
 use Rattle.graph.specs.Sound.{Graph, outward, inward, soundIds, soundGraph}
 use Rattle.store.proofs.Fits.{arc-count}
 use Rattle.store.proofs.Order.{Valid}
-use Rattle.store.proofs.Meaning.{and-swap, hasArc, storedGraph, stored-sound, stored-outward, stored-inward}
+use Rattle.store.proofs.Meaning.{hasArc, storedGraph, stored-sound, stored-outward, stored-inward}
 use Rattle.load.specs.declared.Limits.{Limits}
-use Rattle.lists.specs.Lines.{good, bad, linesFrom, linesOf, first, said}
+use Rattle.lists.specs.Lines.{good, bad, linesFrom, linesOf, first}
 use Rattle.lists.specs.Files.{vertexTest, identifiers, isThere, numberOf, edgeTest, edgesOf, numbered, allNumbered}
 use Rattle.load.specs.Load.{Lists, Room, isUndirected, sizeOf, loaded, Outcome, outcomeOf, loadCall}
 use Rattle.store.specs.Spread.{arcCount}
@@ -47,10 +46,10 @@ module _ {A : Type 0} (word : List ℕ → Word A) (s : List ℕ) where
       says : (x : Word A) (next : ℕ) → lineSays place next x ≡ fault n p → ⊥
       says malformed next h = let a : 2 ≡ n = cc in omega arith
       says outside next h = let a : 3 ≡ n = cc in omega arith
-      says (value v) next h = let o : _≡_ {A = ℕ} 0 1 = cc in omega arith
+      says (value v) next h = no-case cc
 
       go : (t u : Bool) → cond t (none place) (cond u (lineSays place (place + length (upTo lf (drop place s)) + 1) (word (upTo lf (drop place s)))) (fault 2 place)) ≡ fault n p → ⊥
-      go true u h = let o : _≡_ {A = ℕ} 0 1 = cc in omega arith
+      go true u h = no-case cc
       go false true h = says (word (upTo lf (drop place s))) (place + length (upTo lf (drop place s)) + 1) h
       go false false h = let a : 2 ≡ n = cc in omega arith
 

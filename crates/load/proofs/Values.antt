@@ -8,9 +8,10 @@ use native.Mathlib.Nat.{add-zero}
 use borrow.Author.Tests.{leb-false, lt-leb}
 use lib.ListN.{length}
 use lib.Dec.{leb}
-use Rattle.basis.specs.Refusal.{Said, gives, refuses, tooMany}
+use Rattle.basis.specs.Refusal.{Said, gives, refuses, tooMany, said}
 use Rattle.basis.specs.declared.refusal.Refusal.{Refusal}
-use Rattle.lists.specs.Lines.{Line, good, bad, Before, after, said, unless, faultOf, valuesFrom}
+use Rattle.basis.proofs.Tests.{no-case}
+use Rattle.lists.specs.Lines.{Line, good, bad, Before, after, unless, faultOf, valuesFrom}
 use Rattle.load.specs.Good.{allGood, Passes, FirstFault}
 use Rattle.lists.proofs.Reading.{limit-none}
 
@@ -22,7 +23,7 @@ pub record Accepted {A : Type 0} (most : ℕ) (test : Before A → A → ℕ) (k
 
 said-cons : {A : Type 0} (v : A) (x : Said (List A)) (vs : List A) → said (λ l. v ∷ l) x ≡ gives vs → (r : List A) × (x ≡ gives r) × (vs ≡ v ∷ r)
 said-cons v (gives r) vs h = (r, refl, (cc))
-said-cons v (refuses o) vs h = let z : _≡_ {A = ℕ} 0 1 = cc in absurd (let o : ⊥ = omega arith in o)
+said-cons v (refuses o) vs h = no-case cc
 
 module _ {A : Type 0} (file most : ℕ) (test : Before A → A → ℕ) where
   -- "most" is not passed before the last line
@@ -31,12 +32,12 @@ module _ {A : Type 0} (file most : ℕ) (test : Before A → A → ℕ) where
   values-accepted k before [] vs h l =
       let e : vs ≡ [] = cc in
       record { lines = ap allGood (sym e); passes = subst (Passes test before) (sym e) tt; few = rw e (omega arith) }
-  values-accepted k before (bad n ∷ ls) vs h l = let z : _≡_ {A = ℕ} 0 1 = cc in absurd (let o : ⊥ = omega arith in o)
+  values-accepted k before (bad n ∷ ls) vs h l = no-case cc
   values-accepted k before (good v ∷ ls) vs h l = by (faultOf file most test k before (good v)) refl h (values-accepted (k + 1) (after v) ls)
     where
       by : (f : ℕ) → faultOf file most test k before (good v) ≡ f → unless f file (k + 1) (said (λ vs. v ∷ vs) (valuesFrom file most test (k + 1) (after v) ls)) ≡ gives vs
           → ((r : List A) → valuesFrom file most test (k + 1) (after v) ls ≡ gives r → k + 1 ≤ most → Accepted most test (k + 1) (after v) ls r) → Accepted most test k before (good v ∷ ls) vs
-      by (suc n) e h f = let z : _≡_ {A = ℕ} 0 1 = cc in absurd (let o : ⊥ = omega arith in o)
+      by (suc n) e h f = no-case cc
       by zero e h f =
           let n = limit-none most k (test before v) e in
           let r = said-cons v (valuesFrom file most test (k + 1) (after v) ls) vs h in
@@ -63,13 +64,13 @@ Numbered (good v ∷ ls) = Numbered ls
 Numbered (bad n ∷ ls) = n ≡ 0 → ⊥
 
 said-refused : {A : Type 0} (v : A) (x : Said (List A)) (r : Refusal) → said (λ l. v ∷ l) x ≡ refuses r → x ≡ refuses r
-said-refused v (gives l) r h = let z : _≡_ {A = ℕ} 0 1 = cc in absurd (let o : ⊥ = omega arith in o)
+said-refused v (gives l) r h = no-case cc
 said-refused v (refuses q) r h = cc
 
 module _ {A : Type 0} (file most : ℕ) (test : Before A → A → ℕ) where
   pub values-refused : (k : ℕ) (before : Before A) (ls : List (Line A)) (r : Refusal) → Numbered ls → valuesFrom file most test k before ls ≡ refuses r → FirstFault file most test k before ls r
   unfolding valuesFrom
-  values-refused k before [] r n h = let z : _≡_ {A = ℕ} 0 1 = cc in absurd (let o : ⊥ = omega arith in o)
+  values-refused k before [] r n h = no-case cc
   values-refused k before (bad m ∷ ls) r n h =
       record {
         passed = [];

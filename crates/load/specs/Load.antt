@@ -1,11 +1,11 @@
 -- 01 "Lists", "The loaded graph": what a load answers, and what stands in the five areas then.
 use Prim.Native.Nat.{ℕ}
-use mathlib.Core.Bool.{Bool, cond, _&&_}
+use mathlib.Core.Bool.{Bool, _&&_}
 use mathlib.Core.List.{List}
 use lib.IntN.{ℤ, pos}
 use lib.ListN.{length, replicate}
 use lib.Dec.{eqb, leb, ltb}
-use Rattle.basis.specs.Refusal.{Said, gives, refuses, plain, noRoom, unknownNumber}
+use Rattle.basis.specs.Refusal.{Said, gives, refuses, noRoom, unknownNumber, onward, said, check}
 use Rattle.basis.specs.Area.{padWith}
 use Rattle.graph.specs.declared.Size.{Size}
 use Rattle.graph.specs.Find.{placeIn}
@@ -13,7 +13,6 @@ use Rattle.graph.specs.Arcs.{Arc, arcs, backward, parts, offsets}
 use Rattle.load.specs.declared.Limits.{Limits}
 use Rattle.load.specs.declared.Loaded.{Loaded}
 use Rattle.load.specs.declared.Loaded.the-variants as L
-use Rattle.lists.specs.Lines.{onward, said}
 use Rattle.lists.specs.Files.{identifiers, edgesOf, allNumbered}
 
 -- "a definition that gives this paper's number and values for each of its cases"
@@ -46,8 +45,9 @@ vertexRoom ids oo io n = leb n ids && (ltb n oo && ltb n io)
 abbrev pub arcRoom : ℕ → ℕ → ℕ → Bool
 arcRoom t t′ m = leb m t && leb m t′
 
+-- what is given where there is room enough
 abbrev pub withRoom : {A : Type 0} → Bool → A → Said A
-withRoom enough x = cond enough (gives x) (refuses (plain noRoom))
+withRoom enough x = check enough noRoom (gives x)
 
 -- the arcs of an edge file over the given identifiers, if there is room for them
 unfoldable pub arcsRead : Bool → ℕ → List ℤ → List ℕ → ℕ → ℕ → Said (List Arc)
@@ -65,7 +65,7 @@ listsRead limits both room vertices edges =
 -- "the mode (12)" before all
 unfoldable pub loaded : Limits → ℕ → Room → List ℕ → List ℕ → Said Lists
 loaded limits mode room vertices edges =
-    cond (leb mode 1) (listsRead limits (isUndirected mode) room vertices edges) (refuses (plain unknownNumber))
+    check (leb mode 1) unknownNumber (listsRead limits (isUndirected mode) room vertices edges)
 
 -- a load's outcome: its answer, and the content of each area
 pub record Outcome : Type 0 where

@@ -5,7 +5,7 @@ use mathlib.Core.Bool.{Bool, true}
 use mathlib.Core.List.{List}
 use lib.IntN.{ℤ}
 use lib.ListN.{length}
-use Rattle.basis.specs.Refusal.{Said, gives, refuses}
+use Rattle.basis.specs.Refusal.{Said, gives, refuses, onward}
 use Rattle.basis.specs.Order.{risingZ}
 use Rattle.basis.specs.Area.{cleared, clearedZ, pad}
 use Rattle.graph.specs.declared.Size.{Size}
@@ -14,7 +14,6 @@ use Rattle.graph.specs.Arcs.{Arc, arcs, backward, parts, offsets}
 use Rattle.store.specs.Held.{inArcs}
 use Rattle.lists.specs.declared.Listed.{Listed}
 use Rattle.lists.specs.declared.Listed.the-variants.{Lines, Refused}
-use Rattle.lists.specs.Lines.{onward}
 use Rattle.lists.specs.Files.{edgesOf, allNumbered}
 use Rattle.load.specs.declared.Loaded.{Loaded}
 use Rattle.load.specs.declared.Loaded.the-variants as L

@@ -16,7 +16,7 @@ ghost use mathlib.Core.Bool.{true, false};
 ghost use mathlib.Core.List.{_++_};
 ghost use Prim.Native.Nat.{_+_, _≤_};
 ghost use lib.ListN.{length, take, drop};
-ghost use Rattle.lists.specs.Lines.{said};
+ghost use Rattle.basis.specs.Refusal.{said};
 ghost use Rattle.load.specs.Load.{vertexRoom, roomOf, arcsRead, loaded};
 ghost use Rattle.load.specs.Steps.{edgesRead, arrangedBy, arrangedLeft, Blank, filledBy, filledLeft, outcomeBy, outcomeLeft};
 

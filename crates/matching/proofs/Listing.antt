@@ -10,18 +10,18 @@ use lib.IntN.{ℤ}
 use lib.ListN.{length, drop, length-drop}
 use mir.Syntax.{w64}
 use mir.Val.{SFits}
-use Rattle.basis.specs.Refusal.{gives}
+use Rattle.basis.specs.Refusal.{gives, said}
 use Rattle.basis.specs.Scan.{mem}
 use Rattle.text.specs.Word.{Word, value, within, identOf}
 use Rattle.text.specs.Decimal.{decimalOf}
 use Rattle.text.specs.Line.{lf, space, past, twoOf, lineBy}
 use Rattle.text.specs.declared.decimal.Decimal.{Decimal}
-use Rattle.text.proofs.Bytes.{mem-cut, mem-head, mem-tail, mem-join, upTo-cut, past-stop, past-more, drop-past}
+use Rattle.text.proofs.Bytes.{mem-cut, not-head, not-tail, mem-join, upTo-cut, past-stop, past-more, drop-past}
 use Rattle.text.proofs.Lines.{line-end}
 use Rattle.write.specs.Decimal.{signedText}
 use Rattle.write.proofs.Texts.{signed-without}
 use Rattle.write.proofs.Back.{ident-back, line-back}
-use Rattle.matching.specs.Claim.{before, linesFrom, numberLines, coefficientLines, idsOf, valuesOf}
+use Rattle.matching.specs.Claim.{linesFrom, numberLines, coefficientLines, idsOf, valuesOf}
 use Rattle.matching.specs.Verdict.{Fraction, near, unequalLine, unlikeLine, farLine, judgedBy}
 use Rattle.matching.proofs.Meaning.{accepted, Alike, exact-match, epsilon-match, equivalence-match, renamed}
 
@@ -52,7 +52,7 @@ AllSpelled word (x ∷ l) = Spelled word x × AllSpelled word l
 
 past-cut : (c : ℕ) (bs r : List ℕ) → mem c bs ≡ false → past c (bs ++ c ∷ r) ≡ r
 past-cut c [] r h = past-stop c c r (eq-eqb c c refl)
-past-cut c (b ∷ bs) r h = past-more c b (bs ++ c ∷ r) (ne-eqb c b (λ e. eqb-false b c (mem-head c b bs h) (sym e))) ∙ past-cut c bs r (mem-tail c b bs h)
+past-cut c (b ∷ bs) r h = past-more c b (bs ++ c ∷ r) (ne-eqb c b (λ e. eqb-false b c (not-head c b bs h) (sym e))) ∙ past-cut c bs r (not-tail c b bs h)
 
 -- ---- one line
 module _ {A : Type 0} (word : List ℕ → Word A) (x : Line A) (h : Spelled word x) where
@@ -83,7 +83,7 @@ module _ {A : Type 0} (word : List ℕ → Word A) (s : List ℕ) where
   lines-back (x ∷ l) h (suc allowed) k at f e =
       let d : drop at s ≡ lineText word x (h .0) ++ lf ∷ claimText l = e ∙ sym (append-assoc (signedText (x .id)) (space ∷ x .text) (lf ∷ claimText l)) in
       rw (line-back (twoOf identOf word) (x .id, x .is) (lineText word x (h .0)) (two-back word x (h .0)) (unbroken word x (h .0)) s (claimText l) at d, linesFrom)
-      (ap (before (x .id, x .is))
+      (ap (said (λ l. (x .id, x .is) ∷ l))
       (lines-back l (h .1) allowed (k + 1) (at + length (lineText word x (h .0)) + 1) (omega arith) (drop-past s (lineText word x (h .0)) (claimText l) at lf d)))
 
 -- the lines that a claim's text was written from

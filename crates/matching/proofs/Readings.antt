@@ -5,20 +5,19 @@ use Prim.Native.Nat.{ℕ, suc, _+_, _-_, _≤_, _<_}
 use native.Mathlib.Omega.{arith}
 use lib.IntN.{ℤ}
 use borrow.Author.Tests.{le-leb, lt-leb}
-use Rattle.basis.specs.Refusal.{Said, gives, refuses, at, tooMany, claimFile}
+use Rattle.basis.specs.Refusal.{Said, gives, refuses, at, tooMany, claimFile, said}
 use Rattle.text.specs.Line.{LineSaid, line, none, fault}
-use Rattle.matching.specs.Claim.{before, linesFrom, idsOf, valuesOf}
+use Rattle.matching.specs.Claim.{linesFrom, idsOf, valuesOf}
 
 -- lines before those that follow, if these are not refused
 abbrev after : {A : Type 0} → List A → Said (List A) → Said (List A)
-after done (gives l) = gives (done ++ l)
-after done (refuses r) = refuses r
+after done x = said (λ l. done ++ l) x
 
 after-none : {A : Type 0} (x : Said (List A)) → x ≡ after [] x
 after-none (gives l) = refl
 after-none (refuses r) = refl
 
-after-one : {A : Type 0} (done : List A) (v : A) (x : Said (List A)) → after done (before v x) ≡ after (done ++ (v ∷ [])) x
+after-one : {A : Type 0} (done : List A) (v : A) (x : Said (List A)) → after done (said (λ l. v ∷ l) x) ≡ after (done ++ (v ∷ [])) x
 after-one done v (gives l) = ap gives (sym (append-assoc done (v ∷ []) l))
 after-one done v (refuses r) = refl
 

@@ -1,11 +1,11 @@
 -- What a claim of numbers, and one of coefficients, is told by the functions that judge them.
 use Prim.Native.Nat.{ℕ, _^_}
-use mathlib.Core.Bool.{Bool, cond, _&&_}
+use mathlib.Core.Bool.{Bool, _&&_}
 use mathlib.Core.List.{List}
 use lib.IntN.{ℤ}
 use lib.ListN.{length, getD, take}
 use lib.Dec.{leb, ltb}
-use Rattle.basis.specs.Refusal.{Said, refuses, plain, noRoom}
+use Rattle.basis.specs.Refusal.{Said, noRoom, check}
 use Rattle.basis.specs.Area.{column, clearedZ}
 use Rattle.text.specs.declared.decimal.Decimal.{Decimal}
 use Rattle.matching.specs.declared.numbers.Rule.{Rule}
@@ -24,9 +24,8 @@ outcome said claimed = record { said = said; claimed = claimed }
 unfoldable pub numbersCall : Rule → ℕ → List ℤ → List ℤ → List ℕ → List ℤ → Outcome
 numbersCall rule most ids reference s claimed =
     outcome
-    (cond (leb (length ids) (length reference) && leb (length ids) (length claimed))
-    (judgedBy ids (mismatchLine rule (take (length ids) reference)) (numberLines most s))
-    (refuses (plain noRoom)))
+    (check (leb (length ids) (length reference) && leb (length ids) (length claimed)) noRoom
+    (judgedBy ids (mismatchLine rule (take (length ids) reference)) (numberLines most s)))
     (clearedZ claimed)
 
 -- a fraction whose terms are below 2^32, as every coefficient's are, and a decimal near it
@@ -45,6 +44,5 @@ fractions n nums dens = column (fractionAt nums dens) 0 n
 
 unfoldable pub coefficientsSays : ℕ → List ℤ → List ℕ → List ℕ → List ℕ → Said Verdict
 coefficientsSays most ids nums dens s =
-    cond (leb (length ids) (length nums) && leb (length ids) (length dens))
+    check (leb (length ids) (length nums) && leb (length ids) (length dens)) noRoom
     (judgedBy ids (farWithin (fractions (length ids) nums dens)) (coefficientLines most s))
-    (refuses (plain noRoom))

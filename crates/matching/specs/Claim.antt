@@ -5,14 +5,9 @@ use mathlib.Core.List.{List, [], _∷_}
 use lib.IntN.{ℤ}
 use lib.ListN.{length}
 use lib.Dec.{leb}
-use Rattle.basis.specs.Refusal.{Said, gives, refuses, at, tooMany, claimFile}
+use Rattle.basis.specs.Refusal.{Said, gives, refuses, at, tooMany, claimFile, said}
 use Rattle.text.specs.Line.{LineSaid, line, none, fault, claimLine, coefficientLine}
 use Rattle.text.specs.declared.decimal.Decimal.{Decimal}
-
--- a line before the lines that follow, if these are not refused
-abbrev pub before : {A : Type 0} → A → Said (List A) → Said (List A)
-before v (gives l) = gives (v ∷ l)
-before v (refuses r) = refuses r
 
 -- the lines from a place on, the next being line k, of which so many more are allowed; the line after the last allowed one is refused whatever its form
 module _ {A : Type 0} (read : ℕ → LineSaid A) (size : ℕ) where
@@ -20,7 +15,7 @@ module _ {A : Type 0} (read : ℕ → LineSaid A) (size : ℕ) where
   linesFrom zero k place = cond (leb size place) (gives []) (refuses (at tooMany claimFile k))
   linesFrom (suc allowed) k place =
       elim (read place) [
-        | line v next ↦ before v (linesFrom allowed (k + 1) next)
+        | line v next ↦ said (λ l. v ∷ l) (linesFrom allowed (k + 1) next)
         | none p ↦ gives []
         | fault number p ↦ refuses (at number claimFile k)
       ]

@@ -8,10 +8,10 @@ use borrow.Author.Tests.{le-leb, lt-leb, leb-true, leb-false, lt-ltb, le-ltb}
 use lib.Dec.{leb, eqb}
 use lib.ListN.{length, drop}
 use lib.Seq.{getD-append-seam}
-use Rattle.basis.specs.Refusal.{Said, gives, refuses, at, tooMany, badForm, sheetFile}
+use Rattle.basis.specs.Refusal.{Said, gives, refuses, at, tooMany, badForm, sheetFile, onward}
 use Rattle.basis.specs.declared.refusal.Refusal.{Refusal}
 use Rattle.basis.specs.Scan.{mem}
-use Rattle.basis.proofs.Tests.{clash, bool-cases, failed, held}
+use Rattle.basis.proofs.Tests.{clash, bool-cases, failed, held, no-case}
 use Rattle.text.specs.Word.{Word, malformed, outside, value, within, countOf}
 use Rattle.text.specs.Line.{lf, upTo}
 use Rattle.text.specs.Scan.{Scanned, scanned, hasAt, capped, cutWord, countAt, countSays, closed, lineOf}
@@ -19,7 +19,7 @@ use Rattle.text.specs.declared.count.Counted.{Counted}
 use Rattle.text.specs.declared.count.Counted.the-variants as T
 use Rattle.text.proofs.Bytes.{upTo-cut}
 use Rattle.text.proofs.Words.{word-has, no-end, count-reads}
-use Rattle.plan.specs.Lines.{onward, sheetFault, inSheet, begins}
+use Rattle.plan.specs.Lines.{sheetFault, inSheet, begins}
 use Rattle.plan.specs.Jobs.{jobLine, jobSays}
 use Rattle.plan.specs.Sheet.{mostVertices, mostEdges, mostJobs, mostBytes, directedWord, undirectedWord, modeOf, modeLine, limited, countLine, anyOf, nextOf, linePast, linesPast, block, linesOf, section, plan, sections, ended, checked, checkedSays, modeSays, countLineSays, pastSays, sectionSays}
 use Rattle.plan.specs.declared.job.Job.{Job}
@@ -80,12 +80,12 @@ module _ (s : List ℕ) (limit at : ℕ) where
 
   by-malformed : (w : Word ℕ) (next : ℕ) → cutWord w ≡ malformed → refuses (sheetFault s at badForm) ≡ countBy (scanned w next)
   by-malformed malformed next e = refl
-  by-malformed outside next e = let z : _≡_ {A = ℕ} 0 1 = cc in absurd (omega arith)
-  by-malformed (value n) next e = let z : _≡_ {A = ℕ} 0 1 = cc in absurd (omega arith)
+  by-malformed outside next e = no-case cc
+  by-malformed (value n) next e = no-case cc
 
   by-value : (w : Word ℕ) (n next : ℕ) → limit ≤ 2048 → cutWord w ≡ value n → valueBy n next ≡ countBy (scanned w next)
-  by-value malformed n next h e = let z : _≡_ {A = ℕ} 0 1 = cc in absurd (omega arith)
-  by-value outside n next h e = let z : _≡_ {A = ℕ} 0 1 = cc in absurd (omega arith)
+  by-value malformed n next h e = no-case cc
+  by-value outside n next h e = no-case cc
   by-value (value m) n next h e =
       let c : capped m ≡ n = cc in
       bool-cases (hasAt s next lf) _

@@ -7,13 +7,13 @@ use native.Mathlib.Omega.{arith}
 use borrow.Author.Tests.{leb-true, ltb-false}
 use lib.Dec.{leb, ltb}
 use lib.ListN.{length}
-use Rattle.basis.specs.Refusal.{Said, gives, refuses, at}
+use Rattle.basis.specs.Refusal.{Said, gives, refuses, at, onward}
 use Rattle.text.specs.Word.{Word, countOf}
 use Rattle.text.specs.Line.{LineSaid, line, none, fault, lineBy}
 use Rattle.text.proofs.Places.{Moved, Placed, places}
-use Rattle.plan.specs.Lines.{onward, inSheet, sheetLine}
+use Rattle.plan.specs.Lines.{inSheet, sheetLine}
 use Rattle.plan.specs.Jobs.{jobOf}
-use Rattle.plan.specs.Sheet.{mostVertices, mostEdges, mostJobs, mostBytes, modeOf, limited, countLine, anyOf, nextOf, linePast, linesPast, block, linesOf, section, plan, sections, ended, checked}
+use Rattle.plan.specs.Sheet.{mostVertices, mostEdges, mostJobs, mostBytes, modeOf, limited, countLine, anyOf, nextOf, linePast, linesPast, block, linesOf, section, sections, ended, checked}
 use Rattle.plan.specs.declared.sections.Block.{Block}
 use Rattle.plan.specs.declared.sections.Plan.{Plan}
 

@@ -1,7 +1,8 @@
 -- An answer is determined by what it says: each public `says` is injective. Assumes nothing.
 use Prim.Native.Nat.{ℕ}
-use mathlib.Core.Path.{_≡_, refl, sym, ap, _∙_}
+use mathlib.Core.Path.{_≡_, refl}
 use Rattle.basis.specs.Refusal.{Said, gives, refuses}
+use Rattle.basis.proofs.Saids.{one-of}
 use Rattle.plan.specs.Jobs.{jobSays}
 use Rattle.plan.specs.Sheet.{checkedSays}
 use Rattle.plan.specs.declared.job.Job.{Job}
@@ -10,10 +11,6 @@ use Rattle.plan.specs.declared.job.JobLine.the-variants as JL
 use Rattle.plan.specs.declared.sections.Plan.{Plan}
 use Rattle.plan.specs.declared.sections.Checked.{Checked}
 use Rattle.plan.specs.declared.sections.Checked.the-variants as Ch
-
--- what has a way back is injective
-one-of : {A B : Type 0} (f : A → B) (g : B → A) → ((x : A) → g (f x) ≡ x) → (x y : A) → f x ≡ f y → x ≡ y
-one-of f g h x y e = sym (h x) ∙ ap g e ∙ h y
 
 abbrev jobLineOf : Said (Job × ℕ) → JobLine
 jobLineOf (gives x) = JL.Line (x .0) (x .1)

@@ -10,9 +10,9 @@ use lib.Dec.{ltb, eqb}
 use lib.ListN.{length, getD, drop, length-append, length-drop, drop-of-length-le}
 use lib.Seq.{drop-cons, append-snoc}
 use Rattle.basis.specs.Scan.{mem}
-use Rattle.basis.proofs.Tests.{clash, bool-cases, failed, held, and-first, and-second}
+use Rattle.basis.proofs.Tests.{clash, bool-cases, failed, held, and-first, and-second, eqb-swap}
 use Rattle.text.specs.Scan.{hasAt}
-use Rattle.text.proofs.Bytes.{eqb-swap, has-yes, has-past, has-below, mem-head, mem-tail, mem-cut}
+use Rattle.text.proofs.Bytes.{has-yes, has-past, has-below, not-head, not-tail, mem-cut}
 use Rattle.plan.specs.Lines.{begins, isWord}
 
 -- ---- the loop over a word's bytes
@@ -68,20 +68,20 @@ is-word (b ∷ w) (c ∷ l) h =
 -- ---- before the byte c that ends a line, which stands in no word
 module _ (c : ℕ) where
   first-not : (b : ℕ) (w : List ℕ) → mem c (b ∷ w) ≡ false → eqb c b ≡ false
-  first-not b w h = eqb-swap c b ∙ mem-head c b w h
+  first-not b w h = eqb-swap c b ∙ not-head c b w h
 
   pub begins-cut : (w bs r : List ℕ) → mem c w ≡ false → begins w (bs ++ c ∷ r) ≡ begins w bs
   unfolding begins
   begins-cut [] bs r h = refl
   begins-cut (b ∷ w) [] r h = rw (first-not b w h)
-  begins-cut (b ∷ w) (d ∷ bs) r h = ap (λ t. eqb d b && t) (begins-cut w bs r (mem-tail c b w h))
+  begins-cut (b ∷ w) (d ∷ bs) r h = ap (λ t. eqb d b && t) (begins-cut w bs r (not-tail c b w h))
 
   pub begins-word : (w bs r : List ℕ) → mem c w ≡ false → mem c bs ≡ false → begins (w ++ (c ∷ [])) (bs ++ c ∷ r) ≡ isWord w bs
   unfolding begins isWord
   begins-word [] [] r h k = rw (eq-eqb c c refl)
-  begins-word [] (d ∷ bs) r h k = rw (mem-head c d bs k)
+  begins-word [] (d ∷ bs) r h k = rw (not-head c d bs k)
   begins-word (b ∷ w) [] r h k = rw (first-not b w h)
-  begins-word (b ∷ w) (d ∷ bs) r h k = ap (λ t. eqb d b && t) (begins-word w bs r (mem-tail c b w h) (mem-tail c d bs k))
+  begins-word (b ∷ w) (d ∷ bs) r h k = ap (λ t. eqb d b && t) (begins-word w bs r (not-tail c b w h) (not-tail c d bs k))
 
   pub begins-ended : (w l : List ℕ) → begins (w ++ (c ∷ [])) l ≡ true → mem c l ≡ true
   begins-ended w l h =

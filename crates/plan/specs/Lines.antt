@@ -9,11 +9,6 @@ use Rattle.basis.specs.declared.refusal.Refusal.{Refusal}
 use Rattle.text.specs.Word.{Word}
 use Rattle.text.specs.Line.{LineSaid, line, none, fault, lf, lineBy}
 
--- what follows where a value is given
-abbrev pub onward : {A B : Type 0} → Said A → (A → Said B) → Said B
-onward (gives x) f = f x
-onward (refuses r) f = refuses r
-
 -- "a line counted from 1": the line at a place has one number more than there are LFs before it
 unfoldable pub lfs : List ℕ → ℕ
 lfs [] = 0

@@ -4,9 +4,9 @@ use mathlib.Core.Bool.{Bool, true, false, cond}
 use mathlib.Core.List.{List, [], _∷_}
 use lib.ListN.{length}
 use lib.Dec.{leb, ltb}
-use Rattle.basis.specs.Refusal.{Said, gives, refuses, at, tooMany, badForm, sheetFile}
+use Rattle.basis.specs.Refusal.{Said, gives, refuses, at, tooMany, badForm, sheetFile, onward, said}
 use Rattle.text.specs.Word.{Word, malformed, value, countOf}
-use Rattle.plan.specs.Lines.{onward, sheetFault, sheetLine, isWord}
+use Rattle.plan.specs.Lines.{sheetFault, sheetLine, isWord}
 use Rattle.plan.specs.Jobs.{jobOf}
 use Rattle.plan.specs.declared.sections.Block.{Block}
 use Rattle.plan.specs.declared.sections.Plan.{Plan}
@@ -61,8 +61,7 @@ anyOf bs = value tt
 
 -- the place past a line of the jobs, or of another section
 abbrev pub nextOf : {A : Type 0} → Said (A × ℕ) → Said ℕ
-nextOf (gives x) = gives (x .1)
-nextOf (refuses r) = refuses r
+nextOf x = said (λ v. v .1) x
 
 abbrev pub linePast : Bool → List ℕ → ℕ → Said ℕ
 linePast true s place = nextOf (sheetLine jobOf s place)
@@ -78,7 +77,7 @@ block count from to = record { count = count; from = from; to = to }
 
 -- a section: its count line, and then so many lines
 abbrev pub linesOf : Bool → List ℕ → ℕ × ℕ → Said Block
-linesOf jobs s c = onward (linesPast jobs (c .0) s (c .1)) (λ to. gives (block (c .0) (c .1) to))
+linesOf jobs s c = said (block (c .0) (c .1)) (linesPast jobs (c .0) s (c .1))
 
 unfoldable pub section : Bool → ℕ → List ℕ → ℕ → Said Block
 section jobs limit s place = onward (countLine limit s place) (linesOf jobs s)

@@ -9,7 +9,7 @@ use lib.Dec.{eqb, leb, ltb}
 use lib.IntN.{ℤ, pos}
 use lib.Signed.{ltZ}
 use lib.ListN.{length, take, drop, length-take, length-drop}
-use Rattle.basis.specs.Refusal.{Said, gives, refuses, at, plain, tooMany, badForm, noRoom, vertexFile, edgeFile}
+use Rattle.basis.specs.Refusal.{Said, gives, refuses, plain, tooMany, badForm, noRoom, vertexFile, edgeFile, onward, said}
 use Rattle.basis.specs.Area.{padWith}
 use Rattle.basis.specs.Scan.{mem}
 use Rattle.basis.specs.Order.{sameZ}
@@ -19,12 +19,12 @@ use Rattle.text.specs.Word.{Word, malformed, outside, value, identOf, countOf}
 use Rattle.text.specs.Line.{LineSaid, line, none, fault, lf, upTo, lineSays, lineBy, twoOf, vertexLine, edgeLine}
 use Rattle.text.proofs.Places.{vertex-range}
 use Rattle.load.specs.declared.Limits.{Limits}
-use Rattle.lists.specs.Lines.{Line, good, bad, linesFrom, linesOf, Before, first, after, onward as onwardL, said, unless, valuesFrom}
+use Rattle.lists.specs.Lines.{Line, good, bad, linesFrom, linesOf, Before, first, after, unless, valuesFrom}
 use Rattle.lists.specs.Files.{vertexTest, identifiers, isAbove, isThere, edgeTest, edgesOf, allNumbered}
 use Rattle.load.specs.Load.{Lists, Room, isUndirected, vertexRoom, arcRoom, withRoom, arcsRead, listsRead, loaded, sizeOf, outcomeOf, loadCall}
 use Rattle.graph.specs.Find.{placeIn}
 use Rattle.graph.specs.declared.find.Found.{Found}
-use Rattle.plan.specs.Lines.{onward, lfs, sheetFault, inSheet, sheetLine}
+use Rattle.plan.specs.Lines.{lfs, sheetFault, inSheet, sheetLine}
 use Rattle.plan.specs.Jobs.{jobOf}
 use Rattle.plan.specs.Sheet.{mostBytes, mostVertices, mostEdges, mostJobs, modeOf, limited, countLine, anyOf, nextOf, linePast, linesPast, linesOf as blockLines, section, sections, ended, checked}
 use Rattle.plan.specs.declared.sections.Plan.{Plan}
@@ -139,7 +139,7 @@ room-either P false x h = room-brief
 abbrev Held : Room → Lists → Type 0
 Held room l = All Small (l .ids) × (length (l .ids) ≤ room .ids)
 
-onward-either : {A B : Type 0} (P : A → Type 0) (Q : B → Type 0) (x : Said A) (f : A → Said B) → Either P Brief x → ((a : A) → P a → Either Q Brief (f a)) → Either Q Brief (onwardL x f)
+onward-either : {A B : Type 0} (P : A → Type 0) (Q : B → Type 0) (x : Said A) (f : A → Said B) → Either P Brief x → ((a : A) → P a → Either Q Brief (f a)) → Either Q Brief (onward x f)
 onward-either P Q (gives a) f h g = g a h
 onward-either P Q (refuses r) f h g = h
 

@@ -8,14 +8,13 @@ use borrow.Author.Tests.{leb-true}
 use lib.Dec.{leb}
 use lib.IntN.{ℤ}
 use lib.ListN.{length}
-use Rattle.basis.specs.Refusal.{Said, gives, refuses}
+use Rattle.basis.specs.Refusal.{Said, gives, refuses, onward, said}
 use Rattle.basis.specs.declared.refusal.Refusal.{Refusal}
 use Rattle.basis.proofs.Tests.{and-first, bool-cases}
 use Rattle.graph.specs.declared.Size.{Size}
 use Rattle.load.specs.declared.Limits.{Limits}
 use Rattle.load.specs.declared.Loaded.{Loaded}
 use Rattle.load.specs.declared.Loaded.the-variants as LD
-use Rattle.lists.specs.Lines.{onward, said}
 use Rattle.lists.specs.Files.{identifiers}
 use Rattle.load.specs.Load.{says, Lists, Room, Outcome, outcome, isUndirected, vertexRoom, withRoom, arcsRead, listsRead, loaded, sizeOf, outcomeOf, loadCall}
 use Rattle.write.specs.Put.{written, putAt}

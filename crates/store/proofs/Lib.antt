@@ -1,5 +1,4 @@
 -- Laws of stored arcs.
-pub mod Columns
 pub mod Arcs
 pub mod Passes
 pub mod Edges

@@ -12,7 +12,7 @@ use lib.IntN.{ℤ}
 use borrow.Author.Tests.{eq-eqb, ne-eqb, lt-ltb, le-leb}
 use Rattle.basis.specs.Area.{pad}
 use Rattle.basis.specs.Scan.{each, mem}
-use Rattle.basis.proofs.Tests.{clash, and-both}
+use Rattle.basis.proofs.Tests.{clash, and-both, and-swap, eqb-swap}
 use Rattle.basis.proofs.Scans.{every-of, each-of, mem-index}
 use Rattle.basis.proofs.Areas.{pad-length}
 use Rattle.graph.specs.Arcs.{Arc, arcs, targetsOf, parts, start, offsets, backward}
@@ -26,9 +26,6 @@ use Rattle.store.proofs.Built.{offset-at, offsets-length, part-built}
 
 each-member : (p : ℕ → Bool) (l : List ℕ) → ((x : ℕ) → mem x l ≡ true → p x ≡ true) → each p l ≡ true
 each-member p l h = each-of p 0 l (λ i g. h (getD l i 0) (mem-index (getD l i 0) l i g refl))
-
-eqb-swap : (a b : ℕ) → eqb a b ≡ eqb b a
-eqb-swap a b = elim (ℕ-discrete a b) as (λ _. eqb a b ≡ eqb b a) [ yes q ↦ rw q | no d ↦ rw (ne-eqb a b d, ne-eqb b a (λ e. d (sym e))) ]
 
 -- ---- who stands in a vertex's targets
 -- an arc of the list, as a test
@@ -44,12 +41,6 @@ mem-targets (a ∷ l) u w = cases (eqb (a .0) u) (mem-targets l u w)
     cases : (p : Bool) → mem w (targetsOf l u) ≡ hasArc l u w → mem w (cond p (a .1 ∷ targetsOf l u) (targetsOf l u)) ≡ ((p && eqb w (a .1)) || hasArc l u w)
     cases true e = ap (λ (t : Bool). eqb w (a .1) || t) e
     cases false e = e
-
-pub and-swap : (p q : Bool) → (p && q) ≡ (q && p)
-and-swap true true = refl
-and-swap true false = refl
-and-swap false true = refl
-and-swap false false = refl
 
 has-backward : (l : List Arc) (u w : ℕ) → hasArc l u w ≡ hasArc (backward l) w u
 unfolding hasArc

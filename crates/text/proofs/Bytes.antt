@@ -5,12 +5,12 @@ use mathlib.Core.List.{List, [], _∷_, _++_}
 use mathlib.Core.Bool.{Bool, true, false, _||_}
 use native.Mathlib.Omega.{arith}
 use native.Mathlib.Numerals.{add-one}
-use borrow.Author.Tests.{le-leb, lt-leb, leb-true, lt-ltb, le-ltb, ltb-true, eq-eqb, ne-eqb, eqb-true, eqb-false}
+use borrow.Author.Tests.{le-leb, lt-leb, leb-true, lt-ltb, le-ltb, ltb-true, eq-eqb, ne-eqb, eqb-true}
 use lib.Dec.{leb, ltb, eqb}
 use lib.ListN.{length, getD, take, drop, drop-of-length-le, List·getD-eq-default}
 use lib.Seq.{drop-cons, drop-drop, drop-append-add}
 use Rattle.basis.specs.Scan.{mem}
-use Rattle.basis.proofs.Tests.{clash, bool-cases, and-first, and-second, and-both, and-off, or-first, or-second}
+use Rattle.basis.proofs.Tests.{clash, bool-cases, and-first, and-second, and-both, and-off, or-first, or-second, eqb-swap}
 use Rattle.text.specs.Word.{within, isDigit}
 use Rattle.text.specs.Line.{upTo, past}
 use Rattle.text.specs.Scan.{hasAt}
@@ -64,21 +64,14 @@ has-no s p c h = and-off (ltb p (length s)) (eqb (getD s p 0) c) (ne-eqb (getD s
 pub nothing-past : (s : List ℕ) (at : ℕ) → length s ≤ at → getD s at 0 ≡ 0
 nothing-past s at h = List·getD-eq-default s 0 h
 
-pub byte-past : (s : List ℕ) (at : ℕ) → length s ≤ at → 0 ≡ getD s at 0
-byte-past s at h = sym (nothing-past s at h)
-
 -- ---- the first c of a list
-pub eqb-swap : (a b : ℕ) → eqb a b ≡ eqb b a
-eqb-swap a b =
-    bool-cases (eqb b a) (eqb a b ≡ eqb b a) (λ e. eq-eqb a b (sym (eqb-true b a e)) ∙ sym e) (λ e. ne-eqb a b (λ q. eqb-false b a e (sym q)) ∙ sym e)
-
-pub mem-head : (c b : ℕ) (l : List ℕ) → mem c (b ∷ l) ≡ false → eqb b c ≡ false
+pub not-head : (c b : ℕ) (l : List ℕ) → mem c (b ∷ l) ≡ false → eqb b c ≡ false
 unfolding mem
-mem-head c b l n = bool-cases (eqb b c) (eqb b c ≡ false) (λ e. clash (or-first (eqb c b) (mem c l) (eqb-swap c b ∙ e)) n) (λ e. e)
+not-head c b l n = bool-cases (eqb b c) (eqb b c ≡ false) (λ e. clash (or-first (eqb c b) (mem c l) (eqb-swap c b ∙ e)) n) (λ e. e)
 
-pub mem-tail : (c b : ℕ) (l : List ℕ) → mem c (b ∷ l) ≡ false → mem c l ≡ false
+pub not-tail : (c b : ℕ) (l : List ℕ) → mem c (b ∷ l) ≡ false → mem c l ≡ false
 unfolding mem
-mem-tail c b l n = bool-cases (mem c l) (mem c l ≡ false) (λ e. clash (or-second (eqb c b) (mem c l) e) n) (λ e. e)
+not-tail c b l n = bool-cases (mem c l) (mem c l ≡ false) (λ e. clash (or-second (eqb c b) (mem c l) e) n) (λ e. e)
 
 pub upTo-stop : (c b : ℕ) (l : List ℕ) → eqb c b ≡ true → upTo c (b ∷ l) ≡ []
 upTo-stop c b l e = rw (e, upTo)
@@ -120,7 +113,7 @@ mem-cut c (b ∷ bs) r = or-second (eqb c b) (mem c (bs ++ c ∷ r)) (mem-cut c 
 pub upTo-cut : (c : ℕ) (bs r : List ℕ) → mem c bs ≡ false → upTo c (bs ++ c ∷ r) ≡ bs
 upTo-cut c [] r n = upTo-stop c c r (eq-eqb c c refl)
 upTo-cut c (b ∷ bs) r n =
-    upTo-more c b (bs ++ c ∷ r) (eqb-swap c b ∙ mem-head c b bs n) ∙ ap (λ (t : List ℕ). b ∷ t) (upTo-cut c bs r (mem-tail c b bs n))
+    upTo-more c b (bs ++ c ∷ r) (eqb-swap c b ∙ not-head c b bs n) ∙ ap (λ (t : List ℕ). b ∷ t) (upTo-cut c bs r (not-tail c b bs n))
 
 pub upTo-take : (c : ℕ) (l : List ℕ) → take (length (upTo c l)) l ≡ upTo c l
 upTo-take c [] = refl
@@ -142,11 +135,11 @@ upTo-le c (b ∷ l) = by (eqb c b) refl (upTo-le c l)
 pub mem-join : (c : ℕ) (a b : List ℕ) → mem c a ≡ false → mem c b ≡ false → mem c (a ++ b) ≡ false
 unfolding mem
 mem-join c [] b h k = k
-mem-join c (x ∷ a) b h k = rw (eqb-swap c x ∙ mem-head c x a h) (mem-join c a b (mem-tail c x a h) k)
+mem-join c (x ∷ a) b h k = rw (eqb-swap c x ∙ not-head c x a h) (mem-join c a b (not-tail c x a h) k)
 
 pub mem-right : (c : ℕ) (a b : List ℕ) → mem c (a ++ b) ≡ false → mem c b ≡ false
 mem-right c [] b h = h
-mem-right c (x ∷ a) b h = mem-right c a b (mem-tail c x (a ++ b) h)
+mem-right c (x ∷ a) b h = mem-right c a b (not-tail c x (a ++ b) h)
 
 -- past the first part and the byte after it
 pub drop-past : (s a b : List ℕ) (at d : ℕ) → drop at s ≡ a ++ d ∷ b → drop (at + length a + 1) s ≡ b

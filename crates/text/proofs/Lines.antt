@@ -11,7 +11,7 @@ use lib.ListN.{length, take, drop, length-append, length-drop}
 use lib.Seq.{getD-append-seam}
 use Rattle.basis.specs.Refusal.{badForm, outOfRange}
 use Rattle.basis.specs.Scan.{mem}
-use Rattle.basis.proofs.Tests.{clash, bool-cases}
+use Rattle.basis.proofs.Tests.{clash, bool-cases, no-case}
 use Rattle.text.specs.Word.{Word, malformed, outside, value, within, identOf}
 use Rattle.text.specs.Decimal.{decimalOf}
 use Rattle.text.specs.Stop.{decimalStop, decimalWord}
@@ -151,11 +151,11 @@ rest-reads s at = record { ended = ended; unended = unended }
 word-bad : (w : Word Decimal) (stop p : ℕ) → Inside w → DW.Bad p ≡ decimalWord w stop → scanned w stop ≡ scanned malformed p
 word-bad malformed stop p i e = let q : stop ≡ p = cc in ap (scanned malformed) q
 word-bad outside stop p i e = absurd i
-word-bad (value d) stop p i e = absurd (let z : _≡_ {A = ℕ} 0 1 = cc in omega arith)
+word-bad (value d) stop p i e = no-case cc
 
 word-value : (w : Word Decimal) (stop : ℕ) (d : Decimal) → DW.Value d ≡ decimalWord w stop → w ≡ value d
-word-value malformed stop d e = absurd (let z : _≡_ {A = ℕ} 0 1 = cc in omega arith)
-word-value outside stop d e = absurd (let z : _≡_ {A = ℕ} 0 1 = cc in omega arith)
+word-value malformed stop d e = no-case cc
+word-value outside stop d e = no-case cc
 word-value (value x) stop d e = let q : x ≡ d = cc in ap value q
 
 pub rest-end : (s : List ℕ) (at end : ℕ) → end ≡ at + length (upTo lf (drop at s)) → at ≤ length s → end ≤ length s

@@ -1,28 +1,26 @@
 -- What callers' loops stand on: a line that is read moves the place forward and within the file, a fault or the end does not move it, and
 -- the numbers that are read are inside the range of i64. Assumes nothing.
-use Prim.Native.Nat.{ℕ, suc, _+_, _-_, _^_, _≤_, _<_}
+use Prim.Native.Nat.{ℕ, _+_, _-_, _^_, _≤_, _<_}
 use mathlib.Core.Path.{_≡_, refl, sym, ap, _∙_}
 use mathlib.Core.List.{List, [], _∷_}
 use mathlib.Core.Bool.{Bool, true, false, cond}
 use native.Mathlib.Omega.{arith}
-use borrow.Author.Tests.{leb-true, leb-false, ltb-true, ltb-false}
-use lib.Dec.{leb, ltb, eqb}
+use borrow.Author.Tests.{leb-true, leb-false}
+use lib.Dec.{leb, eqb}
 use lib.IntN.{ℤ}
 use lib.Signed.{mag}
-use lib.Seq.{drop-cons}
-use lib.ListN.{length, getD, drop, length-drop, length-append}
+use lib.ListN.{length, drop, length-drop, length-append}
 use Rattle.basis.specs.Refusal.{badForm}
 use Rattle.basis.specs.Scan.{mem}
 use Rattle.basis.proofs.Tests.{clash, bool-cases}
-use Rattle.text.specs.Word.{Word, malformed, outside, value, within, runLen, rangedOf, countOf, signedOf, afterMinus, identOf}
+use Rattle.text.specs.Word.{Word, malformed, outside, value, rangedOf, countOf, signedOf, afterMinus, identOf}
 use Rattle.text.specs.Decimal.{decimalOf}
 use Rattle.text.specs.Line.{LineSaid, line, none, fault, lf, space, upTo, past, lineSays, lineBy, both, twoOf, vertexLine, edgeLine, coefficientLine}
-use Rattle.text.specs.Scan.{Scanned, wellFormed, hasAt, countAt, identAt, closed, fieldAt, scanSays}
+use Rattle.text.specs.Scan.{Scanned, wellFormed, hasAt, identAt, closed, fieldAt, scanSays}
 use Rattle.text.specs.declared.decimal.Decimal.{Decimal}
 use Rattle.text.specs.declared.ident.Scan.{Scan}
 use Rattle.text.specs.declared.ident.Scan.the-variants as S
-use Rattle.text.proofs.Bytes.{cut-at, has-below, nothing-past, within-is, first-digit}
-use Rattle.text.proofs.Runs.{len-digit, len-le}
+use Rattle.text.proofs.Bytes.{cut-at, has-below}
 use Rattle.text.proofs.Scans.{mag-minus}
 use Rattle.text.proofs.Words.{ident-from}
 
@@ -67,7 +65,7 @@ module _ {A : Type 0} (word : List ℕ → Word A) (s : List ℕ) (at : ℕ) (x 
   pub fault-stays : (n k : ℕ) → x ≡ fault n k → (k ≡ at) × (at < length s)
   fault-stays n k h = rw h at placed
 
--- ---- scans: a field and a count move the place
+-- ---- scans: a field moves the place
 module _ (s : List ℕ) (at c : ℕ) where
   pub field-moves : wellFormed (fieldAt s at c .said) ≡ true → Moved s at (fieldAt s at c .next)
   unfolding fieldAt
@@ -95,21 +93,6 @@ module _ (s : List ℕ) (at c : ℕ) where
 
     pub value-inside : (z : ℤ) → x ≡ S.Value z p → p ≤ length s
     value-inside z q = field-inside (S.Value z p) q refl
-
-pub count-moves : (s : List ℕ) (at : ℕ) → wellFormed (countAt s at .said) ≡ true → Moved s at (countAt s at .next)
-unfolding countAt
-count-moves s at =
-    bool-cases (hasAt s at 48) _ (λ e. rw e (λ _. record { forward = omega arith; inside = omega (arith, has-below s at 48 e) }))
-    (λ e. bool-cases (within 49 57 (getD s at 0)) _
-    (λ w. rw (e, w) (λ _. by w))
-    (λ w. rw (e, w) (λ h. clash h refl)))
-  where
-    by : within 49 57 (getD s at 0) ≡ true → Moved s at (at + runLen (drop at s))
-    by w =
-        let b = within-is 49 57 (getD s at 0) w in
-        let l : at < length s = bool-cases (ltb at (length s)) (at < length s) (λ e. ltb-true at (length s) e) (λ e. absurd (omega (arith, nothing-past s at (ltb-false at (length s) e)))) in
-        let q : runLen (drop at s) ≡ 1 + runLen (drop (suc at) s) = ap runLen (drop-cons s at 0 l) ∙ len-digit (getD s at 0) (drop (suc at) s) (first-digit (getD s at 0) w) in
-        record { forward = omega arith; inside = omega (arith, len-le (drop at s), length-drop at s) }
 
 -- ---- the numbers that are read
 -- a word's value, if it has one, has P

@@ -1,7 +1,8 @@
 -- An answer is determined by what it says: each `says` is injective. Assumes nothing.
 use Prim.Native.Nat.{ℕ}
-use mathlib.Core.Path.{_≡_, refl, sym, ap, _∙_}
+use mathlib.Core.Path.{_≡_, refl}
 use lib.IntN.{ℤ}
+use Rattle.basis.proofs.Saids.{one-of}
 use Rattle.text.specs.Word.{Word, malformed, outside, value}
 use Rattle.text.specs.Line.{LineSaid, line, none, fault, vertexSays, edgeSays, coefficientSays}
 use Rattle.text.specs.Scan.{countSays, scanSays}
@@ -17,10 +18,6 @@ use Rattle.text.specs.declared.line.EdgeLine.{EdgeLine}
 use Rattle.text.specs.declared.line.EdgeLine.the-variants as EL
 use Rattle.text.specs.declared.line.CoefficientLine.{CoefficientLine}
 use Rattle.text.specs.declared.line.CoefficientLine.the-variants as CL
-
--- what has a way back is injective
-one-of : {A B : Type 0} (f : A → B) (g : B → A) → ((x : A) → g (f x) ≡ x) → (x y : A) → f x ≡ f y → x ≡ y
-one-of f g h x y e = sym (h x) ∙ ap g e ∙ h y
 
 abbrev place : ℕ → Cursor
 place at = record { at = at }

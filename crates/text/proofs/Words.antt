@@ -15,7 +15,7 @@ use Rattle.basis.proofs.Tests.{clash, false-of, bool-cases, and-first, and-seco
 use Rattle.basis.proofs.Scans.{each-mem}
 use Rattle.text.specs.Word.{Word, malformed, outside, value, within, isDigit, stepped, runLen, runVal, zeroOf, countOf, rangedOf, signedOf, afterMinus, identOf}
 use Rattle.text.specs.Scan.{Scanned, scanned, wellFormed, hasAt, countAt, signedAt, identAt, closed, fieldAt}
-use Rattle.text.proofs.Bytes.{no-first, no-zero, first-digit, has-yes, has-below, mem-head, mem-tail}
+use Rattle.text.proofs.Bytes.{no-first, no-zero, first-digit, has-yes, has-below, not-head, not-tail}
 use Rattle.text.proofs.Runs.{val-digit, val-stop, len-digit, len-stop}
 
 -- what was scanned is the word w, and stops at q where it is well formed
@@ -50,7 +50,7 @@ record Breaks (c : ℕ) (l : List ℕ) (n : ℕ) : Type 0 where
 breaks : (c : ℕ) (bs r : List ℕ) → each isDigit bs ≡ false → mem c bs ≡ false → Breaks c (bs ++ c ∷ r) (length bs)
 unfolding each
 breaks c [] r h n = clash refl h
-breaks c (b ∷ bs) r h n = by (isDigit b) refl h (λ g. breaks c bs r g (mem-tail c b bs n))
+breaks c (b ∷ bs) r h n = by (isDigit b) refl h (λ g. breaks c bs r g (not-tail c b bs n))
   where
     by : (t : Bool) → isDigit b ≡ t → (t && each isDigit bs) ≡ false → (each isDigit bs ≡ false → Breaks c (bs ++ c ∷ r) (length bs))
         → Breaks c ((b ∷ bs) ++ c ∷ r) (length (b ∷ bs))
@@ -60,7 +60,7 @@ breaks c (b ∷ bs) r h n = by (isDigit b) refl h (λ g. breaks c bs r g (mem-ta
         record { before = omega (arith, q, x .before); other = rw q (x .other) }
     by false e h f =
         let q = len-stop b (bs ++ c ∷ r) e in
-        record { before = omega (arith, q); other = rw q (mem-head c b bs n) }
+        record { before = omega (arith, q); other = rw q (not-head c b bs n) }
 
 -- ---- what was scanned, once it is known whether c follows
 pub closed-yes : {A : Type 0} (s : List ℕ) (c q : ℕ) (w : Word A) → hasAt s q c ≡ true → Ends (q + 1) w (closed s c (scanned w q))
@@ -107,7 +107,7 @@ module _ (s r : List ℕ) (at c : ℕ) (d : isDigit c ≡ false) where
       closed-yes s c (at + 1) (value 0) (word-has s (b ∷ []) r at c e 1 c (omega arith) ∙ eq-eqb c c refl)
   zero-word b (x ∷ xs) e n =
       closed-no s c (at + 1) (at + length (b ∷ x ∷ xs) + 1) (value 0)
-      (word-has s (b ∷ x ∷ xs) r at c e 1 c (omega arith) ∙ mem-head c x xs (mem-tail c b (x ∷ xs) n))
+      (word-has s (b ∷ x ∷ xs) r at c e 1 c (omega arith) ∙ not-head c x xs (not-tail c b (x ∷ xs) n))
 
   run-word : (b : ℕ) (bs : List ℕ) (t : Bool) → each isDigit bs ≡ t → within 49 57 b ≡ true → drop at s ≡ (b ∷ bs) ++ c ∷ r → mem c (b ∷ bs) ≡ false
       → Ends (at + length (b ∷ bs) + 1) (cond t (value (runVal 0 (b ∷ bs))) malformed) (closed s c (scanned (value (runVal 0 (drop at s))) (at + runLen (drop at s))))
@@ -199,7 +199,7 @@ module _ (s r : List ℕ) (at c : ℕ) (d : isDigit c ≡ false) (m : eqb c 45 �
           (closed s c (cond t (cond (hasAt s (at + 1) 48) (scanned malformed (at + 1)) (signedAt true (countAt s (at + 1)))) (signedAt false (countAt s at))))
       by true =
           one-on at (length bs) (afterMinus bs) (closed s c (cond (hasAt s (at + 1) 48) (scanned malformed (at + 1)) (signedAt true (countAt s (at + 1)))))
-          (minus-word bs (word-next s bs r at c b e) (mem-tail c b bs n))
+          (minus-word bs (word-next s bs r at c b e) (not-tail c b bs n))
       by false = signed-word false s r at c d (b ∷ bs) e n
 
 -- ---- a field that no c ends
@@ -225,8 +225,8 @@ ident-from s at =
 
 none-at : (c : ℕ) (l : List ℕ) (j : ℕ) → mem c l ≡ false → j < length l → eqb (getD l j 0) c ≡ false
 none-at c [] j n h = absurd (omega arith)
-none-at c (b ∷ bs) zero n h = mem-head c b bs n
-none-at c (b ∷ bs) (suc j) n h = none-at c bs j (mem-tail c b bs n) (omega arith)
+none-at c (b ∷ bs) zero n h = not-head c b bs n
+none-at c (b ∷ bs) (suc j) n h = none-at c bs j (not-tail c b bs n) (omega arith)
 
 pub no-end : (s : List ℕ) (at c p : ℕ) → at ≤ p → mem c (drop at s) ≡ false → hasAt s p c ≡ false
 no-end s at c p h n =

@@ -7,8 +7,8 @@ use native.Mathlib.Omega.{arith}
 use lib.ListN.{length}
 use lib.Dec.{leb, ltb, eqb}
 use borrow.Author.Tests.{ltb-true}
-use Rattle.basis.specs.Refusal.{Said, gives, refuses, plain, noRoom, unsound, notThere}
-use Rattle.book.specs.Rules.{Next, stop, to, Found, found, follow, check, Heads, Step, already, merge, merged, same, Done, done, walk, walkFrom, headOf, pair, headsOf, sameGroup, groupSize, tally, isStop, groupCount, largest, stepLimit, mergeable, mergeHeads, linkHeads, decide, openBook, writeBook, joinBook}
+use Rattle.basis.specs.Refusal.{Said, gives, refuses, plain, noRoom, unsound, notThere, check}
+use Rattle.book.specs.Rules.{Next, stop, to, Found, found, follow, Heads, Step, already, merge, merged, same, Done, done, walk, walkFrom, headOf, pair, headsOf, sameGroup, groupSize, tally, isStop, groupCount, largest, stepLimit, mergeable, mergeHeads, linkHeads, decide, openBook, writeBook, joinBook}
 use Rattle.book.specs.Two.{Areas, areas, nextIn, fits, two, twoBook}
 use Rattle.book.proofs.Checks.{fits-within}
 use Rattle.book.proofs.Calls.{size-inside}

@@ -9,7 +9,7 @@ use lib.ListN.{length, replicate}
 use lib.Dec.{eqb, leb}
 use borrow.Author.Tests.{leb-true, le-leb, eqb-true, eqb-false}
 use Rattle.basis.specs.declared.refusal.Refusal.{Refusal}
-use Rattle.basis.specs.Refusal.{Said, gives, refuses, at, plain, tooMany, noRoom, claimFile}
+use Rattle.basis.specs.Refusal.{Said, gives, refuses, at, plain, tooMany, noRoom, claimFile, said}
 use Rattle.basis.specs.Order.{sameZ}
 use Rattle.basis.proofs.Tests.{and-first, and-second, and-both}
 use Rattle.basis.proofs.Areas.{column-length}
@@ -20,7 +20,7 @@ use Rattle.graph.specs.Sound.{Graph, names, soundGraph, outward}
 use Rattle.graph.proofs.Sounds.{sound-of}
 use Rattle.kernels.specs.Answer.{kernelSays, bfsNumber, wccNumber, cdlpNumber, lccNumber}
 use Rattle.wcc.specs.Component.{labelOf, wccOf}
-use Rattle.matching.specs.Claim.{before, linesFrom, numberLines, coefficientLines, idsOf, valuesOf}
+use Rattle.matching.specs.Claim.{linesFrom, numberLines, coefficientLines, idsOf, valuesOf}
 use Rattle.matching.specs.Verdict.{Verdict, near, firstLine, incompleteLine, agrees, failingLine, unlikeLine, verdictOf, judgedBy}
 use Rattle.verdicts.specs.Reference.{Reference, coefficients, bfsReference, wccReference, cdlpReference, lccReference}
 use Rattle.verdicts.specs.Call as Call
@@ -44,13 +44,13 @@ module _ {A : Type 0} (word : List ℕ → Word A) (s : List ℕ) (size room : �
       go false = readable-refused (at tooMany claimFile k) (omega arith) (record { number = omega arith; file = omega arith; line = omega arith })
   lines-readable (suc allowed) k place h = go (lineBy word s place) (line-faulty word s place) (λ next. lines-readable allowed (k + 1) next (omega arith))
     where
-      more : (v : A) (x : Said (List A)) → Readable room x (λ l. k + 1 + length l) → Readable room (before v x) (λ l. k + length l)
+      more : (v : A) (x : Said (List A)) → Readable room x (λ l. k + 1 + length l) → Readable room (said (λ l. v ∷ l) x) (λ l. k + length l)
       more v (gives l) f = readable-given (v ∷ l) (let t = f .values l refl in omega arith)
       more v (refuses r) f = let t = f .refusals r refl in readable-refused r (t .0) (t .1)
 
       go : (x : LineSaid A) → Faulty x → ((next : ℕ) → Readable room (linesFrom (lineBy word s) size allowed (k + 1) next) (λ l. k + 1 + length l))
           → Readable {A = List A} room (elim x [
-            | line v next ↦ before v (linesFrom (lineBy word s) size allowed (k + 1) next)
+            | line v next ↦ said (λ l. v ∷ l) (linesFrom (lineBy word s) size allowed (k + 1) next)
             | none p ↦ gives []
             | fault number p ↦ refuses (at number claimFile k)
           ]) (λ l. k + length l)
@@ -152,11 +152,11 @@ module _ (room : ℕ) (some : 65537 < room) where
     unfolding Call.verdictSays kernelSays
     says-small k true room′ h p = go (k .given)
       where
-        roomy : (t : Bool) → Small room (threeOf (Call.onward {A = Unit {0}} (cond t (gives tt) (refuses (plain noRoom))) (k .judged)))
+        roomy : (t : Bool) → Small room (threeOf (Call.thenSays (cond t (gives tt) (refuses (plain noRoom))) (k .judged)))
         roomy true = h refl
         roomy false = record { number = omega arith; file = omega arith; line = omega arith }
 
-        go : (t : Bool) → Small room (threeOf (Call.onward {A = Unit {0}} (cond t (cond room′ (gives tt) (refuses (plain noRoom))) (refuses (plain (k .number)))) (k .judged)))
+        go : (t : Bool) → Small room (threeOf (Call.thenSays (cond t (cond room′ (gives tt) (refuses (plain noRoom))) (refuses (plain (k .number)))) (k .judged)))
         go true = roomy room′
         go false = record { number = p; file = omega arith; line = omega arith }
     says-small k false room′ h p = record { number = omega arith; file = omega arith; line = omega arith }
@@ -213,7 +213,7 @@ module _ (most : ℕ) (g : Graph) (kernel : ℕ) (parameter : ℤ) (s : List ℕ
   unfolding Call.callOn Call.leftBy Call.verdictSays kernelSays
   call-judged h a b = rw (by-number true h, a, b) (go (referenceFor most g s kernel parameter .given))
     where
-      go : (t : Bool) → Call.onward {A = Unit {0}} (cond t (gives tt) (refuses (plain (referenceFor most g s kernel parameter .number)))) (referenceFor most g s kernel parameter .judged)
+      go : (t : Bool) → Call.thenSays (cond t (gives tt) (refuses (plain (referenceFor most g s kernel parameter .number)))) (referenceFor most g s kernel parameter .judged)
           ≡ cond t (referenceFor most g s kernel parameter .judged) (refuses (plain (referenceFor most g s kernel parameter .number)))
       go true = refl
       go false = refl

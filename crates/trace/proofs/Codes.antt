@@ -4,8 +4,7 @@ use mathlib.Core.Bool.{Bool, true, false, cond}
 use Prim.Native.Nat.{ℕ, _≤_, _<_}
 use native.Mathlib.Omega.{arith}
 use Rattle.basis.specs.declared.refusal.Refusal.{Refusal}
-use Rattle.basis.specs.Refusal.{Said, gives, refuses, at, plain}
-use Rattle.book.specs.Rules.{onward}
+use Rattle.basis.specs.Refusal.{Said, gives, refuses, at, plain, onward}
 use Rattle.trace.specs.Code.{placed, coded, numberIn, fileIn, lineIn, wide, Small, Readable}
 
 -- ---- reading back

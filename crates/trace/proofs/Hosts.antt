@@ -8,7 +8,8 @@ use lib.IntN.{ℤ, pos, natAbs}
 use lib.ListN.{length, replicate, length-replicate}
 use lib.Dec.{leb}
 use borrow.Author.Tests.{le-leb, lt-leb, lt-ltb}
-use Rattle.basis.specs.Refusal.{Said, gives, refuses, plain, unknownNumber}
+use Rattle.basis.proofs.Saids.{refused-given, given-one}
+use Rattle.basis.specs.Refusal.{Said, gives, refuses, plain, unknownNumber, onward, said}
 use Rattle.graph.specs.Arcs.{Arc, arcs}
 use Rattle.graph.specs.declared.find.Found.{Found}
 use Rattle.graph.specs.declared.find.Found.the-variants.{At, Missing}
@@ -16,7 +17,6 @@ use Rattle.graph.specs.Find.{placeIn}
 use Rattle.graph.specs.Sound.{outward, inward, names, lent}
 use Rattle.graph.specs.Sound as Sound
 use Rattle.graph.specs.declared.Size.{Size}
-use Rattle.lists.specs.Lines.{onward, said}
 use Rattle.lists.specs.Files.{identifiers, edgesOf, allNumbered}
 use Rattle.load.specs.declared.Loaded.{Loaded}
 use Rattle.load.specs.declared.Loaded.the-variants.{Graph, Refused}
@@ -40,7 +40,6 @@ use Rattle.trace.proofs.Claims.{call-small, call-judged}
 use Rattle.trace.specs.Code.{hostCode, hostNumberIn, hostFileIn, hostLineIn, narrow, Small}
 use Rattle.trace.specs.Verdict.{threeOf}
 use Rattle.verdicts.specs.Call as Call
-use Rattle.book.proofs.Checks.{refused-given, given-one}
 use Rattle.basis.specs.declared.refusal.Refusal.{Refusal}
 use Rattle.basis.proofs.Tests.{failed, held, and-first, and-second, and-both}
 

@@ -7,11 +7,11 @@ use native.Mathlib.Omega.{arith}
 use lib.ListN.{length, drop}
 use lib.Dec.{leb}
 use borrow.Author.Tests.{leb-false}
-use Rattle.basis.specs.Refusal.{Said, at, tooMany, badForm}
+use Rattle.basis.specs.Refusal.{Said, at, tooMany, badForm, said}
 use Rattle.basis.specs.Scan.{mem}
 use Rattle.text.specs.Word.{Word, malformed, outside, value}
 use Rattle.text.specs.Line.{LineSaid, line, none, fault, lf, upTo, lineSays, lineBy}
-use Rattle.lists.specs.Lines.{Line, good, bad, linesFrom, linesOf, Before, first, after, said, unless, faultOf, valuesFrom, valuesOf}
+use Rattle.lists.specs.Lines.{Line, good, bad, linesFrom, linesOf, Before, first, after, unless, faultOf, valuesFrom, valuesOf}
 use Rattle.lists.proofs.Reading.{limit-none}
 use Rattle.trace.specs.Code.{Small, Readable}
 use Rattle.trace.proofs.Codes.{onward-readable, readable-refused, readable-silent, untold}

@@ -8,7 +8,7 @@ use lib.IntN.{ℤ}
 use lib.Signed.{ltZ}
 use lib.ListN.{length}
 use lib.Dec.{leb}
-use Rattle.basis.specs.Refusal.{Said, noRoom, unknownNumber, notAbove, selfEdge, largerFirst, unknownVertex, vertexFile, edgeFile}
+use Rattle.basis.specs.Refusal.{Said, noRoom, unknownNumber, notAbove, selfEdge, largerFirst, unknownVertex, vertexFile, edgeFile, said}
 use Rattle.basis.specs.Order.{sameZ}
 use Rattle.graph.specs.declared.Size.{Size}
 use Rattle.graph.specs.Arcs.{arcs}
@@ -16,7 +16,7 @@ use Rattle.graph.specs.Find.{placeIn}
 use Rattle.text.specs.Word.{identOf}
 use Rattle.text.specs.Line.{twoOf}
 use Rattle.load.specs.declared.Limits.{Limits}
-use Rattle.lists.specs.Lines.{Before, first, after, said}
+use Rattle.lists.specs.Lines.{Before, first, after}
 use Rattle.lists.specs.Files.{vertexTest, identifiers, isAbove, isThere, edgeTest, edgesOf, allNumbered}
 use Rattle.load.specs.Load.{Room, arcRoom, vertexRoom, withRoom, arcsRead, listsRead, loaded, isUndirected, sizeOf, outcome, outcomeOf, loadCall, library}
 use Rattle.store.specs.Spread.{arcCount}

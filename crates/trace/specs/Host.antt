@@ -5,11 +5,10 @@ use mathlib.Core.List.{List}
 use lib.IntN.{ℤ}
 use lib.ListN.{length}
 use lib.Dec.{eqb, leb}
-use Rattle.basis.specs.Refusal.{Said, refuses, plain, unknownNumber}
+use Rattle.basis.specs.Refusal.{Said, refuses, plain, unknownNumber, onward, said}
 use Rattle.graph.specs.Arcs.{arcs, backward, parts, offsets}
 use Rattle.graph.specs.Sound.{Graph}
 use Rattle.load.specs.declared.Limits.{Limits}
-use Rattle.lists.specs.Lines.{onward, said}
 use Rattle.graph.specs.Find.{placeIn}
 use Rattle.lists.specs.Files.{identifiers, edgesOf, allNumbered}
 use Rattle.load.specs.Load.{Lists, isUndirected}

@@ -9,7 +9,7 @@ use lib.IntN.{ℤ}
 use lib.ListN.{length, getD, take}
 use lib.Seq.{getD-take}
 use borrow.Author.Tests.{le-leb, leb-true, lt-ltb}
-use Rattle.basis.specs.Refusal.{Said, gives, refuses, plain, noRoom}
+use Rattle.basis.specs.Refusal.{Said, gives, refuses, noRoom, check}
 use Rattle.basis.specs.Area.{cleared}
 use Rattle.basis.proofs.Tests.{and-first, and-second, and-both}
 use Rattle.basis.proofs.Areas.{column-at, column-is, column-length}
@@ -26,7 +26,7 @@ use Rattle.verdicts.specs.Reference.{coefficientAt, coefficients, lccRef
 use Rattle.verdicts.specs.Call.{verdictSays}
 use Rattle.verdicts.specs.Steps.{Known, Roomy, Terms, termsSays, termsOn, termsCall}
 use Rattle.verdicts.proofs.Settling.{both-terms}
-use Rattle.verdicts.proofs.Running.{Ran, ran-fine, ran-known, ran-roomy, ran-front, ran-kept, onward-same, says-rooms}
+use Rattle.verdicts.proofs.Running.{Ran, ran-fine, ran-known, ran-roomy, ran-front, ran-kept, then-same, says-rooms}
 
 -- ---- two tests that agree on one list's members find the same line
 first-same : {A B : Type 0} (p q : A → B → Bool) (z : A) (k : ℕ) (xs : List A) (ys : List B)
@@ -107,8 +107,8 @@ module _ (g : Graph) (F S W : List ℕ) {a : Said (Unit {0})} {F′ S′ W′ : 
     says-same : termsSays a room most (g .vertices) (g .ids) s F′ S′ ≡ verdictSays (lccReference most g s) (soundGraph g) room
     unfolding termsSays verdictSays lcc.room
     says-same =
-        onward-same a
-        (λ d. ap (λ (x : Said Verdict). cond room x (refuses (plain noRoom)))
+        then-same a
+        (λ d. ap (λ (x : Said Verdict). check room noRoom x)
         (ap (λ (l : List Fraction). judgedBy (take (g .vertices) (g .ids)) (farWithin l) (coefficientLines most s)) (fractions-are g F′ S′ (ran-front upper-ran d) (ran-front lower-ran d))
         ∙ judged-same (take (g .vertices) (g .ids)) (farWithin (coefficients g)) (farLine (coefficients g)) (coefficientLines most s) (far-coefficients g (ran-fine upper-ran d .isSound))))
         ∙ rw (upper-ran .said)
@@ -118,5 +118,5 @@ module _ (g : Graph) (F S W : List ℕ) {a : Said (Unit {0})} {F′ S′ W′ : 
     pub lcc-verdict : {x : Terms} → x ≡ termsOn a room most (g .vertices) (g .ids) s F′ S′ → x ≡ termsCall (lccReference most g s) (soundGraph g) room F S
     unfolding termsOn termsCall termsSays
     lcc-verdict p =
-        let x = cond room (judgedBy (take (g .vertices) (g .ids)) (farWithin (fractions (g .vertices) F′ S′)) (coefficientLines most s)) (refuses (plain noRoom)) in
+        let x = check room noRoom (judgedBy (take (g .vertices) (g .ids)) (farWithin (fractions (g .vertices) F′ S′)) (coefficientLines most s)) in
         p ∙ both-terms says-same (ran-kept upper-ran x says-same) (ran-kept lower-ran x says-same)

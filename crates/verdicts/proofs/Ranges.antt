@@ -16,7 +16,6 @@ use Rattle.graph.specs.declared.find.Found.the-variants.{At, Missing}
 use Rattle.graph.specs.Sound.{Graph, outward, inward, names}
 use Rattle.bfs.specs.Depth.{leastFrom, depthOf}
 use Rattle.bfs.specs.Call.{depthsFrom}
-use Rattle.wcc.specs.Component.{labelOf, wccOf}
 use Rattle.cdlp.specs.Label.{times, standing, mostCommon, smallest, smallestOr, nextLabel}
 use Rattle.cdlp.specs.Rounds.{around, labelsAt, nextAt, oneRound, rounds, cdlpOf}
 use Rattle.matching.proofs.Listing.{AllFit}
@@ -48,11 +47,6 @@ pub bfs-fits : (g : Graph) → g .vertices ≤ 65536 → (place : Found) → All
 unfolding depthOf
 bfs-fits g h (At root) = fit-column (depthOf (g .vertices) (outward g) root) (λ v. least-fits _ (g .vertices) 0 (omega arith)) 0 (g .vertices)
 bfs-fits g h Missing = tt
-
--- ---- WCC
-pub wcc-fits : (g : Graph) → AllFit (names g) → AllFit (wccOf g)
-unfolding labelOf
-wcc-fits g h = fit-column (labelOf (g .vertices) (outward g) (names g)) (λ v. fit-at (names g) h _) 0 (g .vertices)
 
 -- ---- CDLP: a label is one of those before it
 standing-fits : (k : ℕ) (ls cs : List ℤ) → AllFit cs → AllFit (standing sameZ k ls cs)

@@ -1,30 +1,26 @@
 -- What a kernel's run leaves for the verdict, for any kernel; and that the verdict then is the definition's. Assumes nothing.
 use mathlib.Core.Path.{_≡_, refl, sym, ap, _∙_}
-use mathlib.Core.Bool.{Bool, true, false, cond}
+use mathlib.Core.Bool.{Bool, true, false}
 use mathlib.Core.List.{List}
 use Prim.Native.Nat.{ℕ, _-_, _≤_}
-use native.Mathlib.Omega.{arith}
 use lib.IntN.{ℤ, pos}
 use lib.ListN.{length, take, replicate, length-replicate}
 use lib.Seq.{take-at}
-use Rattle.basis.specs.Refusal.{Said, gives, refuses, plain, noRoom}
-use Rattle.basis.specs.declared.refusal.Refusal.{Refusal}
+use Rattle.basis.specs.Refusal.{Said, gives, refuses, noRoom, check}
 use Rattle.basis.specs.Area.{leaves}
 use Rattle.basis.proofs.Tests.{clash}
 use Rattle.basis.proofs.Areas.{pad-length}
+use Rattle.basis.proofs.Saids.{refused-given}
 use Rattle.kernels.specs.Answer.{kernelSays}
 use Rattle.matching.specs.declared.numbers.Rule.{Rule}
 use Rattle.matching.specs.Claim.{numberLines}
 use Rattle.matching.specs.Verdict.{Verdict, mismatchLine, judgedBy}
 use Rattle.verdicts.specs.Reference.{Reference}
-use Rattle.verdicts.specs.Call.{onward, verdictSays}
+use Rattle.verdicts.specs.Call.{thenSays, verdictSays}
 use Rattle.verdicts.specs.Steps.{kept, Known, Roomy, Numbers, numbersSays, numbersOn, numbersCall}
 use Rattle.verdicts.proofs.Settling.{both-numbers}
 
 -- ---- what a kernel says
-refused-done : {r : Refusal} → _≡_ {A = Said (Unit {0})} (refuses r) (gives tt) → ⊥
-refused-done e = let z : _≡_ {A = ℕ} 0 1 = cc in omega arith
-
 pub record Fine (sound given room : Bool) : Type 0 where
   pub isSound : sound ≡ true
   pub isGiven : given ≡ true
@@ -33,13 +29,13 @@ pub record Fine (sound given room : Bool) : Type 0 where
 pub says-done : (a b : Bool) (m : ℕ) (r : Bool) → kernelSays a b m r ≡ gives tt → Fine a b r
 unfolding kernelSays
 says-done true true m true e = record { isSound = refl; isGiven = refl; hasRoom = refl }
-says-done true true m false e = absurd (refused-done e)
-says-done true false m r e = absurd (refused-done e)
-says-done false b m r e = absurd (refused-done e)
+says-done true true m false e = refused-given e
+says-done true false m r e = refused-given e
+says-done false b m r e = refused-given e
 
 -- room in all areas is room in the kernel's own
 pub says-rooms : (a b : Bool) (m : ℕ) (own room : Bool) (x : Said Verdict) → (room ≡ true → own ≡ true)
-    → onward (kernelSays a b m own) (cond room x (refuses (plain noRoom))) ≡ onward (kernelSays a b m room) x
+    → thenSays (kernelSays a b m own) (check room noRoom x) ≡ thenSays (kernelSays a b m room) x
 unfolding kernelSays
 says-rooms true true m true true x h = refl
 says-rooms true true m true false x h = refl
@@ -48,9 +44,9 @@ says-rooms true true m false false x h = refl
 says-rooms true false m own room x h = refl
 says-rooms false b m own room x h = refl
 
-pub onward-same : (a : Said (Unit {0})) {x y : Said Verdict} → (a ≡ gives tt → x ≡ y) → onward a x ≡ onward a y
-onward-same (gives tt) h = h refl
-onward-same (refuses r) h = refl
+pub then-same : (a : Said (Unit {0})) {x y : Said Verdict} → (a ≡ gives tt → x ≡ y) → thenSays a x ≡ thenSays a y
+then-same (gives tt) h = h refl
+then-same (refuses r) h = refl
 
 -- ---- what it leaves in a result area
 module _ {A : Type 0} (z : A) (size : ℕ) (l : List A) where
@@ -60,10 +56,10 @@ module _ {A : Type 0} (z : A) (size : ℕ) (l : List A) where
 
   leaves-front : (a : Said (Unit {0})) (n : ℕ) → a ≡ gives tt → length l ≡ n → take n (leaves a z size l) ≡ l
   leaves-front (gives tt) n e h = take-at l (replicate (size - length l) z) n h
-  leaves-front (refuses r) n e h = absurd (refused-done e)
+  leaves-front (refuses r) n e h = refused-given e
 
   -- the claim's verdict or refusal, on top of it
-  kept-leaves : (a : Said (Unit {0})) (x : Said Verdict) → (a ≡ gives tt → length l ≤ size) → kept (onward a x) z (leaves a z size l) ≡ leaves (onward a x) z size l
+  kept-leaves : (a : Said (Unit {0})) (x : Said Verdict) → (a ≡ gives tt → length l ≤ size) → kept (thenSays a x) z (leaves a z size l) ≡ leaves (thenSays a x) z size l
   kept-leaves (gives tt) (gives v) h = refl
   kept-leaves (gives tt) (refuses r) h = ap (λ (k : ℕ). replicate k z) (pad-length z size l (h refl))
   kept-leaves (refuses r) x h = ap (λ (k : ℕ). replicate k z) (length-replicate size z)
@@ -99,9 +95,9 @@ module _ {A : Type 0} {z : A} {given : Bool} {number : ℕ} {values : List A} {n
   pub ran-front : answer ≡ gives tt → take n left ≡ values
   ran-front e = ap (take n) (h .leaving) ∙ leaves-front z size values answer n e (lengths e)
 
-  pub ran-kept : (x : Said Verdict) {y : Said Verdict} → onward answer x ≡ y → kept (onward answer x) z left ≡ leaves y z size values
+  pub ran-kept : (x : Said Verdict) {y : Said Verdict} → thenSays answer x ≡ y → kept (thenSays answer x) z left ≡ leaves y z size values
   ran-kept x e =
-      ap (kept (onward answer x) z) (h .leaving) ∙ kept-leaves z size values answer x fits ∙ ap (λ (w : Said Verdict). leaves w z size values) e
+      ap (kept (thenSays answer x) z) (h .leaving) ∙ kept-leaves z size values answer x fits ∙ ap (λ (w : Said Verdict). leaves w z size values) e
 
 -- ---- the verdict on numbers
 module _ (k : Reference) {n : ℕ} (ids : List ℤ) {sound own : Bool} (R : List ℤ) {answer : Said (Unit {0})} {R′ : List ℤ}
@@ -111,10 +107,10 @@ module _ (k : Reference) {n : ℕ} (ids : List ℤ) {sound own : Bool} (R : List
   says-same : numbersSays answer room rule most (take n ids) (take n R′) s ≡ verdictSays k sound room
   unfolding numbersSays verdictSays
   says-same =
-      onward-same answer
-      (λ e. ap (λ (l : List ℤ). cond room (judgedBy (take n ids) (mismatchLine rule l) (numberLines most s)) (refuses (plain noRoom))) (ran-front h e))
+      then-same answer
+      (λ e. ap (λ (l : List ℤ). check room noRoom (judgedBy (take n ids) (mismatchLine rule l) (numberLines most s))) (ran-front h e))
       ∙ rw (h .said, ← q) (says-rooms sound (k .given) (k .number) own room (k .judged) r)
 
   pub numbers-verdict : (C : List ℤ) {x : Numbers} → x ≡ numbersOn answer room rule most n ids s R′ C → x ≡ numbersCall k sound room R C
   unfolding numbersOn numbersCall numbersSays
-  numbers-verdict C p = p ∙ both-numbers says-same (ran-kept h (cond room (judgedBy (take n ids) (mismatchLine rule (take n R′)) (numberLines most s)) (refuses (plain noRoom))) says-same) refl
+  numbers-verdict C p = p ∙ both-numbers says-same (ran-kept h (check room noRoom (judgedBy (take n ids) (mismatchLine rule (take n R′)) (numberLines most s))) says-same) refl

@@ -5,7 +5,7 @@ use mathlib.Core.List.{List}
 use lib.IntN.{ℤ, pos}
 use lib.ListN.{length}
 use lib.Dec.{eqb, leb}
-use Rattle.basis.specs.Refusal.{Said, gives, refuses, plain, unknownNumber}
+use Rattle.basis.specs.Refusal.{Said, refuses, plain, unknownNumber, onward}
 use Rattle.basis.specs.Area.{leaves, cleared, clearedZ}
 use Rattle.graph.specs.Sound.{Graph, soundGraph}
 use Rattle.kernels.specs.Answer.{kernelSays, bfsNumber, wccNumber, cdlpNumber, lccNumber}
@@ -28,10 +28,9 @@ pub record Outcome : Type 0 where
 abbrev pub outcome : Said Verdict → List ℤ → List ℤ → List ℕ → List ℕ → List ℕ → Outcome
 outcome said R C F S T = record { said = said; result = R; claimed = C; first = F; second = S; third = T }
 
--- what is said next, if a kernel is not refused
-abbrev pub onward : {A B : Type 0} → Said A → Said B → Said B
-onward (gives x) next = next
-onward (refuses r) next = refuses r
+-- "as its kernel does, then the claim": what is said next where a kernel, which has no values, is not refused
+abbrev pub thenSays : Said (Unit {0}) → Said Verdict → Said Verdict
+thenSays answer next = onward answer (λ done. next)
 
 -- "each result or working area needs n places"
 unfoldable pub roomFor : ℕ → List ℤ → List ℤ → List ℕ → List ℕ → List ℕ → Bool
@@ -40,7 +39,7 @@ roomFor n R C F S T =
 
 -- "as its kernel does, then the claim", for a graph that is sound or not and areas that have room or not
 unfoldable pub verdictSays : Reference → Bool → Bool → Said Verdict
-verdictSays k sound room = onward (kernelSays sound (k .given) (k .number) room) (k .judged)
+verdictSays k sound room = thenSays (kernelSays sound (k .given) (k .number) room) (k .judged)
 
 -- "After success, any verdict included, places beyond the ones used are zero, and working areas are zero throughout"; all are zero after a refusal
 unfoldable pub leftBy : Reference → Said Verdict → List ℤ → List ℤ → List ℕ → List ℕ → List ℕ → Outcome

@@ -1,18 +1,18 @@
 -- What private functions say of their work: a claim judged on what a kernel has left in its areas.
 use Prim.Native.Nat.{ℕ, _≤_}
 use mathlib.Core.Path.{_≡_}
-use mathlib.Core.Bool.{Bool, true, false, cond}
+use mathlib.Core.Bool.{Bool, true, false}
 use mathlib.Core.List.{List}
 use lib.IntN.{ℤ, pos}
 use lib.ListN.{length, take, replicate}
-use Rattle.basis.specs.Refusal.{Said, gives, refuses, plain, noRoom}
+use Rattle.basis.specs.Refusal.{Said, gives, refuses, noRoom, check}
 use Rattle.basis.specs.Area.{leaves, clearedZ}
 use Rattle.matching.specs.declared.numbers.Rule.{Rule}
 use Rattle.matching.specs.Claim.{numberLines, coefficientLines}
 use Rattle.matching.specs.Verdict.{Verdict, mismatchLine, judgedBy}
 use Rattle.matching.specs.Calls.{fractions, farWithin}
 use Rattle.verdicts.specs.Reference.{Reference}
-use Rattle.verdicts.specs.Call.{onward, verdictSays}
+use Rattle.verdicts.specs.Call.{thenSays, verdictSays}
 
 -- an area as it stands, or zero after a refusal
 abbrev pub kept : {A : Type 0} → Said Verdict → A → List A → List A
@@ -43,7 +43,7 @@ numbers said R C = record { said = said; result = R; claimed = C }
 -- a claim of numbers on the results of a kernel that said so much, if there is room in all areas
 unfoldable pub numbersSays : Said (Unit {0}) → Bool → Rule → ℕ → List ℤ → List ℤ → List ℕ → Said Verdict
 numbersSays answer room rule most ids reference s =
-    onward answer (cond room (judgedBy ids (mismatchLine rule reference) (numberLines most s)) (refuses (plain noRoom)))
+    thenSays answer (check room noRoom (judgedBy ids (mismatchLine rule reference) (numberLines most s)))
 
 unfoldable pub numbersOn : Said (Unit {0}) → Bool → Rule → ℕ → ℕ → List ℤ → List ℕ → List ℤ → List ℤ → Numbers
 numbersOn answer room rule most n ids s R C =
@@ -67,7 +67,7 @@ terms said F S = record { said = said; first = F; second = S }
 
 unfoldable pub termsSays : Said (Unit {0}) → Bool → ℕ → ℕ → List ℤ → List ℕ → List ℕ → List ℕ → Said Verdict
 termsSays answer room most n ids s F S =
-    onward answer (cond room (judgedBy (take n ids) (farWithin (fractions n F S)) (coefficientLines most s)) (refuses (plain noRoom)))
+    thenSays answer (check room noRoom (judgedBy (take n ids) (farWithin (fractions n F S)) (coefficientLines most s)))
 
 unfoldable pub termsOn : Said (Unit {0}) → Bool → ℕ → ℕ → List ℤ → List ℕ → List ℕ → List ℕ → Terms
 termsOn answer room most n ids s F S =

@@ -8,7 +8,7 @@ use native.Mathlib.Numerals.{add-one}
 use borrow.Author.Tests.{lt-ltb, le-ltb, ltb-true, ltb-false}
 use lib.Dec.{ltb}
 use lib.ListN.{length, getD, set, take, drop, length-set, take-append-drop, drop-of-length-le}
-use lib.Seq.{take-suc-set, drop-set-lt, append-snoc, drop-cons, drop-length, length-take-le, take-append-seam, take-at, drop-at}
+use lib.Seq.{take-suc-set, drop-set-lt, append-snoc, drop-cons, length-take-le, take-append-seam, drop-at}
 use Rattle.basis.proofs.Tests.{bool-cases}
 use Rattle.write.specs.Put.{Written, written, putAt}
 
@@ -98,9 +98,6 @@ module _ (o : List ℕ) (at : ℕ) (text : List ℕ) {o′ : List ℕ} {p : ℕ}
   front : length (take at o) ≡ at
   front = length-take-le at o (omega arith)
 
-  pub wrote-before : take at o′ ≡ take at o
-  wrote-before = rw wrote-area (take-at (take at o) (text ++ drop (at + length text) o) at front)
-
   pub wrote-after : drop at o′ ≡ text ++ drop (at + length text) o
   wrote-after = rw wrote-area (drop-at (take at o) (text ++ drop (at + length text) o) at front)
 
@@ -115,17 +112,6 @@ wrote-whole o text {o′} {p} w h =
     let e : p ≡ length text = omega (arith, wrote-next o 0 text w (omega arith)) in
     let q : p - 0 ≡ p = omega arith in
     (e, rw q at (wrote-text o 0 text w (omega arith)))
-
--- a text that passes the end, where the area has k places from here on, is written as far as there is room
-pub put-full : (area : List ℕ) (at k : ℕ) (text : List ℕ) → at + k ≡ length area → k ≤ length text
-    → putAt area at text ≡ written (take at area ++ take k text) (length area)
-put-full area at k text e h =
-    let n : length (take k text) ≡ k = length-take-le k text h in
-    let w : putAt area at (take k text) ≡ written (take at area ++ take k text) (length area) =
-    put-room area at (take k text) (omega arith) ∙ rw (n, e, drop-length, append-nil) in
-    let l : length (take at area ++ take k text) ≡ length area = rw w at (put-length area at (take k text)) in
-    ap (putAt area at) (sym (take-append-drop k text)) ∙ put-append area at (take k text) (drop k text)
-    ∙ ap (λ v. andThen v (drop k text)) w ∙ put-past (take at area ++ take k text) (length area) (drop k text) (omega arith)
 
 -- ---- what a loop of writers keeps: the rest, written from here on, makes the whole
 pub putting-more : {w : Written} (o : List ℕ) (p : ℕ) (a rest : List ℕ) {o′ : List ℕ} {p′ : ℕ}

@@ -12,7 +12,7 @@ use mir.Syntax.{w64}
 use mir.Val.{SFits}
 use Rattle.basis.specs.Scan.{each, mem}
 use Rattle.basis.proofs.Tests.{clash, false-of, bool-cases, and-first, and-second, and-both, or-first}
-use Rattle.basis.proofs.Scans.{each-mem}
+use Rattle.basis.proofs.Scans.{each-mem, each-append}
 use Rattle.text.specs.Word.{within, isDigit, stepped, runVal}
 use Rattle.text.proofs.Bytes.{within-yes}
 use Rattle.text.proofs.Runs.{val-digit}
@@ -22,11 +22,6 @@ use Rattle.write.proofs.Decimals.{decimal-small, decimal-more, decimal-
 -- ---- digits with one more behind them
 digit-yes : (d : ℕ) → d < 10 → isDigit (48 + d) ≡ true
 digit-yes d h = within-yes (omega arith) (omega arith)
-
-each-snoc : {A : Type 0} (p : A → Bool) (l : List A) (x : A) → each p l ≡ true → p x ≡ true → each p (l ++ (x ∷ [])) ≡ true
-unfolding each
-each-snoc p [] x h g = and-both g refl
-each-snoc p (y ∷ l) x h g = and-both (and-first (p y) (each p l) h) (each-snoc p l x (and-second (p y) (each p l) h) g)
 
 val-snoc : (n : ℕ) (l : List ℕ) (b : ℕ) → each isDigit l ≡ true → isDigit b ≡ true → runVal n (l ++ (b ∷ [])) ≡ stepped (runVal n l) b
 unfolding each
@@ -53,26 +48,18 @@ lead-snoc [] x h = absurd (omega arith)
 lead-snoc (b ∷ l) x h = refl
 
 spells-more : (n d : ℕ) (l : List ℕ) → 1 ≤ n → d < 10 → Spells n l → Spells (n * 10 + d) (l ++ ((48 + d) ∷ []))
+unfolding each
 spells-more n d l h k s =
     let e : isDigit (48 + d) ≡ true = digit-yes d k in
     record {
       some = omega (arith, length-append l ((48 + d) ∷ []));
-      all = each-snoc isDigit l (48 + d) (s .all) e;
+      all = each-append isDigit l ((48 + d) ∷ []) ∙ and-both (s .all) (and-both e refl);
       lead = λ g. rw (lead-snoc l (48 + d) (s .some)) (s .lead h);
       val = val-snoc 0 l (48 + d) (s .all) e ∙ ap (λ m. stepped m (48 + d)) (s .val) ∙ (let z : n * 10 + (48 + d - 48) ≡ n * 10 + d = omega arith in z);
     }
 
 pub decimal-spells : (n : ℕ) → Spells n (decimal n)
 decimal-spells = decimal-all Spells spells-small spells-more
-
--- ---- a text is not empty
-pub decimal-some : (n : ℕ) → 1 ≤ length (decimal n)
-decimal-some n = decimal-spells n .some
-
-pub signed-some : (z : ℤ) → 1 ≤ length (signedText z)
-unfolding signedText
-signed-some (pos n) = decimal-some n
-signed-some (negsuc n) = omega arith
 
 -- ---- every byte of a count is a digit, every byte of an identifier a digit or the sign
 pub decimal-digits : (n : ℕ) → each isDigit (decimal n) ≡ true
@@ -92,10 +79,7 @@ unfolding signedText each within
 signed-digits (pos n) = digits-or-sign (decimal n) (decimal-digits n)
 signed-digits (negsuc n) = digits-or-sign (decimal (suc n)) (decimal-digits (suc n))
 
--- so another byte, as a space, an LF or a `/`, stands in neither
-pub decimal-without : (n c : ℕ) → isDigit c ≡ false → mem c (decimal n) ≡ false
-decimal-without n c h = false-of (mem c (decimal n)) (λ m. clash (each-mem isDigit (decimal n) (decimal-digits n) c m) h)
-
+-- so another byte, as a space or an LF, does not stand in it
 pub signed-without : (z : ℤ) (c : ℕ) → isDigitOrSign c ≡ false → mem c (signedText z) ≡ false
 signed-without z c h = false-of (mem c (signedText z)) (λ m. clash (each-mem isDigitOrSign (signedText z) (signed-digits z) c m) h)
 
@@ -109,10 +93,7 @@ decimal-long (suc (suc k)) n h g =
     (λ e. rw (decimal-more n (ltb-false n 10 e))
     (omega (arith, length-append (decimal (n / 10)) ((48 + n % 10) ∷ []), decimal-long (suc k) (n / 10) (omega arith) (omega arith))))
 
--- a count of 64 bits has at most 20 bytes, and so has an identifier: 19 digits and a sign
-pub count-long : (n : ℕ) → n < 2 ^ 64 → length (decimal n) ≤ 20
-count-long n h = decimal-long 20 n (omega arith) (omega arith)
-
+-- an identifier has at most 20 bytes: 19 digits and a sign
 pub signed-long : (z : ℤ) → SFits w64 z → length (signedText z) ≤ 20
 unfolding signedText
 signed-long (pos n) f = omega (arith, decimal-long 19 n (omega arith) (omega (arith, f .sfits)))

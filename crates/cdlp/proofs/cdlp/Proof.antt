@@ -1,6 +1,7 @@
 use mir.Facts.{toZ-ofZ}
+use Rattle.basis.proofs.Tests.{held}
 use Rattle.graph.proofs.Walks.{check-told}
-use Rattle.cdlp.proofs.Calls.{call-unsound, call-outside, call-short, call-done, rounds-cast, passed}
+use Rattle.cdlp.proofs.Calls.{call-unsound, call-outside, call-short, call-done, rounds-cast}
 use borrow.Author.Needs.{needs}
 use Rattle.cdlp.proofs.cdlp.Statement.{statement}
 use Rattle.cdlp.proofs.cdlp.Tie as tie
@@ -72,7 +73,7 @@ cast-fill : tie.Need-cast-fill
 cast-fill c = rounds-cast _ _ (c .before .before .before .before .before .before .before .allowed .ensures) (c .before .before .before .before .before .before .if2 .left)
 
 fill-requires : tie.Need-fill-requires
-fill-requires c κs = (passed _ _ (check-told (c .before .before .before .before .before .before .before .before .before .before .before .before .before .before .before .sound-over .ensures)) (c .before .before .before .before .before .before .before .before .before .before .before .before .if1 .left), passed _ _ (c .before .before .before .before .before .room .ensures) (c .before .before .before .before .if3 .left))
+fill-requires c κs = (held _ _ (check-told (c .before .before .before .before .before .before .before .before .before .before .before .before .before .before .before .sound-over .ensures)) (c .before .before .before .before .before .before .before .before .before .before .before .before .if1 .left), held _ _ (c .before .before .before .before .before .room .ensures) (c .before .before .before .before .if3 .left))
 
 same-length-13 : tie.Need-same-length-13
 same-length-13 c = search needs

@@ -5,9 +5,9 @@ use borrow.Author.Needs.{needs}
 use native.Mathlib.Omega.{arith}
 use denote.Ref.{now}
 use lib.ListN.{length, getD, drop, length-set}
+use Rattle.basis.proofs.Scans.{below-at}
 use Rattle.cdlp.specs.Rounds.{labelsAt}
 use Rattle.cdlp.specs.Steps.{forgotten}
-use Rattle.cdlp.proofs.Lists.{low-at}
 use Rattle.cdlp.proofs.Tallies.{forget-more, forget-end}
 use Rattle.cdlp.proofs.label.forget.Statement.{statement}
 use Rattle.cdlp.proofs.label.forget.Tie as tie
@@ -35,12 +35,12 @@ abbrev label : Loop → ℕ
 label l = getD (labelsOf l) (getD (partOf l) (l .loop .i) 0) 0
 
 u-low : (c : tie.In-loop Inv-loop μ-loop) → getD (partOf (c .before)) (c .before .loop .i) 0 < length (labelsOf (c .before))
-u-low c = let l = c .before in low-at (length (labelsOf l)) (partOf l) (l .loop .i) (startOf l .pre .lowPart) (c .loop-test .taken)
+u-low c = let l = c .before in below-at (length (labelsOf l)) (partOf l) (startOf l .pre .lowPart) (l .loop .i) (c .loop-test .taken)
 
 l-low : (c : tie.In-loop Inv-loop μ-loop) → label (c .before) < length (c .before .loop .counts)
 l-low c =
     let l = c .before in
-    let h = low-at (length (now (startOf l .args .counts))) (labelsOf l) (getD (partOf l) (l .loop .i) 0) (startOf l .pre .lowLabels) (u-low c) in
+    let h = below-at (length (now (startOf l .args .counts))) (labelsOf l) (startOf l .pre .lowLabels) (getD (partOf l) (l .loop .i) 0) (u-low c) in
     rw (l .loop .inv .1) h
 
 loop-holds : tie.Need-loop-holds Inv-loop μ-loop

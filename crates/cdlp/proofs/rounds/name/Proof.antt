@@ -10,7 +10,8 @@ use mir.Facts.{toZ-ofZ}
 use mir.Syntax.{w64}
 use Rattle.basis.specs.Area.{column}
 use Rattle.basis.proofs.Areas.{column-none, column-more, column-end}
-use Rattle.cdlp.proofs.Lists.{low-at, look, column-look}
+use Rattle.basis.proofs.Scans.{below-at}
+use Rattle.cdlp.proofs.Lists.{look, column-look}
 use Rattle.cdlp.proofs.rounds.name.Statement.{statement}
 use Rattle.cdlp.proofs.rounds.name.Tie as tie
 
@@ -22,7 +23,7 @@ abbrev μ-loop : tie.MeasureT-loop
 μ-loop ids labels result₀ v₀ result v = length result₀ - v
 
 l-low : (c : tie.In-loop Inv-loop μ-loop) → getD (now (c .before .before .args .labels)) (c .before .loop .v) 0 < length (now (c .before .before .args .ids))
-l-low c = let s = c .before .before in low-at (length (now (s .args .ids))) (now (s .args .labels)) (c .before .loop .v) (s .pre .lowLabels) (c .loop-test .taken)
+l-low c = let s = c .before .before in below-at (length (now (s .args .ids))) (now (s .args .labels)) (s .pre .lowLabels) (c .before .loop .v) (c .loop-test .taken)
 
 loop-holds : tie.Need-loop-holds Inv-loop μ-loop
 loop-holds c = (refl, omega arith, column-none (look (pos 0) (now (c .args .ids)) (now (c .args .labels))) (now (c .args .result)))

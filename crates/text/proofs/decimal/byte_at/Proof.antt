@@ -1,4 +1,4 @@
-use Rattle.text.proofs.Bytes.{byte-past}
+use Rattle.basis.proofs.Areas.{past-end}
 use borrow.Author.Needs.{needs}
 use Rattle.text.proofs.decimal.byte_at.Statement.{statement}
 use Rattle.text.proofs.decimal.byte_at.Tie as tie
@@ -10,7 +10,7 @@ returns : tie.Need-returns
 returns c = search needs
 
 returns-2 : tie.Need-returns-2
-returns-2 c = search byte-past
+returns-2 c = search past-end
 
 pub byte-at-spec : {M : Type 1} → statement M
 byte-at-spec = tie.close (tie.spec shared-slice-read-result returns returns-2)

@@ -1,0 +1,45 @@
+-- Laws of what a call says: what is given is not refused, a check, and a call that goes on from another. Assumes nothing.
+use Prim.Native.Nat.{ℕ}
+use mathlib.Core.Path.{_≡_, refl, sym, ap, _∙_}
+use mathlib.Core.Bool.{Bool, true, false}
+use Rattle.basis.specs.declared.refusal.Refusal.{Refusal}
+use Rattle.basis.specs.Refusal.{Said, gives, refuses, plain, onward, said, check}
+use Rattle.basis.proofs.Tests.{no-case}
+
+-- what has a way back is injective: an answer is determined by what it says
+pub one-of : {A B : Type 0} (f : A → B) (g : B → A) → ((x : A) → g (f x) ≡ x) → (x y : A) → f x ≡ f y → x ≡ y
+one-of f g h x y e = sym (h x) ∙ ap g e ∙ h y
+
+pub refused-given {ℓ} : {X : Type ℓ} {A : Type 0} {r : Refusal} {x : A} → refuses r ≡ gives x → X
+refused-given e = no-case cc
+
+pub given-one : {A : Type 0} {x y : A} → gives x ≡ gives y → x ≡ y
+given-one e = cc
+
+-- ---- a check
+module _ {A : Type 0} (t : Bool) (number : ℕ) (s : Said A) where
+  pub check-on : t ≡ true → check t number s ≡ s
+  check-on e = ap (λ (b : Bool). check b number s) e
+
+  pub check-off : t ≡ false → check t number s ≡ refuses (plain number)
+  check-off e = ap (λ (b : Bool). check b number s) e
+
+-- what is given has passed the check
+pub check-passed : {A : Type 0} (t : Bool) (number : ℕ) (s : Said A) (x : A) → check t number s ≡ gives x → (t ≡ true) × (s ≡ gives x)
+check-passed true number s x e = (refl, e)
+check-passed false number s x e = refused-given e
+
+-- ---- a call that goes on from another
+module _ {A B : Type 0} where
+  -- what is given comes from what the other call gave
+  pub onward-passed : (s : Said A) (f : A → Said B) (y : B) → onward s f ≡ gives y → (x : A) × (s ≡ gives x) × (f x ≡ gives y)
+  onward-passed (gives x) f y e = (x, refl, e)
+  onward-passed (refuses r) f y e = refused-given e
+
+  pub said-gives : (f : A → B) (s : Said A) (y : B) → gives y ≡ said f s → (x : A) × (s ≡ gives x) × (y ≡ f x)
+  said-gives f (gives x) y e = (x, refl, given-one e)
+  said-gives f (refuses r) y e = refused-given (sym e)
+
+  pub said-refuses : (f : A → B) (s : Said A) (r : Refusal) → refuses r ≡ said f s → s ≡ refuses r
+  said-refuses f (gives x) r e = refused-given e
+  said-refuses f (refuses q) r e = cc
