@@ -3,10 +3,10 @@ use Prim.Native.Nat.{ℕ, zero, suc, _+_, _-_, _≤_, _<_}
 use mathlib.Core.Path.{_≡_, refl, sym}
 use mathlib.Core.Logic.{_↔_}
 use mathlib.Core.Bool.{true, not, _&&_}
-use mathlib.Core.List.{List}
+use mathlib.Core.List.{List, [], _∷_}
 use native.Mathlib.Omega.{arith}
 use native.Mathlib.Numerals.{add-one}
-use native.Mathlib.Decide.{ℕ-discrete}
+use native.Mathlib.Decide.{ℕ-discrete, decLt}
 use lib.IntN.{ℤ}
 use lib.ListN.{length, getD, take, drop, length-take}
 use lib.Dec.{eqb, leb, ltb}
@@ -15,6 +15,7 @@ use Rattle.basis.specs.Order.{rising, risingZ}
 use Rattle.basis.specs.Scan.{every, each, allBelow, mem}
 use Rattle.basis.proofs.Tests.{and-first, and-second, and-both}
 use Rattle.basis.proofs.Scans.{every-at, every-of, each-at, each-of, mem-index, each-mem, below-of}
+use Rattle.basis.proofs.Orders.{rising-lt}
 use Rattle.graph.specs.Part.{partOf}
 use Rattle.graph.specs.Sound.{Graph, outward, inward, names, soundIds, soundOffsets, other, soundPart, soundSide, mirrored, soundGraph}
 use Rattle.graph.specs.Find.{placeIn, bisected}
@@ -183,3 +184,38 @@ module _ {n m : ℕ} {off tgt : List ℕ} (s : Side n m off tgt) where
 -- a search of the vertices' identifiers answers the vertex's number
 pub vertex-found : (g : Graph) → Sound g → (id : ℤ) → bisected (names g) id ≡ placeIn (names g) id
 vertex-found g s id = find-rising (names g) id (s .idsRise)
+
+-- ---- how many members a part has
+-- a rising list that leaves v out runs ahead of its places by one behind v
+ahead : (n v : ℕ) (l : List ℕ) → rising l ≡ true → each (other n v) l ≡ true → (i : ℕ) → i < length l → (i ≤ getD l i 0) × (v < getD l i 0 → i < getD l i 0)
+ahead n v l r o zero h = (omega arith, λ a. omega arith)
+ahead n v l r o (suc i) h =
+    let b = ahead n v l r o i (omega arith) in
+    let s = rising-lt l r i (suc i) (omega arith) h in (
+      let c = b .0 in omega arith,
+      λ a.
+          elim (decLt v (getD l i 0)) as (λ _. suc i < getD l (suc i) 0) [
+            | yes k ↦ let c = b .1 k in omega arith
+            | no k ↦ let c = b .0 in let d = other-differs n v (getD l i 0) (each-at (other n v) 0 l o i (omega arith)) in omega arith
+          ],
+    )
+
+-- "names only other vertices below n": at most n - 1 of them
+others-few : (n v : ℕ) (l : List ℕ) → v < n → soundPart n v l ≡ true → length l < n
+others-few n v [] h s = omega arith
+others-few n v (x ∷ l) h s =
+    let o = part-others n v (x ∷ l) s in
+    let a = ahead n v (x ∷ l) (part-rises n v (x ∷ l) s) o (length l) (omega arith) in
+    let t = each-at (other n v) 0 (x ∷ l) o (length l) (omega arith) in
+    let b = other-below n v (getD (x ∷ l) (length l) 0) t in
+    elim (decLt v (getD (x ∷ l) (length l) 0)) as (λ _. length (x ∷ l) < n) [
+      | yes k ↦ let c = a .1 k in omega arith
+      | no k ↦ let c = a .0 in let d = other-differs n v (getD (x ∷ l) (length l) 0) t in omega arith
+    ]
+
+module _ (g : Graph) (s : Sound g) (v : ℕ) (l : v < g .vertices) where
+  pub outward-few : length (outward g v) < g .vertices
+  outward-few = others-few (g .vertices) v (outward g v) l (s .outwardSide .good v l)
+
+  pub inward-few : length (inward g v) < g .vertices
+  inward-few = others-few (g .vertices) v (inward g v) l (s .inwardSide .good v l)
