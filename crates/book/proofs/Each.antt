@@ -68,16 +68,16 @@ module _ (a b : Areas) (u : ℕ) (ws : List ℕ) (i : ℕ) where
   unfolding joinEach
   each-end l e = ap (joinEach twoBook b u) (sym (drop-of-length-le ws l)) ∙ e
 
--- ---- a link that merges two heads: which goes under the other
-module _ (ps ss : List ℕ) (g h : ℕ) (ps₁ ss₁ : List ℕ) (e : done (gives merged) (areas ps₁ ss₁) ≡ linkTwo ps ss g h) where
-  abbrev Merged : Type 0
-  Merged = (g ≡ h → ⊥) × ((ps₁ ≡ set ps h g) ⊎ (ps₁ ≡ set ps g h))
+-- ---- a link that merges two heads: one goes under the other
+abbrev Hung : List ℕ → ℕ → ℕ → List ℕ → Type 0
+Hung ps g h ps₁ = (ps₁ ≡ set ps h g) ⊎ (ps₁ ≡ set ps g h)
 
+module _ (ps ss : List ℕ) (g h : ℕ) (ps₁ ss₁ : List ℕ) (e : done (gives merged) (areas ps₁ ss₁) ≡ linkTwo ps ss g h) where
   written : (d : Said Step) → linkHeads (two ps ss) (heads g h) ≡ d → done (gives merged) (areas ps₁ ss₁) ≡ writeBook twoBook d (areas ps ss)
   unfolding linkTwo
   written d q = e ∙ ap (λ d. writeBook twoBook d (areas ps ss)) q
 
-  merges : Merged
+  merges : (g ≡ h → ⊥) × Hung ps g h ps₁
   unfolding writeBook
   merges = same? (ℕ-discrete g h)
     where
@@ -93,15 +93,15 @@ module _ (ps ss : List ℕ) (g h : ℕ) (ps₁ ss₁ : List ℕ) (e : done (give
       said-of : Done Joining Areas → Said Joining
       said-of d = d .said
 
-      above? : (g ≡ h → ⊥) → mergeable (two ps ss .count) a b ≡ true → (t : Bool) → above a b g h ≡ t → Merged
+      above? : (g ≡ h → ⊥) → mergeable (two ps ss .count) a b ≡ true → (t : Bool) → above a b g h ≡ t → (g ≡ h → ⊥) × Hung ps g h ps₁
       above? d m true q = (d, inl (ap parents-of (written _ (link-merges (two ps ss) g h d m ∙ ap gives (merge-above a b g h q)))))
       above? d m false q = (d, inr (ap parents-of (written _ (link-merges (two ps ss) g h d m ∙ ap gives (merge-below a b g h q)))))
 
-      may? : (g ≡ h → ⊥) → (t : Bool) → mergeable (two ps ss .count) a b ≡ t → Merged
+      may? : (g ≡ h → ⊥) → (t : Bool) → mergeable (two ps ss .count) a b ≡ t → (g ≡ h → ⊥) × Hung ps g h ps₁
       may? d true q = above? d q (above a b g h) refl
       may? d false q = refused-given (sym (ap said-of (written _ (link-unsound (two ps ss) g h d q))))
 
-      same? : Dec (g ≡ h) → Merged
+      same? : Dec (g ≡ h) → (g ≡ h → ⊥) × Hung ps g h ps₁
       same? (yes q) = let z : _≡_ {A = Said Joining} (gives merged) (gives same) = ap said-of (written _ (link-already (two ps ss) g h q)) in absurd (let y : _≡_ {A = ℕ} 0 1 = cc in omega arith)
       same? (no d) = may? d (mergeable (two ps ss .count) a b) refl
 
@@ -117,13 +117,13 @@ module _ (ps ss : List ℕ) (u at : ℕ) (x : Walking ps ss u at) where
   pub walking-lengths : length ss ≡ length ps
   walking-lengths = fits-same ps ss (x .lent)
 
-  -- areas of the same lengths
-  module _ (ps₁ ss₁ : List ℕ) (p : length ps₁ ≡ length ps) (q : length ss₁ ≡ length ss) where
+  module _ (ps₁ ss₁ : List ℕ) where
     kept : areas ps₁ ss₁ ≡ areas ps ss → Walking ps₁ ss₁ u at
     kept e = subst (λ (b : Areas). Walking (b .parents) (b .sizes) u at) (sym e) x
 
-    walking-again : (r : ℕ) → saysWalked r ≡ walkFrom (nextIn ps₁) (length ps₁) u → Walking ps₁ ss₁ u r
-    walking-again r e =
+    -- the walk anew, in areas of the same lengths
+    walking-again : length ps₁ ≡ length ps → length ss₁ ≡ length ss → (r : ℕ) → saysWalked r ≡ walkFrom (nextIn ps₁) (length ps₁) u → Walking ps₁ ss₁ u r
+    walking-again p q r e =
         record { lent = fits-of ps₁ ss₁ (omega (arith, walking-within)) (omega (arith, walking-lengths)); inside = omega (arith, x .inside); walk = e }
 
     -- a join that does not merge leaves the areas, and so the walk
@@ -179,7 +179,7 @@ module _ (ps ss : List ℕ) (u at : ℕ) (x : Walking ps ss u at) where
           -- where they merge, u's head stays or goes under the other
           module _ (ps₁ ss₁ : List ℕ) (i : length ps₁ ≡ length ps) (j : length ss₁ ≡ length ss) (r : Joined) (f : r ≡ Joined.Merged)
               (e : done (saysJoined r) (areas ps₁ ss₁) ≡ linkTwo ps ss (at % 65536) (to % 65536)) where
-            shape : Merged ps ss (at % 65536) (to % 65536) ps₁ ss₁ (ap (λ (y : Joined). done (saysJoined y) (areas ps₁ ss₁)) (sym f) ∙ e)
+            shape : (at % 65536 ≡ to % 65536 → ⊥) × Hung ps (at % 65536) (to % 65536) ps₁
             shape = merges ps ss (at % 65536) (to % 65536) ps₁ ss₁ (ap (λ (y : Joined). done (saysJoined y) (areas ps₁ ss₁)) (sym f) ∙ e)
 
             first-over : Mergeable (two ps ss) (at % 65536) (to % 65536) 1
@@ -198,7 +198,7 @@ module _ (ps ss : List ℕ) (u at : ℕ) (x : Walking ps ss u at) where
             unfolding two
             next-top t = go (shape .1)
               where
-                go : (ps₁ ≡ set ps (to % 65536) (at % 65536)) ⊎ (ps₁ ≡ set ps (at % 65536) (to % 65536)) → Walking ps₁ ss₁ u at
+                go : Hung ps (at % 65536) (to % 65536) ps₁ → Walking ps₁ ss₁ u at
                 go (inl q) = walking-again ps₁ ss₁ i j at (rw q (carried-other ps ss u at x m (at % 65536) (to % 65536) first-over (shape .0)))
                 go (inr q) = absurd (shape .0 (sym t ∙ ap (λ (l : List ℕ). getD l (at % 65536) 0) q ∙ getD-set-same ps (at % 65536) (to % 65536) 0 (first-over .top-in)))
 
@@ -206,7 +206,7 @@ module _ (ps ss : List ℕ) (u at : ℕ) (x : Walking ps ss u at) where
             unfolding two
             next-under t = go (shape .1)
               where
-                go : (ps₁ ≡ set ps (to % 65536) (at % 65536)) ⊎ (ps₁ ≡ set ps (at % 65536) (to % 65536)) → Walking ps₁ ss₁ u ((at / 65536 + 1) * 65536 + to % 65536)
+                go : Hung ps (at % 65536) (to % 65536) ps₁ → Walking ps₁ ss₁ u ((at / 65536 + 1) * 65536 + to % 65536)
                 go (inl q) =
                     absurd (t (ap (λ (l : List ℕ). getD l (at % 65536) 0) q ∙ getD-set-other ps (to % 65536) (at % 65536) (at % 65536) 0 (shape .0)
                     ∙ head-is ps (at % 65536) (first-over .top-head)))
