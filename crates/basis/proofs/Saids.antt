@@ -1,7 +1,7 @@
 -- Laws of what a call says: what is given is not refused, a check, and a call that goes on from another. Assumes nothing.
 use Prim.Native.Nat.{ℕ}
 use mathlib.Core.Path.{_≡_, refl, sym, ap, _∙_}
-use mathlib.Core.Bool.{Bool, true, false}
+use mathlib.Core.Bool.{Bool, true, false, cond}
 use Rattle.basis.specs.declared.refusal.Refusal.{Refusal}
 use Rattle.basis.specs.Refusal.{Said, gives, refuses, plain, onward, said, check}
 use Rattle.basis.proofs.Tests.{no-case}
@@ -43,3 +43,18 @@ module _ {A B : Type 0} where
   pub said-refuses : (f : A → B) (s : Said A) (r : Refusal) → refuses r ≡ said f s → s ≡ refuses r
   said-refuses f (gives x) r e = refused-given e
   said-refuses f (refuses q) r e = cc
+
+-- ---- what is given has P, a refusal has R
+abbrev pub Either : {A : Type 0} → (A → Type 0) → (Refusal → Type 0) → Said A → Type 0
+Either P R (gives x) = P x
+Either P R (refuses r) = R r
+
+pub either-cond : {A : Type 0} (P : A → Type 0) (R : Refusal → Type 0) (t : Bool) (x y : Said A) → (t ≡ true → Either P R x) → (t ≡ false → Either P R y)
+    → Either P R (cond t x y)
+either-cond P R true x y h g = h refl
+either-cond P R false x y h g = g refl
+
+pub either-onward : {A B : Type 0} (P : A → Type 0) (Q : B → Type 0) (R : Refusal → Type 0) (x : Said A) (f : A → Said B)
+    → Either P R x → ((a : A) → P a → Either Q R (f a)) → Either Q R (onward x f)
+either-onward P Q R (gives a) f h g = g a h
+either-onward P Q R (refuses r) f h g = h

@@ -27,7 +27,11 @@ cleared l = replicate (length l) 0
 abbrev pub clearedZ : List ℤ → List ℤ
 clearedZ l = replicate (length l) (pos 0)
 
--- what a call leaves in an area of the given size: its list with z behind it, or z throughout where it is refused
+-- what a call leaves in an area of the given size: the list of what it gives with z behind it, or z throughout where it is refused
+abbrev pub areaOf : {A B : Type 0} → A → ℕ → (B → List A) → Said B → List A
+areaOf z size list (gives x) = padWith z size (list x)
+areaOf z size list (refuses r) = replicate size z
+
+-- the same with a list that stands apart from what it gives
 abbrev pub leaves : {A B : Type 0} → Said B → A → ℕ → List A → List A
-leaves (gives x) z size l = padWith z size l
-leaves (refuses r) z size l = replicate size z
+leaves s z size l = areaOf z size (λ x. l) s

@@ -4,7 +4,7 @@ use mathlib.Core.Path.{_≡_, refl, sym, ap, _∙_, subst}
 use mathlib.Core.Bool.{Bool, true, false, cond}
 use mathlib.Core.List.{List, [], _∷_, _++_}
 use native.Mathlib.Omega.{arith}
-use native.Mathlib.Nat.{not-suc-le-zero}
+use native.Mathlib.Nat.{not-suc-le-zero, add-zero}
 use native.Mathlib.Decide.{ℕ-discrete, decLt}
 use lib.ListN.{length, getD, set, drop, List·getD-eq-default, replicate, length-set, length-replicate}
 use lib.Seq.{getD-set-same, getD-set-other, ext-getD}
@@ -199,9 +199,6 @@ counting-start n own =
       leads = record { size = refl; most = λ x. omega arith; low = λ x e h. absurd (not-suc-le-zero h); kept = λ e. refl };
     }
 
-zero-right : (k : ℕ) → k + 0 ≡ k
-zero-right k = omega arith
-
 first-times : (l : ℕ) (ls : List ℕ) → 0 < times eqb l (l ∷ ls)
 unfolding times
 first-times l ls = let o = one-same l l refl in omega arith
@@ -213,7 +210,7 @@ lead-next [] own b v = v .kept (v .size)
 lead-next (l ∷ ls) own b v = chosen-one number-order (l ∷ ls) (b .label) (nextLabel eqb ltb own (l ∷ ls)) here (next-chosen number-order own l ls)
   where
     at : (x : ℕ) → told (l ∷ ls) nothing x ≡ times eqb x (l ∷ ls)
-    at x = let r = told-times (l ∷ ls) nothing x in r ∙ zero-right (times eqb x (l ∷ ls))
+    at x = let r = told-times (l ∷ ls) nothing x in r ∙ add-zero (times eqb x (l ∷ ls))
 
     first : 0 < b .count
     first = let a = v .most l in let e = at l in let t = first-times l ls in omega arith
@@ -275,7 +272,7 @@ module _ (n own : ℕ) (L us : List ℕ) (h : allBelow (length L) us ≡ true) (
 
   count-at : (j : ℕ) → j < n → getD (after n own (labelsAt 0 L us) .counts) j 0 ≡ times eqb j (labelsAt 0 L us)
   unfolding nothing
-  count-at j g = counting .nums j g ∙ told-times (labelsAt 0 L us) nothing j ∙ zero-right (times eqb j (labelsAt 0 L us))
+  count-at j g = counting .nums j g ∙ told-times (labelsAt 0 L us) nothing j ∙ add-zero (times eqb j (labelsAt 0 L us))
 
   after-under : Under (length us) (after n own (labelsAt 0 L us) .counts)
   after-under j =

@@ -5,7 +5,7 @@ use mathlib.Core.List.{List}
 use lib.IntN.{ℤ, pos}
 use lib.ListN.{length, take, replicate}
 use Rattle.basis.specs.Refusal.{Said, gives, refuses, said}
-use Rattle.basis.specs.Area.{pad, padZ}
+use Rattle.basis.specs.Area.{areaOf}
 use Rattle.graph.specs.declared.find.Found.{Found}
 use Rattle.store.specs.Held.{seconds}
 use Rattle.store.specs.Steps.{bumps}
@@ -28,8 +28,7 @@ vertexOutcome answer ids = record { answer = answer; ids = ids }
 
 -- the identifiers in an area of the given length, as far as there is room, and zeros behind them
 abbrev pub idsArea : ℕ → Said (List ℤ) → List ℤ
-idsArea size (gives ids) = padZ size (take size ids)
-idsArea size (refuses r) = replicate size (pos 0)
+idsArea size s = areaOf (pos 0) size (take size) s
 
 abbrev pub vertexCall : ℕ → List ℕ → ℕ → Vertexes
 vertexCall most s size = vertexOutcome (said length (identifiers most s)) (idsArea size (identifiers most s))
@@ -50,8 +49,7 @@ countsArea place size (refuses r) = replicate size 0
 
 -- their second ends in file order, as far as there is room, and zeros behind them
 abbrev pub targetsArea : (ℤ → Found) → ℕ → Said (List (ℤ × ℤ)) → List ℕ
-targetsArea place size (gives es) = pad size (take size (seconds (allNumbered place es)))
-targetsArea place size (refuses r) = replicate size 0
+targetsArea place size s = areaOf 0 size (λ es. take size (seconds (allNumbered place es))) s
 
 -- the edges between the vertices that `place` finds
 abbrev pub edgeCall : Bool → ℕ → (ℤ → Found) → List ℕ → ℕ → ℕ → EdgesRead

@@ -3,10 +3,10 @@ use Prim.Native.Nat.{ℕ}
 use mathlib.Core.Bool.{Bool, _&&_}
 use mathlib.Core.List.{List}
 use lib.IntN.{ℤ, pos}
-use lib.ListN.{length, replicate}
+use lib.ListN.{length}
 use lib.Dec.{eqb, leb, ltb}
 use Rattle.basis.specs.Refusal.{Said, gives, refuses, noRoom, unknownNumber, onward, said, check}
-use Rattle.basis.specs.Area.{padWith}
+use Rattle.basis.specs.Area.{areaOf}
 use Rattle.graph.specs.declared.Size.{Size}
 use Rattle.graph.specs.Find.{placeIn}
 use Rattle.graph.specs.Arcs.{Arc, arcs, backward, parts, offsets}
@@ -86,19 +86,14 @@ roomOf ids oo ot io is = record { ids = ids; outOffsets = oo; outTargets = ot; i
 abbrev pub sizeOf : Lists → Size
 sizeOf g = record { vertices = length (g .ids); arcs = length (g .arcs) }
 
--- "A refusal fills every area lent for writing with zero", and after success "places beyond the ones used are zero"
-abbrev pub area : {A : Type 0} → A → ℕ → (Lists → List A) → Said Lists → List A
-area z size list (gives g) = padWith z size (list g)
-area z size list (refuses r) = replicate size z
-
--- the outcome of what two files say
+-- the outcome of what two files say: a refusal fills "every area lent for writing with zero", and after success "places beyond the ones used are zero"
 unfoldable pub outcomeOf : Room → Said Lists → Outcome
 outcomeOf room g =
-    outcome (said sizeOf g) (area (pos 0) (room .ids) (λ g. g .ids) g)
-    (area 0 (room .outOffsets) (λ g. offsets (g .arcs) (length (g .ids))) g)
-    (area 0 (room .outTargets) (λ g. parts (g .arcs) (length (g .ids))) g)
-    (area 0 (room .inOffsets) (λ g. offsets (backward (g .arcs)) (length (g .ids))) g)
-    (area 0 (room .inSources) (λ g. parts (backward (g .arcs)) (length (g .ids))) g)
+    outcome (said sizeOf g) (areaOf (pos 0) (room .ids) (λ g. g .ids) g)
+    (areaOf 0 (room .outOffsets) (λ g. offsets (g .arcs) (length (g .ids))) g)
+    (areaOf 0 (room .outTargets) (λ g. parts (g .arcs) (length (g .ids))) g)
+    (areaOf 0 (room .inOffsets) (λ g. offsets (backward (g .arcs)) (length (g .ids))) g)
+    (areaOf 0 (room .inSources) (λ g. parts (backward (g .arcs)) (length (g .ids))) g)
 
 -- the whole call
 unfoldable pub loadCall : Limits → ℕ → Room → List ℕ → List ℕ → Outcome

@@ -1,13 +1,15 @@
 -- What callers stand on: the sections of a plan lie in the sheet, one after another, and so does each job line. Assumes nothing.
 use Prim.Native.Nat.{ℕ, zero, suc, _≤_, _<_}
 use mathlib.Core.Path.{_≡_, refl}
-use mathlib.Core.Bool.{Bool, true, false, cond}
+use mathlib.Core.Bool.{Bool, true, false}
 use mathlib.Core.List.{List}
 use native.Mathlib.Omega.{arith}
 use borrow.Author.Tests.{leb-true, ltb-false}
 use lib.Dec.{leb, ltb}
 use lib.ListN.{length}
-use Rattle.basis.specs.Refusal.{Said, gives, refuses, at, onward}
+use Rattle.basis.specs.Refusal.{Said, gives, refuses, at}
+use Rattle.basis.proofs.Saids.{Either, either-cond, either-onward}
+use Rattle.basis.specs.declared.refusal.Refusal.{Refusal}
 use Rattle.text.specs.Word.{Word, countOf}
 use Rattle.text.specs.Line.{LineSaid, line, none, fault, lineBy}
 use Rattle.text.proofs.Places.{Moved, Placed, places}
@@ -18,17 +20,11 @@ use Rattle.plan.specs.declared.sections.Block.{Block}
 use Rattle.plan.specs.declared.sections.Plan.{Plan}
 
 -- what is given has P
+abbrev Any : Refusal → Type 0
+Any r = Unit {0}
+
 abbrev pub Gives : {A : Type 0} → (A → Type 0) → Said A → Type 0
-Gives P (gives x) = P x
-Gives P (refuses r) = Unit {0}
-
-onward-gives : {A B : Type 0} (P : A → Type 0) (Q : B → Type 0) (x : Said A) (f : A → Said B) → Gives P x → ((a : A) → P a → Gives Q (f a)) → Gives Q (onward x f)
-onward-gives P Q (gives a) f h g = g a h
-onward-gives P Q (refuses r) f h g = tt
-
-cond-gives : {A : Type 0} (P : A → Type 0) (t : Bool) (x y : Said A) → (t ≡ true → Gives P x) → (t ≡ false → Gives P y) → Gives P (cond t x y)
-cond-gives P true x y h g = h refl
-cond-gives P false x y h g = g refl
+Gives P x = Either P Any x
 
 -- ---- a line
 abbrev Past : {A : Type 0} → List ℕ → ℕ → A × ℕ → Type 0
@@ -81,10 +77,10 @@ pub record Placed-block (s : List ℕ) (limit place : ℕ) (b : Block) : Type 0 
 pub section-in : (jobs : Bool) (limit : ℕ) (s : List ℕ) (place : ℕ) → Gives (Placed-block s limit place) (section jobs limit s place)
 unfolding section countLine
 section-in jobs limit s place =
-    onward-gives (λ c. Moved s place (c .1) × c .0 ≤ limit) (Placed-block s limit place) (countLine limit s place) (linesOf jobs s)
-    (onward-gives (Past s place) (λ c. Moved s place (c .1) × c .0 ≤ limit) (sheetLine countOf s place) (limited limit s place) (sheet-line countOf s place)
-    (λ c m. cond-gives _ (leb (c .0) limit) (gives c) _ (λ e. (m, leb-true (c .0) limit e)) (λ e. tt)))
-    (λ c h. onward-gives (Within s (c .1)) (Placed-block s limit place) (linesPast jobs (c .0) s (c .1)) (λ to. gives (block (c .0) (c .1) to))
+    either-onward (λ c. Moved s place (c .1) × c .0 ≤ limit) (Placed-block s limit place) Any (countLine limit s place) (linesOf jobs s)
+    (either-onward (Past s place) (λ c. Moved s place (c .1) × c .0 ≤ limit) Any (sheetLine countOf s place) (limited limit s place) (sheet-line countOf s place)
+    (λ c m. either-cond _ Any (leb (c .0) limit) (gives c) _ (λ e. (m, leb-true (c .0) limit e)) (λ e. tt)))
+    (λ c h. either-onward (Within s (c .1)) (Placed-block s limit place) Any (linesPast jobs (c .0) s (c .1)) (λ to. gives (block (c .0) (c .1) to))
     (lines-in jobs (c .0) s (c .1) (h .0 .inside))
     (λ to w. record { after = h .0 .forward; lines = w; few = h .1 }))
 
@@ -98,10 +94,10 @@ pub record Placed-plan (s : List ℕ) (p : Plan) : Type 0 where
 sections-in : (s : List ℕ) → Gives (Placed-plan s) (sections s)
 unfolding sections
 sections-in s =
-    onward-gives (Past s 0) (Placed-plan s) (sheetLine modeOf s 0) _ (sheet-line modeOf s 0)
-    (λ mode m. onward-gives (Placed-block s mostVertices (mode .1)) (Placed-plan s) (section false mostVertices s (mode .1)) _ (section-in false mostVertices s (mode .1))
-    (λ vertices v. onward-gives (Placed-block s mostEdges (vertices .to)) (Placed-plan s) (section false mostEdges s (vertices .to)) _ (section-in false mostEdges s (vertices .to))
-    (λ edges e. onward-gives (Placed-block s mostJobs (edges .to)) (Placed-plan s) (section true mostJobs s (edges .to)) _ (section-in true mostJobs s (edges .to))
+    either-onward (Past s 0) (Placed-plan s) Any (sheetLine modeOf s 0) _ (sheet-line modeOf s 0)
+    (λ mode m. either-onward (Placed-block s mostVertices (mode .1)) (Placed-plan s) Any (section false mostVertices s (mode .1)) _ (section-in false mostVertices s (mode .1))
+    (λ vertices v. either-onward (Placed-block s mostEdges (vertices .to)) (Placed-plan s) Any (section false mostEdges s (vertices .to)) _ (section-in false mostEdges s (vertices .to))
+    (λ edges e. either-onward (Placed-block s mostJobs (edges .to)) (Placed-plan s) Any (section true mostJobs s (edges .to)) _ (section-in true mostJobs s (edges .to))
     (λ jobs j. record { vertices = v .lines; edges = e .lines; jobs = j .lines; few = j .few }))))
 
 -- a sheet that is accepted
@@ -113,9 +109,9 @@ pub record Accepted (s : List ℕ) (p : Plan) : Type 0 where
 pub checked-in : (s : List ℕ) → Gives (Accepted s) (checked s)
 unfolding checked
 checked-in s =
-    cond-gives (Accepted s) (ltb mostBytes (length s)) _ _ (λ _. tt)
-    (λ h. onward-gives (Placed-plan s) (Accepted s) (sections s) (ended s) (sections-in s)
-    (λ p w. cond-gives (Accepted s) (ltb (p .jobs .to) (length s)) _ (gives p) (λ _. tt)
+    either-cond (Accepted s) Any (ltb mostBytes (length s)) _ _ (λ _. tt)
+    (λ h. either-onward (Placed-plan s) (Accepted s) Any (sections s) (ended s) (sections-in s)
+    (λ p w. either-cond (Accepted s) Any (ltb (p .jobs .to) (length s)) _ (gives p) (λ _. tt)
     (λ k. record { places = w; short = ltb-false mostBytes (length s) h; ends = ltb-false (p .jobs .to) (length s) k })))
 
 pub accepted : (s : List ℕ) (p : Plan) → checked s ≡ gives p → Accepted s p

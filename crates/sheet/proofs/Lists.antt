@@ -1,11 +1,8 @@
--- Laws of lists whose members all have a property, and of what is given or refused. Assumes nothing.
+-- Laws of lists whose members all have a property. Assumes nothing.
 use Prim.Native.Nat.{ℕ, zero, suc, _-_}
-use mathlib.Core.Path.{_≡_, refl}
-use mathlib.Core.Bool.{Bool, true, false, cond}
 use mathlib.Core.List.{List, [], _∷_, _++_}
 use lib.ListN.{length, getD, take, replicate}
 use Rattle.basis.specs.Refusal.{Said, gives, refuses}
-use Rattle.basis.specs.declared.refusal.Refusal.{Refusal}
 use Rattle.basis.specs.Area.{column, padWith, leaves}
 
 -- each member has P
@@ -43,13 +40,3 @@ module _ {A : Type 0} (P : A → Type 0) where
   pub all-left : {B : Type 0} (said : Said B) (z : A) (size : ℕ) (l : List A) → P z → All P l → All P (leaves said z size l)
   all-left (gives x) z size l g h = all-pad z size l g h
   all-left (refuses r) z size l g h = all-same size z g
-
--- what is given has P, a refusal has Q
-abbrev pub Either : {A : Type 0} → (A → Type 0) → (Refusal → Type 0) → Said A → Type 0
-Either P Q (gives x) = P x
-Either P Q (refuses r) = Q r
-
-pub either-cond : {A : Type 0} (P : A → Type 0) (Q : Refusal → Type 0) (t : Bool) (x y : Said A) → (t ≡ true → Either P Q x) → (t ≡ false → Either P Q y)
-    → Either P Q (cond t x y)
-either-cond P Q true x y h g = h refl
-either-cond P Q false x y h g = g refl

@@ -9,6 +9,7 @@ use lib.Dec.{eqb, leb, ltb}
 use lib.IntN.{ℤ, pos}
 use lib.Signed.{ltZ}
 use lib.ListN.{length, take, drop, length-take, length-drop}
+use Rattle.basis.proofs.Saids.{Either, either-cond, either-onward}
 use Rattle.basis.specs.Refusal.{Said, gives, refuses, plain, tooMany, badForm, noRoom, vertexFile, edgeFile, onward, said}
 use Rattle.basis.specs.Area.{padWith}
 use Rattle.basis.specs.Scan.{mem}
@@ -33,7 +34,7 @@ use Rattle.write.specs.Put.{written, putAt}
 use Rattle.write.proofs.Puts.{wrote-whole}
 use Rattle.sheet.specs.Jobs.{between}
 use Rattle.sheet.specs.Desk.{deskLimits, deskRoom, modeNumber, linesIn, graphIn, loadText, planText, checkedText, deskOutput}
-use Rattle.sheet.proofs.Lists.{All, all-take, all-pad, Either, either-cond}
+use Rattle.sheet.proofs.Lists.{All, all-take, all-pad}
 use Rattle.sheet.proofs.Lengths.{Small, Brief, refused-most, jobs-most}
 
 abbrev Any : {A : Type 0} → A → Type 0
@@ -139,20 +140,16 @@ room-either P false x h = room-brief
 abbrev Held : Room → Lists → Type 0
 Held room l = All Small (l .ids) × (length (l .ids) ≤ room .ids)
 
-onward-either : {A B : Type 0} (P : A → Type 0) (Q : B → Type 0) (x : Said A) (f : A → Said B) → Either P Brief x → ((a : A) → P a → Either Q Brief (f a)) → Either Q Brief (onward x f)
-onward-either P Q (gives a) f h g = g a h
-onward-either P Q (refuses r) f h g = h
-
 loaded-either : (limits : Limits) (mode : ℕ) (room : Room) (v e : List ℕ) → length v ≤ mostBytes → length e ≤ mostBytes → Either (Held room) Brief (loaded limits mode room v e)
 unfolding loaded listsRead arcsRead
 loaded-either limits mode room v e hv he =
     either-cond (Held room) Brief (leb mode 1) _ _
-    (λ _. onward-either (All Small) (Held room) (identifiers (limits .vertices) v) _ (ids-either (limits .vertices) v hv)
-    (λ ids s. onward-either (λ i. All Small i × (length i ≤ room .ids)) (Held room) (withRoom (vertexRoom (room .ids) (room .outOffsets) (room .inOffsets) (length ids)) ids) _
+    (λ _. either-onward (All Small) (Held room) Brief (identifiers (limits .vertices) v) _ (ids-either (limits .vertices) v hv)
+    (λ ids s. either-onward (λ i. All Small i × (length i ≤ room .ids)) (Held room) Brief (withRoom (vertexRoom (room .ids) (room .outOffsets) (room .inOffsets) (length ids)) ids) _
     (room-either (λ i. All Small i × (length i ≤ room .ids)) (vertexRoom (room .ids) (room .outOffsets) (room .inOffsets) (length ids)) ids
     (λ t. (s, leb-true (length ids) (room .ids) (and-first (leb (length ids) (room .ids)) _ t))))
-    (λ i h. onward-either (Any {A = List Arc}) (Held room) (arcsRead (isUndirected mode) (limits .edges) i e (room .outTargets) (room .inSources)) _
-    (onward-either (All Any) Any (edgesOf (isUndirected mode) (limits .edges) (placeIn i) e) _ (edges-either (isUndirected mode) (limits .edges) (placeIn i) e he)
+    (λ i h. either-onward (Any {A = List Arc}) (Held room) Brief (arcsRead (isUndirected mode) (limits .edges) i e (room .outTargets) (room .inSources)) _
+    (either-onward (All Any) Any Brief (edgesOf (isUndirected mode) (limits .edges) (placeIn i) e) _ (edges-either (isUndirected mode) (limits .edges) (placeIn i) e he)
     (λ es _. let l = arcs (isUndirected mode) (allNumbered (placeIn i) es) in room-either Any (arcRoom (room .outTargets) (room .inSources) (length l)) l (λ _. tt)))
     (λ l _. h))))
     (λ _. record { number = omega arith; file = omega arith; line = omega arith })
@@ -204,8 +201,7 @@ module _ (s : List ℕ) (short : length s ≤ mostBytes) where
   fault-brief place n h = record { number = h; file = omega arith; line = omega (arith, lfs-few (take place s), length-take place s) }
 
   chain : {A B : Type 0} (x : Said A) (f : A → Said B) → Either Any Brief x → ((a : A) → Either Any Brief (f a)) → Either Any Brief (onward x f)
-  chain (gives a) f h g = g a
-  chain (refuses r) f h g = h
+  chain x f h g = either-onward Any Any Brief x f h (λ a t. g a)
 
   in-sheet : {A : Type 0} (x : LineSaid A) → FewFault x → Either Any Brief (inSheet s x)
   in-sheet (line v next) h = tt
