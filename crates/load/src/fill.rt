@@ -69,16 +69,25 @@ fn directed(
     s: &[u8],
     most: usize,
     ids: &[i64],
-    oo: &mut [usize],
-    ot: &mut [usize],
-    io: &mut [usize],
-    is: &mut [usize],
+    out_offsets: &mut [usize],
+    out_targets: &mut [usize],
+    in_offsets: &mut [usize],
+    in_sources: &mut [usize],
 ) -> Loaded
-    requires { ⌜ Blank (now ids) (now oo) (now io) ⌝ }
-    ensures { λ r. ⌜ filledLeft r (now (oo .exit)) (now (ot .exit)) (now (io .exit)) (now (is .exit)) ≡ said (filledBy (length (now (ids .entry))) (length (now (oo .entry))) (length (now (ot .entry))) (length (now (io .entry))) (length (now (is .entry)))) (arcsRead false most (now (ids .entry)) (now (s .entry)) (length (now (ot .entry))) (length (now (is .entry)))) ⌝ }
+    requires { ⌜ Blank (now ids) (now «out_offsets») (now «in_offsets») ⌝ }
+    ensures { λ r. ⌜ filledLeft r (now («out_offsets» .exit)) (now («out_targets» .exit)) (now («in_offsets» .exit)) (now («in_sources» .exit)) ≡ said (filledBy (length (now (ids .entry))) (length (now («out_offsets» .entry))) (length (now («out_targets» .entry))) (length (now («in_offsets» .entry))) (length (now («in_sources» .entry)))) (arcsRead false most (now (ids .entry)) (now (s .entry)) (length (now («out_targets» .entry))) (length (now («in_sources» .entry)))) ⌝ }
 {
     let n = ids.len();
-    let listed = arrange(s, most, false, ids, oo, ot, io, is);
+    let listed = arrange(
+        s,
+        most,
+        false,
+        ids,
+        out_offsets,
+        out_targets,
+        in_offsets,
+        in_sources,
+    );
     match listed {
         Listed::Refused(r) => Loaded::Refused(r),
         Listed::Lines(m) => Loaded::Graph(Size {
@@ -93,22 +102,31 @@ fn undirected(
     s: &[u8],
     most: usize,
     ids: &[i64],
-    oo: &mut [usize],
-    ot: &mut [usize],
-    io: &mut [usize],
-    is: &mut [usize],
+    out_offsets: &mut [usize],
+    out_targets: &mut [usize],
+    in_offsets: &mut [usize],
+    in_sources: &mut [usize],
 ) -> Loaded
-    requires { ⌜ Blank (now ids) (now oo) (now io) ⌝ }
-    ensures { λ r. ⌜ filledLeft r (now (oo .exit)) (now (ot .exit)) (now (io .exit)) (now (is .exit)) ≡ said (filledBy (length (now (ids .entry))) (length (now (oo .entry))) (length (now (ot .entry))) (length (now (io .entry))) (length (now (is .entry)))) (arcsRead true most (now (ids .entry)) (now (s .entry)) (length (now (ot .entry))) (length (now (is .entry)))) ⌝ }
+    requires { ⌜ Blank (now ids) (now «out_offsets») (now «in_offsets») ⌝ }
+    ensures { λ r. ⌜ filledLeft r (now («out_offsets» .exit)) (now («out_targets» .exit)) (now («in_offsets» .exit)) (now («in_sources» .exit)) ≡ said (filledBy (length (now (ids .entry))) (length (now («out_offsets» .entry))) (length (now («out_targets» .entry))) (length (now («in_offsets» .entry))) (length (now («in_sources» .entry)))) (arcsRead true most (now (ids .entry)) (now (s .entry)) (length (now («out_targets» .entry))) (length (now («in_sources» .entry)))) ⌝ }
 {
     let n = ids.len();
-    let listed = arrange(s, most, true, ids, io, is, oo, ot);
+    let listed = arrange(
+        s,
+        most,
+        true,
+        ids,
+        in_offsets,
+        in_sources,
+        out_offsets,
+        out_targets,
+    );
     match listed {
         Listed::Refused(r) => Loaded::Refused(r),
         Listed::Lines(m) => {
             let arcs = m + m;
-            copy(io, oo, n + 1);
-            copy(is, ot, arcs);
+            copy(in_offsets, out_offsets, n + 1);
+            copy(in_sources, out_targets, arcs);
             Loaded::Graph(Size { vertices: n, arcs })
         }
     }
@@ -120,31 +138,47 @@ fn store_edges(
     most: usize,
     both: bool,
     ids: &[i64],
-    oo: &mut [usize],
-    ot: &mut [usize],
-    io: &mut [usize],
-    is: &mut [usize],
+    out_offsets: &mut [usize],
+    out_targets: &mut [usize],
+    in_offsets: &mut [usize],
+    in_sources: &mut [usize],
 ) -> Loaded
-    requires { ⌜ Blank (now ids) (now oo) (now io) ⌝ }
-    ensures { λ r. ⌜ filledLeft r (now (oo .exit)) (now (ot .exit)) (now (io .exit)) (now (is .exit)) ≡ said (filledBy (length (now (ids .entry))) (length (now (oo .entry))) (length (now (ot .entry))) (length (now (io .entry))) (length (now (is .entry)))) (arcsRead both most (now (ids .entry)) (now (s .entry)) (length (now (ot .entry))) (length (now (is .entry)))) ⌝ }
+    requires { ⌜ Blank (now ids) (now «out_offsets») (now «in_offsets») ⌝ }
+    ensures { λ r. ⌜ filledLeft r (now («out_offsets» .exit)) (now («out_targets» .exit)) (now («in_offsets» .exit)) (now («in_sources» .exit)) ≡ said (filledBy (length (now (ids .entry))) (length (now («out_offsets» .entry))) (length (now («out_targets» .entry))) (length (now («in_offsets» .entry))) (length (now («in_sources» .entry)))) (arcsRead both most (now (ids .entry)) (now (s .entry)) (length (now («out_targets» .entry))) (length (now («in_sources» .entry)))) ⌝ }
 {
     if both {
-        return undirected(s, most, ids, oo, ot, io, is);
+        return undirected(
+            s,
+            most,
+            ids,
+            out_offsets,
+            out_targets,
+            in_offsets,
+            in_sources,
+        );
     }
-    directed(s, most, ids, oo, ot, io, is)
+    directed(
+        s,
+        most,
+        ids,
+        out_offsets,
+        out_targets,
+        in_offsets,
+        in_sources,
+    )
 }
 
 // Whether areas of these lengths have places for n identifiers and their offsets.
-fn has_places(n: usize, ids: usize, oo: usize, io: usize) -> bool
-    ensures { λ r. ⌜ r ≡ vertexRoom ids oo io n ⌝ }
+fn has_places(n: usize, ids: usize, out_offsets: usize, in_offsets: usize) -> bool
+    ensures { λ r. ⌜ r ≡ vertexRoom ids «out_offsets» «in_offsets» n ⌝ }
 {
     if ids < n {
         return false;
     }
-    if oo <= n {
+    if out_offsets <= n {
         return false;
     }
-    if io <= n {
+    if in_offsets <= n {
         return false;
     }
     true
@@ -157,12 +191,12 @@ pub(crate) fn fill(
     vertices: &[u8],
     edges: &[u8],
     ids: &mut [i64],
-    oo: &mut [usize],
-    ot: &mut [usize],
-    io: &mut [usize],
-    is: &mut [usize],
+    out_offsets: &mut [usize],
+    out_targets: &mut [usize],
+    in_offsets: &mut [usize],
+    in_sources: &mut [usize],
 ) -> Loaded
-    ensures { λ r. ⌜ outcomeLeft r (now (ids .exit)) (now (oo .exit)) (now (ot .exit)) (now (io .exit)) (now (is .exit)) ≡ said (outcomeBy (roomOf (length (now (ids .entry))) (length (now (oo .entry))) (length (now (ot .entry))) (length (now (io .entry))) (length (now (is .entry))))) (loaded limits mode (roomOf (length (now (ids .entry))) (length (now (oo .entry))) (length (now (ot .entry))) (length (now (io .entry))) (length (now (is .entry)))) (now (vertices .entry)) (now (edges .entry))) ⌝ }
+    ensures { λ r. ⌜ outcomeLeft r (now (ids .exit)) (now («out_offsets» .exit)) (now («out_targets» .exit)) (now («in_offsets» .exit)) (now («in_sources» .exit)) ≡ said (outcomeBy (roomOf (length (now (ids .entry))) (length (now («out_offsets» .entry))) (length (now («out_targets» .entry))) (length (now («in_offsets» .entry))) (length (now («in_sources» .entry))))) (loaded limits mode (roomOf (length (now (ids .entry))) (length (now («out_offsets» .entry))) (length (now («out_targets» .entry))) (length (now («in_offsets» .entry))) (length (now («in_sources» .entry)))) (now (vertices .entry)) (now (edges .entry))) ⌝ }
 {
     if 1 < mode {
         return Loaded::Refused(Refusal::plain(UNKNOWN_NUMBER));
@@ -171,8 +205,17 @@ pub(crate) fn fill(
     match listed {
         Listed::Refused(r) => Loaded::Refused(r),
         Listed::Lines(n) => {
-            if has_places(n, ids.len(), oo.len(), io.len()) {
-                return store_edges(edges, limits.edges, mode == 0, &ids[..n], oo, ot, io, is);
+            if has_places(n, ids.len(), out_offsets.len(), in_offsets.len()) {
+                return store_edges(
+                    edges,
+                    limits.edges,
+                    mode == 0,
+                    &ids[..n],
+                    out_offsets,
+                    out_targets,
+                    in_offsets,
+                    in_sources,
+                );
             }
             Loaded::Refused(Refusal::plain(NO_ROOM))
         }

@@ -30,18 +30,18 @@ pub enum Loaded {
 
 fn clear_all(
     ids: &mut [i64],
-    oo: &mut [usize],
-    ot: &mut [usize],
-    io: &mut [usize],
-    is: &mut [usize],
+    out_offsets: &mut [usize],
+    out_targets: &mut [usize],
+    in_offsets: &mut [usize],
+    in_sources: &mut [usize],
 )
-    ensures { λ _. ⌜ Emptied (now (ids .entry)) (now (oo .entry)) (now (ot .entry)) (now (io .entry)) (now (is .entry)) (now (ids .exit)) (now (oo .exit)) (now (ot .exit)) (now (io .exit)) (now (is .exit)) ⌝ }
+    ensures { λ _. ⌜ Emptied (now (ids .entry)) (now («out_offsets» .entry)) (now («out_targets» .entry)) (now («in_offsets» .entry)) (now («in_sources» .entry)) (now (ids .exit)) (now («out_offsets» .exit)) (now («out_targets» .exit)) (now («in_offsets» .exit)) (now («in_sources» .exit)) ⌝ }
 {
     clear_signed(ids);
-    clear(oo);
-    clear(ot);
-    clear(io);
-    clear(is);
+    clear(out_offsets);
+    clear(out_targets);
+    clear(in_offsets);
+    clear(in_sources);
 }
 
 // The graph of two files whose lines are at most so many: `mode` is 0 for undirected, 1 for directed.
@@ -51,18 +51,28 @@ pub fn load_within(
     vertices: &[u8],
     edges: &[u8],
     ids: &mut [i64],
-    oo: &mut [usize],
-    ot: &mut [usize],
-    io: &mut [usize],
-    is: &mut [usize],
+    out_offsets: &mut [usize],
+    out_targets: &mut [usize],
+    in_offsets: &mut [usize],
+    in_sources: &mut [usize],
 ) -> Loaded
-    ensures { λ r. ⌜ outcome (says r) (now (ids .exit)) (now (oo .exit)) (now (ot .exit)) (now (io .exit)) (now (is .exit)) ≡ loadCall limits mode (roomOf (length (now (ids .entry))) (length (now (oo .entry))) (length (now (ot .entry))) (length (now (io .entry))) (length (now (is .entry)))) (now (vertices .entry)) (now (edges .entry)) ⌝ }
+    ensures { λ r. ⌜ outcome (says r) (now (ids .exit)) (now («out_offsets» .exit)) (now («out_targets» .exit)) (now («in_offsets» .exit)) (now («in_sources» .exit)) ≡ loadCall limits mode (roomOf (length (now (ids .entry))) (length (now («out_offsets» .entry))) (length (now («out_targets» .entry))) (length (now («in_offsets» .entry))) (length (now («in_sources» .entry)))) (now (vertices .entry)) (now (edges .entry)) ⌝ }
 {
-    let filled = fill(limits, mode, vertices, edges, ids, oo, ot, io, is);
+    let filled = fill(
+        limits,
+        mode,
+        vertices,
+        edges,
+        ids,
+        out_offsets,
+        out_targets,
+        in_offsets,
+        in_sources,
+    );
     match filled {
         Loaded::Graph(size) => Loaded::Graph(size),
         Loaded::Refused(r) => {
-            clear_all(ids, oo, ot, io, is);
+            clear_all(ids, out_offsets, out_targets, in_offsets, in_sources);
             Loaded::Refused(r)
         }
     }
@@ -74,12 +84,12 @@ pub fn load(
     vertices: &[u8],
     edges: &[u8],
     ids: &mut [i64],
-    oo: &mut [usize],
-    ot: &mut [usize],
-    io: &mut [usize],
-    is: &mut [usize],
+    out_offsets: &mut [usize],
+    out_targets: &mut [usize],
+    in_offsets: &mut [usize],
+    in_sources: &mut [usize],
 ) -> Loaded
-    ensures { λ r. ⌜ outcome (says r) (now (ids .exit)) (now (oo .exit)) (now (ot .exit)) (now (io .exit)) (now (is .exit)) ≡ loadCall library mode (roomOf (length (now (ids .entry))) (length (now (oo .entry))) (length (now (ot .entry))) (length (now (io .entry))) (length (now (is .entry)))) (now (vertices .entry)) (now (edges .entry)) ⌝ }
+    ensures { λ r. ⌜ outcome (says r) (now (ids .exit)) (now («out_offsets» .exit)) (now («out_targets» .exit)) (now («in_offsets» .exit)) (now («in_sources» .exit)) ≡ loadCall library mode (roomOf (length (now (ids .entry))) (length (now («out_offsets» .entry))) (length (now («out_targets» .entry))) (length (now («in_offsets» .entry))) (length (now («in_sources» .entry)))) (now (vertices .entry)) (now (edges .entry)) ⌝ }
 {
     load_within(
         Limits {
@@ -90,9 +100,9 @@ pub fn load(
         vertices,
         edges,
         ids,
-        oo,
-        ot,
-        io,
-        is,
+        out_offsets,
+        out_targets,
+        in_offsets,
+        in_sources,
     )
 }
