@@ -13,10 +13,11 @@ use print::same;
 use print::stayed;
 use print::words;
 
-// A join in a book of four vertices; the areas come by value, so that what the call leaves can be compared.
-fn join(parents: [usize; 4], sizes: [usize; 4], u: usize, v: usize) {
+// A join in a book of four vertices, behind the words that say what it shows; the areas come by value, so that what the call leaves can be compared.
+fn join(shows: &[u8], parents: [usize; 4], sizes: [usize; 4], u: usize, v: usize) {
     let mut p = parents;
     let mut s = sizes;
+    words(shows);
     words(b"join ");
     number(u);
     words(b" ");
@@ -64,36 +65,58 @@ fn worked() {
 }
 
 fn sound() {
-    words(b"a vertex and itself: ");
-    join([0, 0, 2, 3], [2, 1, 1, 1], 2, 2);
-    words(b"two of one group: ");
-    join([0, 0, 2, 3], [2, 1, 1, 1], 1, 0);
-    words(b"vertex 4 of four: ");
-    join([0, 0, 2, 3], [2, 1, 1, 1], 0, 4);
-    words(b"the smaller under the larger: ");
-    join([0, 0, 2, 3], [2, 1, 1, 1], 2, 1);
+    join(b"a vertex and itself: ", [0, 0, 2, 3], [2, 1, 1, 1], 2, 2);
+    join(b"two of one group: ", [0, 0, 2, 3], [2, 1, 1, 1], 1, 0);
+    join(b"vertex 4 of four: ", [0, 0, 2, 3], [2, 1, 1, 1], 0, 4);
+    join(
+        b"the smaller under the larger: ",
+        [0, 0, 2, 3],
+        [2, 1, 1, 1],
+        2,
+        1,
+    );
 }
 
-fn damaged() {
-    words(b"a walk that leaves the area: ");
-    join([0, 9, 2, 3], [1, 1, 1, 1], 1, 0);
+fn damaged_walks() {
+    join(
+        b"a walk that leaves the area: ",
+        [0, 9, 2, 3],
+        [1, 1, 1, 1],
+        1,
+        0,
+    );
     read(&[0, 9, 2, 3], &[1, 1, 1, 1], 1);
-    words(b"a cycle: ");
-    join([1, 0, 2, 3], [1, 1, 1, 1], 2, 0);
+    join(b"a cycle: ", [1, 0, 2, 3], [1, 1, 1, 1], 2, 0);
     read(&[1, 0, 2, 3], &[1, 1, 1, 1], 0);
-    words(b"a zero size: ");
-    join([0, 1, 2, 3], [0, 1, 1, 1], 0, 1);
-    words(b"a zero size: ");
-    join([0, 1, 2, 3], [0, 1, 1, 1], 1, 0);
+}
+
+fn damaged_sizes() {
+    join(b"a zero size: ", [0, 1, 2, 3], [0, 1, 1, 1], 0, 1);
+    join(b"a zero size: ", [0, 1, 2, 3], [0, 1, 1, 1], 1, 0);
     read(&[0, 1, 2, 3], &[0, 1, 1, 1], 0);
-    words(b"a sum above the length: ");
-    join([0, 1, 2, 3], [3, 2, 1, 1], 0, 1);
-    words(b"a sum that would wrap: ");
-    join([0, 1, 2, 3], [18446744073709551615, 1, 1, 1], 0, 1);
+    join(
+        b"a sum above the length: ",
+        [0, 1, 2, 3],
+        [3, 2, 1, 1],
+        0,
+        1,
+    );
+    join(
+        b"a sum that would wrap: ",
+        [0, 1, 2, 3],
+        [18446744073709551615, 1, 1, 1],
+        0,
+        1,
+    );
     words(b"a size above the length: ");
     read(&[0, 1, 2, 3], &[5, 1, 1, 1], 0);
-    words(b"a damaged walk and no such vertex: ");
-    join([0, 9, 2, 3], [1, 1, 1, 1], 1, 4);
+    join(
+        b"a damaged walk and no such vertex: ",
+        [0, 9, 2, 3],
+        [1, 1, 1, 1],
+        1,
+        4,
+    );
 }
 
 // A path of eighteen vertices: sixteen moves are a walk, seventeen are not.
@@ -128,7 +151,8 @@ fn unlike() {
 fn main() {
     worked();
     sound();
-    damaged();
+    damaged_walks();
+    damaged_sizes();
     path();
     unlike();
 }
