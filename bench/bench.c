@@ -142,7 +142,7 @@ static void measure(struct lists l, int with_lcc, int with_groups, int times) {
     size_t n = l.vertices, m = l.directed ? l.edges : 2 * l.edges;
     struct graph g = areas(n, m), p = areas(n, m);
     int64_t *result = room(n, 8), *right = room(n, 8), *claimed = room(n, 8);
-    size_t *a = room(n, 8), *b = room(n, 8), *c = room(n, 8), *x = room(n, 8), *y = room(n, 8), *z = room(n, 8);
+    size_t *a = room(n, 8), *b = room(n, 8), *c = room(n, 8), *x = room(n, 8), *y = room(n, 8);
     double engine, plain, sound, check, bfs;
     uint64_t said = 0;
 
@@ -158,32 +158,39 @@ static void measure(struct lists l, int with_lcc, int with_groups, int times) {
     same(g.in_sources, p.in_sources, m * 8, "inward sources");
     same(g.in_offsets, p.in_offsets, (n + 1) * 8, "inward offsets");
     row(l.name, "load", engine, plain);
+    void *second[] = {p.ids, p.out_offsets, p.out_targets, p.in_offsets, p.in_sources};
+    for (size_t i = 0; i < 5; i++) free(second[i]);
+    /* from here on both work on one graph and in the same areas, so that where these lie in memory favours neither */
+    p = g;
 
     /* a root that is not there is refused right behind the soundness check */
-    size_t root = far_reaching(&p, right, x);
-    BEST(bfs, TIMES(plain_bfs(&p, root, right, x)));
+    size_t root = far_reaching(&p, result, a);
+    BEST(bfs, TIMES(plain_bfs(&p, root, result, a)));
     BEST(sound, TIMES(trace_bfs(GRAPH(g, n, m), 1, result, n, a, n)));
-    BEST(check, TIMES(if (!plain_sound(&p, x)) exit(1)));
+    BEST(check, TIMES(if (!plain_sound(&p, a)) exit(1)));
     row(l.name, "soundness : plain bfs", sound, bfs);
     row(l.name, "soundness : plain check", sound, check);
 #define CHECKED(...)                   \
     do {                               \
-        if (!plain_sound(&p, x)) exit(1); \
+        if (!plain_sound(&p, a)) exit(1); \
         __VA_ARGS__;                   \
     } while (0)
-    BEST(plain, TIMES(CHECKED(plain_bfs(&p, root, right, x))));
+    BEST(plain, TIMES(CHECKED(plain_bfs(&p, root, result, a))));
+    memcpy(right, result, n * 8);
     BEST(engine, TIMES(trace_bfs(GRAPH(g, n, m), g.ids[root], result, n, a, n)));
     same(result, right, n * 8, "depths");
     row(l.name, "bfs core", engine - sound, plain - check);
     struct text depths = claim_of(&p, right);
 
-    BEST(plain, TIMES(CHECKED(plain_wcc(&p, right, x, y))));
+    BEST(plain, TIMES(CHECKED(plain_wcc(&p, result, a, b))));
+    memcpy(right, result, n * 8);
     BEST(engine, TIMES(trace_wcc(GRAPH(g, n, m), result, n, a, n, b, n)));
     same(result, right, n * 8, "components");
     row(l.name, "wcc core", engine - sound, plain - check);
     struct text groups = claim_of(&p, right);
 
-    BEST(plain, TIMES(CHECKED(plain_cdlp(&p, 10, right, x, y, z))));
+    BEST(plain, TIMES(CHECKED(plain_cdlp(&p, 10, result, a, b, c))));
+    memcpy(right, result, n * 8);
     BEST(engine, TIMES(trace_cdlp(GRAPH(g, n, m), 10, result, n, a, n, b, n, c, n)));
     same(result, right, n * 8, "labels");
     row(l.name, "cdlp 10 core", engine - sound, plain - check);
@@ -193,26 +200,28 @@ static void measure(struct lists l, int with_lcc, int with_groups, int times) {
     uint64_t verdict = 0;
     BEST(engine, TIMES(verdict |= JUDGE(1, g.ids[root], depths)));
     BEST(plain, TIMES({
-             CHECKED(plain_bfs(&p, root, right, x));
-             verdict |= plain_judge(&p, right, depths.bytes, depths.length);
+             CHECKED(plain_bfs(&p, root, result, a));
+             verdict |= plain_judge(&p, result, depths.bytes, depths.length);
          }));
     row(l.name, "verdict bfs", engine, plain);
     BEST(engine, TIMES(verdict |= JUDGE(3, 10, labels)));
     BEST(plain, TIMES({
-             CHECKED(plain_cdlp(&p, 10, right, x, y, z));
-             verdict |= plain_judge(&p, right, labels.bytes, labels.length);
+             CHECKED(plain_cdlp(&p, 10, result, a, b, c));
+             verdict |= plain_judge(&p, result, labels.bytes, labels.length);
          }));
     row(l.name, "verdict cdlp", engine, plain);
     if (with_groups) {
         BEST(engine, TIMES(verdict |= JUDGE(2, 0, groups)));
         BEST(plain, TIMES({
-                 CHECKED(plain_wcc(&p, right, x, y));
-                 verdict |= plain_judge_groups(&p, right, groups.bytes, groups.length, claimed);
+                 CHECKED(plain_wcc(&p, result, a, b));
+                 verdict |= plain_judge_groups(&p, result, groups.bytes, groups.length, claimed);
              }));
         row(l.name, "verdict wcc", engine, plain);
     }
     if (with_lcc) {
-        BEST(plain, TIMES(CHECKED(plain_lcc(&p, x, y, z))));
+        BEST(plain, TIMES(CHECKED(plain_lcc(&p, a, b, c))));
+        memcpy(x, a, n * 8);
+        memcpy(y, b, n * 8);
         BEST(engine, TIMES(trace_lcc(GRAPH(g, n, m), a, n, b, n, c, n)));
         same(a, x, n * 8, "numerators");
         same(b, y, n * 8, "denominators");
@@ -222,8 +231,8 @@ static void measure(struct lists l, int with_lcc, int with_groups, int times) {
             fractions.length += (size_t)sprintf((char *)fractions.bytes + fractions.length, "%" PRId64 " %.12f\n", p.ids[v], (double)x[v] / (double)y[v]);
         BEST(engine, TIMES(verdict |= JUDGE(4, 0, fractions)));
         BEST(plain, TIMES({
-                 CHECKED(plain_lcc(&p, x, y, z));
-                 verdict |= plain_judge_coefficients(&p, x, y, fractions.bytes, fractions.length);
+                 CHECKED(plain_lcc(&p, a, b, c));
+                 verdict |= plain_judge_coefficients(&p, a, b, fractions.bytes, fractions.length);
              }));
         row(l.name, "verdict lcc", engine, plain);
         free(fractions.bytes);
@@ -233,8 +242,8 @@ static void measure(struct lists l, int with_lcc, int with_groups, int times) {
         printf("a verdict is not a match: %" PRIu64 "\n", verdict);
         exit(1);
     }
-    void *all[] = {l.vertex_file.bytes, l.edge_file.bytes, g.ids, g.out_offsets, g.out_targets, g.in_offsets, g.in_sources, p.ids, p.out_offsets, p.out_targets, p.in_offsets,
-                   p.in_sources, result, right, claimed, a, b, c, x, y, z, depths.bytes, groups.bytes, labels.bytes};
+    void *all[] = {l.vertex_file.bytes, l.edge_file.bytes, g.ids, g.out_offsets, g.out_targets, g.in_offsets, g.in_sources, result, right, claimed, a, b, c, x, y, depths.bytes,
+                   groups.bytes, labels.bytes};
     for (size_t i = 0; i < sizeof all / sizeof *all; i++) free(all[i]);
 }
 
