@@ -14,9 +14,11 @@ column f s (suc n) = f s ∷ column f (suc s) n
 abbrev pub padWith : {A : Type 0} → A → ℕ → List A → List A
 padWith z size l = l ++ replicate (size - length l) z
 
+-- the same of whole numbers, with 0 behind them
 abbrev pub pad : ℕ → List ℕ → List ℕ
 pad size l = padWith 0 size l
 
+-- the same of signed numbers, with 0 behind them
 abbrev pub padZ : ℕ → List ℤ → List ℤ
 padZ size l = padWith (pos 0) size l
 
@@ -24,6 +26,7 @@ padZ size l = padWith (pos 0) size l
 abbrev pub cleared : List ℕ → List ℕ
 cleared l = replicate (length l) 0
 
+-- the same of an area of signed numbers
 abbrev pub clearedZ : List ℤ → List ℤ
 clearedZ l = replicate (length l) (pos 0)
 

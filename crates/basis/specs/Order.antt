@@ -15,10 +15,12 @@ sameZ (negsuc a) (negsuc b) = eqb a b
 
 -- each element is below the next one, by a test of two
 module _ {A : Type 0} (less : A → A → Bool) where
+  -- x is below the first of a list, and each of the list below the next one
   abbrev pub aboveBy : A → List A → Bool
   aboveBy x [] = true
   aboveBy x (y ∷ l) = less x y && aboveBy y l
 
+  -- "strictly rise", by that test: each of a list is below the next one
   abbrev pub risingBy : List A → Bool
   risingBy [] = true
   risingBy (x ∷ l) = aboveBy x l

@@ -63,12 +63,15 @@ unknownNumber = 12
 abbrev pub vertexFile : ℕ
 vertexFile = 1
 
+-- "2 edge", of the same sentence
 abbrev pub edgeFile : ℕ
 edgeFile = 2
 
+-- "3 claim"
 abbrev pub claimFile : ℕ
 claimFile = 3
 
+-- "4 sheet"
 abbrev pub sheetFile : ℕ
 sheetFile = 4
 

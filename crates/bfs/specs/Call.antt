@@ -20,6 +20,7 @@ pub record Outcome : Type 0 where
   pub depth : List ℤ
   pub queue : List ℕ
 
+-- the same, by its fields in order
 abbrev pub outcome : Said (Unit {0}) → List ℤ → List ℕ → Outcome
 outcome said depth queue = record { said = said; depth = depth; queue = queue }
 

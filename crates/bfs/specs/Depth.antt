@@ -10,6 +10,7 @@ use Rattle.basis.specs.Scan.{mem}
 abbrev pub infinity : ℕ
 infinity = 9223372036854775807
 
+-- the same as a signed number, the form of a depth in the result area
 abbrev pub unreachable : ℤ
 unreachable = pos infinity
 

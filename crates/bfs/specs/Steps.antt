@@ -34,9 +34,11 @@ pub record Board : Type 0 where
   pub queue : List ℕ
   pub tail : ℕ
 
+-- the same, by its fields in order
 abbrev pub board : List ℤ → List ℕ → ℕ → Board
 board depth queue tail = record { depth = depth; queue = queue; tail = tail }
 
+-- whether a depth is "Unreachable": its vertex has not been met
 abbrev pub isFar : ℤ → Bool
 isFar z = sameZ z unreachable
 

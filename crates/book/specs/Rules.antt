@@ -24,6 +24,7 @@ pub record Found : Type 0 where
   pub head : ℕ
   pub moves : ℕ
 
+-- the same, by its fields in order
 abbrev pub found : ℕ → ℕ → Found
 found h k = record { head = h; moves = k }
 
@@ -52,6 +53,7 @@ pub record Heads : Type 0 where
   pub first : ℕ
   pub second : ℕ
 
+-- the same, by its fields in order: the first vertex's head g, and the second's h
 abbrev pub heads : ℕ → ℕ → Heads
 heads g h = record { first = g; second = h }
 
@@ -156,6 +158,7 @@ pub record Done (A B : Type 0) : Type 0 where
   pub said : Said A
   pub area : B
 
+-- the same, by its fields in order
 abbrev pub done : {A B : Type 0} → Said A → B → Done A B
 done s a = record { said = s; area = a }
 

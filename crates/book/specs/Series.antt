@@ -34,6 +34,7 @@ pub record Slip : Type 0 where
   pub left : ℕ
   pub right : ℕ
 
+-- the same, by its fields in order: a join of u and v
 abbrev pub slip : ℕ → ℕ → Slip
 slip u v = record { left = u; right = v }
 
@@ -45,6 +46,7 @@ pub record State (B : Type 0) : Type 0 where
   pub slips : List Slip
   pub merges : ℕ
 
+-- the same, by its fields in order
 abbrev pub state : {B : Type 0} → B → Said (Unit {0}) → List Slip → ℕ → State B
 state a o js m = record { area = a; latest = o; slips = js; merges = m }
 
@@ -96,13 +98,16 @@ abbrev pub headIn : Said Found → ℕ
 headIn (gives f) = f .head
 headIn (refuses r) = 0
 
+-- the moves of a walk that was made, 0 of one that was refused
 abbrev pub movesIn : Said Found → ℕ
 movesIn (gives f) = f .moves
 movesIn (refuses r) = 0
 
+-- the head of v in areas that show w, by its walk; 0 where the walk is refused
 abbrev pub headAt : View → ℕ → ℕ
 headAt w v = headIn (walkFrom (w .next) (w .count) v)
 
+-- "the number of moves from parent to parent that reach it", from v in the same areas; 0 where the walk is refused
 abbrev pub movesAt : View → ℕ → ℕ
 movesAt w v = movesIn (walkFrom (w .next) (w .count) v)
 

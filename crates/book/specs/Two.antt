@@ -12,6 +12,7 @@ pub record Areas : Type 0 where
   pub parents : List ℕ
   pub sizes : List ℕ
 
+-- the same, by its fields in order
 abbrev pub areas : List ℕ → List ℕ → Areas
 areas ps ss = record { parents = ps; sizes = ss }
 

@@ -27,11 +27,13 @@ pub data Value : Type 0 where
   judges : Said Verdict → Value
   books : Areas → Said ℕ → Value
 
+-- an entry of the list: what the definitions compute, and what 01 says that it is
 pub record Case : Type 0 where
   pub computed : Value
   pub expected : Value
 
 infix 20 _is_
+-- the same, by its fields in order
 abbrev pub _is_ : Value → Value → Case
 computed is expected = record { computed = computed; expected = expected }
 
@@ -39,6 +41,7 @@ computed is expected = record { computed = computed; expected = expected }
 abbrev lentZ : List ℤ
 lentZ = replicate 5 (pos 0)
 
+-- the same of whole numbers
 abbrev lentN : List ℕ
 lentN = replicate 5 0
 
@@ -46,12 +49,15 @@ lentN = replicate 5 0
 abbrev bfsFrom : ℤ → Value
 bfsFrom root = let o = B.bfsCall sheetGraph root lentZ lentN in results (o .said) (o .depth)
 
+-- WCC: the answer, and the components' labels in the result area
 abbrev wccLabels : Value
 wccLabels = let o = W.wccCall sheetGraph lentZ lentN lentN in results (o .said) (o .result)
 
+-- CDLP of so many rounds: the answer, and the labels in the result area
 abbrev cdlpAfter : ℤ → Value
 cdlpAfter rounds = let o = C.cdlpCall sheetGraph rounds lentZ lentN lentN lentN in results (o .said) (o .result)
 
+-- LCC: the answer, and the numerators and denominators in the two result areas
 abbrev lccFractions : Value
 lccFractions = let o = L.lccCall sheetGraph lentN lentN lentN in fractions (o .said) (o .numerators) (o .denominators)
 
@@ -74,6 +80,7 @@ bookAfter calls =
 abbrev vertexOf : List ℕ → Value
 vertexOf file = reads (vertexLine file 0)
 
+-- "Prove cases P1 to P12 as one list": the list, of two entries each for P9, P10 and P11
 abbrev pub cases : List Case
 cases =
     -- P1 "`-9223372036854775808` reads": the number, and the place past the line
@@ -111,6 +118,7 @@ abbrev pub computeds : List Case → List Value
 computeds [] = []
 computeds (c ∷ l) = c .computed ∷ computeds l
 
+-- the second side: what 01 says of every entry
 abbrev pub expecteds : List Case → List Value
 expecteds [] = []
 expecteds (c ∷ l) = c .expected ∷ expecteds l

@@ -20,6 +20,7 @@ abbrev pub Promise : Ended → Type 1
 Promise f = (κs : Lfts (f .signature .lifetimes)) → Args (f .signature) κs → Res (f .signature) κs → AtExit f κs → Type 0
 
 module _ (f : Ended) (contract : Contract f) where
+  -- an `ensures` of f over every model: of the arguments, the ghost value that the contract speaks of, the answer and the arguments at exit
   abbrev Ensures : Type 2
   Ensures =
       (M : Type 1) (𝓤 : URA M) (H : Heap 𝓤) (A : Atoms 𝓤) (mem : Memory → SProp 𝓤) (run : Routine → Fun 𝓤)
@@ -29,6 +30,7 @@ module _ (f : Ended) (contract : Contract f) where
   abbrev pub ensured : Ensures
   ensured M 𝓤 H A mem run κs a g z e = contract M 𝓤 H A mem run κs a .ensures g z e
 
+  -- a plain promise P as an `ensures`: in every model, the fact that P holds, whatever the ghost value
   abbrev pub promised : Promise f → Ensures
   promised P M 𝓤 H A mem run κs a g z e = fact 𝓤 (P κs a z e)
 

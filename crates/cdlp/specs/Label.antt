@@ -4,10 +4,12 @@ use mathlib.Core.Bool.{Bool, true, false, cond}
 use mathlib.Core.List.{List, [], _∷_}
 use lib.Dec.{eqb, ltb}
 
+-- a test as a number to count with: 1 where it holds, else 0
 abbrev pub one : Bool → ℕ
 one true = 1
 one false = 0
 
+-- the larger of two numbers
 abbrev pub larger : ℕ → ℕ → ℕ
 larger a b = cond (ltb a b) b a
 

@@ -32,6 +32,7 @@ pub record Outcome : Type 0 where
   pub next : List ℕ
   pub counts : List ℕ
 
+-- the same, by its fields in order
 abbrev pub outcome : Said (Unit {0}) → List ℤ → List ℕ → List ℕ → List ℕ → Outcome
 outcome s R L N C = record { said = s; result = R; labels = L; next = N; counts = C }
 

@@ -18,6 +18,7 @@ use Rattle.cdlp.specs.declared.label.Best.{Best}
 abbrev pub Under : ℕ → List ℕ → Type 0
 Under k C = (i : ℕ) → getD C i 0 ≤ k
 
+-- the best so far, by its fields in order: label l, which stands there k times
 abbrev pub best : ℕ → ℕ → Best
 best l k = record { label = l; count = k }
 
@@ -30,6 +31,7 @@ pub record Tally : Type 0 where
   pub counts : List ℕ
   pub lead : Best
 
+-- the same, by its fields in order
 abbrev pub tally : List ℕ → Best → Tally
 tally C b = record { counts = C; lead = b }
 
@@ -37,6 +39,7 @@ tally C b = record { counts = C; lead = b }
 unfoldable pub counted : ℕ → Tally → Tally
 counted l S = tally (set (S .counts) l (getD (S .counts) l 0 + 1)) (leading (S .lead) l (getD (S .counts) l 0 + 1))
 
+-- the labels of a list, counted one after the other
 unfoldable pub countedAll : List ℕ → Tally → Tally
 countedAll [] S = S
 countedAll (l ∷ ls) S = countedAll ls (counted l S)
@@ -86,9 +89,11 @@ pub record Board (io is oo ot labels next counts : List ℕ) : Type 0 where
 abbrev pub near : ℕ → List ℕ → List ℕ → List ℕ → List ℕ → ℕ → List ℕ
 near n io is oo ot v = around (partOf n io is) (partOf n oo ot) v
 
+-- "Each round uses only the round before": one round from the labels L, over the inward offsets and sources and the outward offsets and targets
 abbrev pub nextNumbers : List ℕ → List ℕ → List ℕ → List ℕ → List ℕ → List ℕ
 nextNumbers io is oo ot L = oneRound eqb ltb 0 (near (length L) io is oo ot) (length L) L
 
+-- the same of k rounds from the labels L
 abbrev pub numbersAfter : List ℕ → List ℕ → List ℕ → List ℕ → List ℕ → ℕ → List ℕ
 numbersAfter io is oo ot L k = rounds eqb ltb 0 (near (length L) io is oo ot) (length L) L k
 
@@ -96,6 +101,7 @@ numbersAfter io is oo ot L k = rounds eqb ltb 0 (near (length L) io is oo ot) (l
 abbrev pub itself : ℕ → ℕ
 itself v = v
 
+-- these numbers as a list: the labels before the first round
 unfoldable pub upTo : ℕ → List ℕ
 upTo n = column itself 0 n
 
@@ -118,5 +124,6 @@ pub record Worked : Type 0 where
   pub next : List ℕ
   pub counts : List ℕ
 
+-- the same, by its fields in order
 abbrev pub worked : List ℕ → List ℕ → List ℕ → Worked
 worked L N C = record { labels = L; next = N; counts = C }

@@ -14,6 +14,7 @@ use Rattle.graph.specs.Part.{partOf}
 abbrev pub mostVertices : ℕ
 mostVertices = 65536
 
+-- "2,097,152 stored arcs", of the same sentence
 abbrev pub mostArcs : ℕ
 mostArcs = 2097152
 
@@ -36,6 +37,7 @@ lent size ids oo ot io is =
 abbrev pub outward : Graph → ℕ → List ℕ
 outward g v = partOf (g .vertices) (g .outOffsets) (g .outTargets) v
 
+-- the vertices whose arcs lead to v: its part of the sources
 abbrev pub inward : Graph → ℕ → List ℕ
 inward g v = partOf (g .vertices) (g .inOffsets) (g .inSources) v
 
@@ -47,6 +49,7 @@ names g = take (g .vertices) (g .ids)
 abbrev pub idsRise : ℕ → List ℤ → Bool
 idsRise n ids = leb n (length ids) && risingZ (take n ids)
 
+-- the same of a lent graph's identifiers
 unfoldable pub soundIds : Graph → Bool
 soundIds g = idsRise (g .vertices) (g .ids)
 
@@ -54,6 +57,7 @@ soundIds g = idsRise (g .vertices) (g .ids)
 abbrev pub neverFall : ℕ → List ℕ → Bool
 neverFall n off = every n (λ v. leb (getD off v 0) (getD off (v + 1) 0))
 
+-- the same sentence whole, of n vertices and m arcs: the offset at place 0 is 0, the one at place n is m, and none falls
 unfoldable pub soundOffsets : ℕ → ℕ → List ℕ → Bool
 soundOffsets n m off = eqb (getD off 0 0) 0 && eqb (getD off n 0) m && neverFall n off
 
@@ -65,6 +69,7 @@ other n v w = ltb w n && not (eqb w v)
 abbrev pub soundPart : ℕ → ℕ → List ℕ → Bool
 soundPart n v l = rising l && each (other n v) l
 
+-- the same of every vertex below n, by its part of a target area
 abbrev pub soundParts : ℕ → List ℕ → List ℕ → Bool
 soundParts n off tgt = every n (λ v. soundPart n v (partOf n off tgt v))
 

@@ -21,6 +21,7 @@ abbrev pub located : Found → Bool
 located (At i) = true
 located Missing = false
 
+-- whether the bisection of a list l for x, as whole numbers, ends at a place
 abbrev pub bisectFinds : List ℕ → ℕ → Bool
 bisectFinds l x = located (bisectBy ltb 0 l x)
 

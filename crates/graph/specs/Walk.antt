@@ -21,6 +21,7 @@ pub record Checked : Type 0 where
   pub sound : Bool
   pub cursors : List ℕ
 
+-- the same, by its fields in order
 abbrev pub checked : Bool → List ℕ → Checked
 checked sound cursors = record { sound = sound; cursors = cursors }
 

@@ -19,11 +19,14 @@ kernelSays sound given number room =
 abbrev pub bfsNumber : ℕ
 bfsNumber = 1
 
+-- "2 WCC", of the same sentence
 abbrev pub wccNumber : ℕ
 wccNumber = 2
 
+-- "3 CDLP"
 abbrev pub cdlpNumber : ℕ
 cdlpNumber = 3
 
+-- "4 LCC"
 abbrev pub lccNumber : ℕ
 lccNumber = 4
