@@ -14,12 +14,15 @@ slash = 47
 abbrev pub refusedWord : List ℕ
 refusedWord = 114 ∷ 101 ∷ 102 ∷ 117 ∷ 115 ∷ 101 ∷ 100 ∷ []
 
+-- one space and a number
 unfoldable pub spacedText : ℕ → List ℕ
 spacedText n = space ∷ decimal n
 
+-- "the three numbers, one space apart": number, file and line, with a space before each
 unfoldable pub numbersText : Refusal → List ℕ
 numbersText r = spacedText (r .number) ++ (spacedText (r .file) ++ spacedText (r .line))
 
+-- "prints one line, `refused` and the three numbers, one space apart": with its LF
 unfoldable pub refusedText : Refusal → List ℕ
 refusedText r = refusedWord ++ (numbersText r ++ (lf ∷ []))
 
@@ -31,12 +34,15 @@ headText line n = line ++ (decimal n ++ (lf ∷ []))
 unfoldable pub namedText : ℤ → List ℕ
 namedText id = signedText id ++ (space ∷ [])
 
+-- a vertex's line where the value is a whole number: identifier, one space, value, LF
 unfoldable pub pairText : ℤ → ℤ → List ℕ
 pairText id value = namedText id ++ (signedText value ++ (lf ∷ []))
 
+-- a coefficient, as in `1/2`: numerator, `/`, denominator
 unfoldable pub fractionText : ℕ → ℕ → List ℕ
 fractionText numerator denominator = decimal numerator ++ (slash ∷ decimal denominator)
 
+-- a vertex's line where the value is a coefficient: identifier, one space, coefficient, LF
 unfoldable pub ratioText : ℤ → ℕ → ℕ → List ℕ
 ratioText id numerator denominator = namedText id ++ (fractionText numerator denominator ++ (lf ∷ []))
 
@@ -46,6 +52,7 @@ pairLines [] values = []
 pairLines (id ∷ ids) [] = []
 pairLines (id ∷ ids) (v ∷ values) = pairText id v ++ pairLines ids values
 
+-- the same of coefficients, as far as all three lists go
 unfoldable pub ratioLines : List ℤ → List ℕ → List ℕ → List ℕ
 ratioLines [] numerators denominators = []
 ratioLines (id ∷ ids) [] denominators = []

@@ -23,6 +23,7 @@ pub record Vertexes : Type 0 where
   pub answer : Said ℕ
   pub ids : List ℤ
 
+-- the same, by its fields in order: the count of lines or the refusal, the area of identifiers
 abbrev pub vertexOutcome : Said ℕ → List ℤ → Vertexes
 vertexOutcome answer ids = record { answer = answer; ids = ids }
 
@@ -30,6 +31,7 @@ vertexOutcome answer ids = record { answer = answer; ids = ids }
 abbrev pub idsArea : ℕ → Said (List ℤ) → List ℤ
 idsArea size s = areaOf (pos 0) size (take size) s
 
+-- the reading of a vertex file of at most so many lines into an area of the given length
 abbrev pub vertexCall : ℕ → List ℕ → ℕ → Vertexes
 vertexCall most s size = vertexOutcome (said length (identifiers most s)) (idsArea size (identifiers most s))
 
@@ -39,6 +41,7 @@ pub record EdgesRead : Type 0 where
   pub counts : List ℕ
   pub targets : List ℕ
 
+-- the same, by its fields in order: the count of lines or the refusal, the edges counted at their first ends, their second ends
 abbrev pub edgeOutcome : Said ℕ → List ℕ → List ℕ → EdgesRead
 edgeOutcome answer counts targets = record { answer = answer; counts = counts; targets = targets }
 

@@ -25,6 +25,7 @@ identifiers most s = valuesOf vertexFile most vertexTest (linesOf vertexLine s)
 abbrev pub abovePair : ℤ × ℤ → ℤ × ℤ → Bool
 abovePair e f = ltZ (e .0) (f .0) || (sameZ (e .0) (f .0) && ltZ (e .1) (f .1))
 
+-- an edge line is above the one before it; the first line has none before it and passes
 abbrev pub isAbove : Before (ℤ × ℤ) → ℤ × ℤ → Bool
 isAbove first e = true
 isAbove (after d) e = abovePair d e
@@ -34,6 +35,7 @@ abbrev pub isThere : Found → Bool
 isThere (At k) = true
 isThere Missing = false
 
+-- the number of a vertex that was found; 0 where it is missing, and then its edge is refused
 abbrev pub numberOf : Found → ℕ
 numberOf (At k) = k
 numberOf Missing = 0
@@ -53,6 +55,7 @@ edgesOf both most place s = valuesOf edgeFile most (edgeTest both place) (linesO
 abbrev pub numbered : (ℤ → Found) → ℤ × ℤ → Arc
 numbered place e = (numberOf (place (e .0)), numberOf (place (e .1)))
 
+-- a list of edges, by the numbers of their vertices, in order
 abbrev pub allNumbered : (ℤ → Found) → List (ℤ × ℤ) → List Arc
 allNumbered place [] = []
 allNumbered place (e ∷ l) = numbered place e ∷ allNumbered place l

@@ -45,5 +45,6 @@ module _ {A : Type 0} (file most : ℕ) (test : Before A → A → ℕ) where
       unless (faultOf k before (good v)) file (k + 1) (said (λ vs. v ∷ vs) (valuesFrom (k + 1) (after v) ls))
   valuesFrom k before (bad n ∷ ls) = refuses (at (faultOf k before (bad n)) file (k + 1))
 
+  -- the same from the first line of a file on, which has none before it
   abbrev pub valuesOf : List (Line A) → Said (List A)
   valuesOf ls = valuesFrom 0 first ls

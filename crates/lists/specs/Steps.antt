@@ -40,6 +40,7 @@ module _ {A : Type 0} (file most : ℕ) (test : Before A → A → ℕ) where
   byFault k v next zero = more v next (k + 1)
   byFault k v next (suc n) = stop (refuses (at (suc n) file (k + 1)))
 
+  -- after k lines, by what is read next: a line's values or its fault, or the count k where no line is left
   abbrev pub stepBy : ℕ → Before A → LineSaid A → Step A
   stepBy k before (line v next) = byFault k v next (faultOf file most test k before (good v))
   stepBy k before (none p) = stop (gives k)
@@ -53,6 +54,7 @@ beforeBy k last = cond (ltb 0 k) (after last) first
 unfoldable pub vertexStep : List ℕ → ℕ → Vertices → Step ℤ
 vertexStep s most c = stepBy vertexFile most vertexTest (c .lines) (beforeBy (c .lines) (c .last)) (vertexLine s (c .at .at))
 
+-- the code's answer as a step: the identifier, the place past its line and the lines so far, or the end of the reading
 abbrev pub vertexStepSays : VertexStep → Step ℤ
 vertexStepSays (VS.More d) = more (d .last) (d .at .at) (d .lines)
 vertexStepSays (VS.Stop r) = stop (listedSays r)
@@ -61,6 +63,7 @@ vertexStepSays (VS.Stop r) = stop (listedSays r)
 abbrev pub idsInto : List ℤ → ℕ → List ℤ → ℕ × List ℤ
 idsInto area k ids = (k + length ids, sets area k ids)
 
+-- the code's answer and the area as it stands: the count with the area, or the refusal alone
 abbrev pub idsLeft : Listed → List ℤ → Said (ℕ × List ℤ)
 idsLeft (Lines n) area = gives (n, area)
 idsLeft (Refused r) area = refuses r
@@ -79,11 +82,13 @@ pub data Looked : Type 0 where
   found : Arc → Looked
   unknown : Looked
 
+-- an edge's vertices, by what was found of its first end and of its second
 abbrev pub lookedBy : Found → Found → Looked
 lookedBy (At u) (At v) = found (u, v)
 lookedBy (At u) Missing = unknown
 lookedBy Missing y = unknown
 
+-- an edge's vertices, by the code's answer
 abbrev pub endsSays : Ends → Looked
 endsSays (EN.Known u v) = found (u, v)
 endsSays EN.Unknown = unknown
@@ -93,9 +98,11 @@ abbrev pub withNumbers : (ℤ → Found) → Step (ℤ × ℤ) → Step ((ℤ ×
 withNumbers place (more e next k) = more (e, numbered place e) next k
 withNumbers place (stop r) = stop r
 
+-- one edge line more, read at the reader's place and tested after the edge that it passed last
 unfoldable pub edgeStep : Bool → ℕ → (ℤ → Found) → List ℕ → Edges → Step (ℤ × ℤ)
 edgeStep both most place s c = stepBy edgeFile most (edgeTest both place) (c .lines) (beforeBy (c .lines) (pairOf c)) (edgeLine s (c .at .at))
 
+-- the code's answer as a step: the edge by identifiers and by numbers, the place past its line and the lines so far, or the end of the reading
 abbrev pub edgeStepSays : EdgeStep → Step ((ℤ × ℤ) × Arc)
 edgeStepSays (ES.More u v d) = more (pairOf d, (u, v)) (d .at .at) (d .lines)
 edgeStepSays (ES.Stop r) = stop (listedSays r)
@@ -104,9 +111,11 @@ edgeStepSays (ES.Stop r) = stop (listedSays r)
 abbrev pub edgesInto : List ℕ → List ℕ → ℕ → List Arc → ℕ × List ℕ × List ℕ
 edgesInto counts targets k es = (k + length es, bumps counts es, sets targets k (seconds es))
 
+-- the same of edges by identifiers, whose vertices `place` finds
 abbrev pub numberedInto : (ℤ → Found) → List ℕ → List ℕ → ℕ → List (ℤ × ℤ) → ℕ × List ℕ × List ℕ
 numberedInto place counts targets k es = edgesInto counts targets k (allNumbered place es)
 
+-- the code's answer and the two areas as they stand: the count with the areas, or the refusal alone
 abbrev pub edgesLeft : Listed → List ℕ → List ℕ → Said (ℕ × List ℕ × List ℕ)
 edgesLeft (Lines n) counts targets = gives (n, counts, targets)
 edgesLeft (Refused r) counts targets = refuses r

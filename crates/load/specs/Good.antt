@@ -33,6 +33,7 @@ Says word [] (v ∷ vs) = ⊥
 Says word (w ∷ ws) [] = ⊥
 Says word (w ∷ ws) (v ∷ vs) = (mem lf w ≡ false) × (word w ≡ value v) × Says word ws vs
 
+-- a file is some lines, each "ended by one LF", that say the given values in order
 pub record FileSays {A : Type 0} (word : List ℕ → Word A) (s : List ℕ) (vs : List A) : Type 0 where
   pub words : List (List ℕ)
   pub whole : s ≡ joined words

@@ -76,9 +76,11 @@ pub record Outcome : Type 0 where
   pub inOffsets : List ℕ
   pub inSources : List ℕ
 
+-- the same, by its fields in order
 abbrev pub outcome : Said Size → List ℤ → List ℕ → List ℕ → List ℕ → List ℕ → Outcome
 outcome answer ids oo ot io is = record { answer = answer; ids = ids; outOffsets = oo; outTargets = ot; inOffsets = io; inSources = is }
 
+-- a `Room`, by its fields in order: identifiers, outward offsets and targets, inward offsets and sources
 abbrev pub roomOf : ℕ → ℕ → ℕ → ℕ → ℕ → Room
 roomOf ids oo ot io is = record { ids = ids; outOffsets = oo; outTargets = ot; inOffsets = io; inSources = is }
 

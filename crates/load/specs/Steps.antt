@@ -34,6 +34,7 @@ pub record Arranged : Type 0 where
   pub backOffsets : List ℕ
   pub backTargets : List ℕ
 
+-- the same, by its fields in order
 abbrev pub arranged : ℕ → List ℕ → List ℕ → List ℕ → List ℕ → Arranged
 arranged m o t b u = record { edges = m; offsets = o; targets = t; backOffsets = b; backTargets = u }
 
@@ -42,6 +43,7 @@ abbrev pub arrangedBy : Bool → ℕ → ℕ → ℕ → ℕ → ℕ → List Ar
 arrangedBy both n o t b u es =
     arranged (length es) (pad o (offsets es n)) (pad t (parts es n)) (pad b (offsets (inArcs both es) n)) (pad u (parts (inArcs both es) n))
 
+-- the answer of the storing and the four areas as they stand: the count of edges with the areas, or the refusal alone
 abbrev pub arrangedLeft : Listed → List ℕ → List ℕ → List ℕ → List ℕ → Said Arranged
 arrangedLeft (Lines m) o t b u = gives (arranged m o t b u)
 arrangedLeft (Refused r) o t b u = refuses r
@@ -60,6 +62,7 @@ pub record Filled : Type 0 where
   pub inOffsets : List ℕ
   pub inSources : List ℕ
 
+-- the same, by its fields in order
 abbrev pub filled : Size → List ℕ → List ℕ → List ℕ → List ℕ → Filled
 filled size oo ot io is = record { size = size; outOffsets = oo; outTargets = ot; inOffsets = io; inSources = is }
 
@@ -68,6 +71,7 @@ abbrev pub filledBy : ℕ → ℕ → ℕ → ℕ → ℕ → List Arc → Fille
 filledBy n oo ot io is l =
     filled (record { vertices = n; arcs = length l }) (pad oo (offsets l n)) (pad ot (parts l n)) (pad io (offsets (backward l) n)) (pad is (parts (backward l) n))
 
+-- the answer of the filling and the four areas as they stand: the size with the areas, or the refusal alone
 abbrev pub filledLeft : Loaded → List ℕ → List ℕ → List ℕ → List ℕ → Said Filled
 filledLeft (L.Graph size) oo ot io is = gives (filled size oo ot io is)
 filledLeft (L.Refused r) oo ot io is = refuses r
@@ -76,6 +80,7 @@ filledLeft (L.Refused r) oo ot io is = refuses r
 abbrev pub outcomeBy : Room → Lists → Outcome
 outcomeBy room g = outcomeOf room (gives g)
 
+-- a load's answer and the five areas as they stand: the outcome of a graph of that size, or the refusal alone
 abbrev pub outcomeLeft : Loaded → List ℤ → List ℕ → List ℕ → List ℕ → List ℕ → Said Outcome
 outcomeLeft (L.Graph size) ids oo ot io is = gives (outcome (gives size) ids oo ot io is)
 outcomeLeft (L.Refused r) ids oo ot io is = refuses r

@@ -17,6 +17,7 @@ pub record Outcome : Type 0 where
   pub said : Said Verdict
   pub claimed : List ℤ
 
+-- the same, by its fields in order
 abbrev pub outcome : Said Verdict → List ℤ → Outcome
 outcome said claimed = record { said = said; claimed = claimed }
 
@@ -32,6 +33,7 @@ numbersCall rule most ids reference s claimed =
 unfoldable pub nearWithin : Fraction → Decimal → Bool
 nearWithin r s = ltb (r .0) (2 ^ 32) && (ltb (r .1) (2 ^ 32) && near r s)
 
+-- the first line whose decimal is not near its fraction in this way, or at which one of the two lists has ended; 0 where there is none
 abbrev pub farWithin : List Fraction → List Decimal → ℕ
 farWithin reference claimed = firstLine nearWithin 1 reference claimed
 
@@ -39,9 +41,11 @@ farWithin reference claimed = firstLine nearWithin 1 reference claimed
 abbrev pub fractionAt : List ℕ → List ℕ → ℕ → Fraction
 fractionAt nums dens i = (getD nums i 0, getD dens i 0)
 
+-- the fractions at the first n places of two areas of numerators and denominators
 abbrev pub fractions : ℕ → List ℕ → List ℕ → List Fraction
 fractions n nums dens = column (fractionAt nums dens) 0 n
 
+-- 8, then the claim of at most so many lines: the first n fractions of the reference output are those of the n vertices
 unfoldable pub coefficientsSays : ℕ → List ℤ → List ℕ → List ℕ → List ℕ → Said Verdict
 coefficientsSays most ids nums dens s =
     check (leb (length ids) (length nums) && leb (length ids) (length dens)) noRoom

@@ -33,6 +33,7 @@ abbrev pub idsOf : {A : Type 0} → List (ℤ × A) → List ℤ
 idsOf [] = []
 idsOf (x ∷ l) = x .0 ∷ idsOf l
 
+-- the values alone, in the order of the lines
 abbrev pub valuesOf : {A : Type 0} → List (ℤ × A) → List A
 valuesOf [] = []
 valuesOf (x ∷ l) = x .1 ∷ valuesOf l

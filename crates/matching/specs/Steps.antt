@@ -22,11 +22,13 @@ use Rattle.matching.specs.Verdict.{Verdict, incompleteLine, mismatchLine
 unfoldable pub orderOf : ℕ → ℕ → Order
 orderOf x y = cond (ltb x y) Less (cond (eqb x y) Equal Greater)
 
+-- the order of x to y says that x is below y
 abbrev pub isLess : Order → Bool
 isLess Less = true
 isLess Equal = false
 isLess Greater = false
 
+-- the order of x to y says that x is above y
 abbrev pub isGreater : Order → Bool
 isGreater Less = false
 isGreater Equal = false
@@ -41,9 +43,11 @@ orElse (suc k) l = suc k
 abbrev pub placeLine : ℕ → ℕ → Bool → ℕ
 placeLine n k t = cond (ltb k n) (cond t 0 (k + 1)) (k + 1)
 
+-- the first incomplete line once the line after k others has named id: one found before, or this where id isn't the graph's at that place or there is no such place
 unfoldable pub coverStep : List ℤ → ℕ → ℤ → ℕ → ℕ
 coverStep ids k id incomplete = orElse incomplete (placeLine (length ids) k (sameZ (getD ids k (pos 0)) id))
 
+-- the first mismatch once the line after k others, of n, has claimed s: one found before, or this where s is not near its fraction or the line is surplus
 unfoldable pub nearStep : ℕ → List ℕ → List ℕ → ℕ → Decimal → ℕ → ℕ
 nearStep n nums dens k s mismatch = orElse mismatch (placeLine n k (nearWithin (fractionAt nums dens k) s))
 
@@ -58,6 +62,7 @@ pub record WholeOf (most : ℕ) (ids : List ℤ) (s : List ℕ) (claimed : List 
   pub first : incomplete ≡ incompleteLine ids (idsOf lines)
   pub values : incomplete ≡ 0 → take (length ids) claimed ≡ valuesOf lines
 
+-- what the code's answer tells of a claim: it was read whole, with its first incomplete line or 0, or its first fault is this refusal
 abbrev pub ReadAs : ℕ → List ℤ → List ℕ → List ℤ → Read → Type 0
 ReadAs most ids s claimed (Lines incomplete) = WholeOf most ids s claimed incomplete
 ReadAs most ids s claimed (Fault r) = numberLines most s ≡ refuses r

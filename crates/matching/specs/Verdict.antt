@@ -81,9 +81,11 @@ unlikeLine labels claims = failingLine (agrees labels claims) (length labels) 0
 abbrev pub Fraction : Type 0
 Fraction = ℕ × ℕ
 
+-- "10,000 times |r-s| at most r", with r as numerator and denominator
 abbrev pub near : Fraction → Decimal → Bool
 near r s = isClose (r .0) (r .1) s
 
+-- the first line whose decimal does not match its fraction, or at which one of the two lists has ended; 0 where there is none
 abbrev pub farLine : List Fraction → List Decimal → ℕ
 farLine reference claimed = firstLine near 1 reference claimed
 

@@ -15,12 +15,15 @@ use Rattle.plan.specs.declared.job.JobLine.the-variants as JL
 abbrev pub bfsWord : List ℕ
 bfsWord = 98 ∷ 102 ∷ 115 ∷ 32 ∷ []
 
+-- `cdlp `, five bytes with its space
 abbrev pub cdlpWord : List ℕ
 cdlpWord = 99 ∷ 100 ∷ 108 ∷ 112 ∷ 32 ∷ []
 
+-- `wcc`, a whole line without its LF
 abbrev pub wccWord : List ℕ
 wccWord = 119 ∷ 99 ∷ 99 ∷ []
 
+-- `lcc`, a whole line without its LF
 abbrev pub lccWord : List ℕ
 lccWord = 108 ∷ 99 ∷ 99 ∷ []
 

@@ -14,6 +14,7 @@ unfoldable pub lfs : List ℕ → ℕ
 lfs [] = 0
 lfs (b ∷ l) = elim (eqb b lf) [ true ↦ suc (lfs l) | false ↦ lfs l ]
 
+-- the number of the line in which a place of a sheet stands
 abbrev pub lineNumber : List ℕ → ℕ → ℕ
 lineNumber s place = 1 + lfs (take place s)
 

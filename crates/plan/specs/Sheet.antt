@@ -25,12 +25,15 @@ use Rattle.plan.specs.declared.sections.Section.the-variants as S
 abbrev pub mostVertices : ℕ
 mostVertices = 1024
 
+-- "2,048 edges"
 abbrev pub mostEdges : ℕ
 mostEdges = 2048
 
+-- "16 jobs"
 abbrev pub mostJobs : ℕ
 mostJobs = 16
 
+-- "a sheet of 65,536 bytes"
 abbrev pub mostBytes : ℕ
 mostBytes = 65536
 
@@ -38,6 +41,7 @@ mostBytes = 65536
 abbrev pub directedWord : List ℕ
 directedWord = 100 ∷ 105 ∷ 114 ∷ 101 ∷ 99 ∷ 116 ∷ 101 ∷ 100 ∷ []
 
+-- `un` and then `directed`
 abbrev pub undirectedWord : List ℕ
 undirectedWord = 117 ∷ 110 ∷ directedWord
 
@@ -45,6 +49,7 @@ undirectedWord = 117 ∷ 110 ∷ directedWord
 unfoldable pub modeOf : List ℕ → Word Bool
 modeOf bs = cond (isWord directedWord bs) (value true) (cond (isWord undirectedWord bs) (value false) malformed)
 
+-- the first line of a sheet: whether the graph is directed, with the place past the line
 abbrev pub modeLine : List ℕ → Said (Bool × ℕ)
 modeLine s = sheetLine modeOf s 0
 
@@ -52,6 +57,7 @@ modeLine s = sheetLine modeOf s 0
 abbrev pub limited : ℕ → List ℕ → ℕ → ℕ × ℕ → Said (ℕ × ℕ)
 limited limit s place c = cond (leb (c .0) limit) (gives c) (refuses (sheetFault s place tooMany))
 
+-- the count line at a place: "Bad form is 2", and then the limit
 unfoldable pub countLine : ℕ → List ℕ → ℕ → Said (ℕ × ℕ)
 countLine limit s place = onward (sheetLine countOf s place) (limited limit s place)
 
@@ -63,6 +69,7 @@ anyOf bs = value tt
 abbrev pub nextOf : {A : Type 0} → Said (A × ℕ) → Said ℕ
 nextOf x = said (λ v. v .1) x
 
+-- the place past the line at a place: a job's line where the first argument is true, else any line that is ended
 abbrev pub linePast : Bool → List ℕ → ℕ → Said ℕ
 linePast true s place = nextOf (sheetLine jobOf s place)
 linePast false s place = nextOf (sheetLine anyOf s place)
@@ -72,6 +79,7 @@ unfoldable pub linesPast : Bool → ℕ → List ℕ → ℕ → Said ℕ
 linesPast jobs zero s place = gives place
 linesPast jobs (suc more) s place = elim (linePast jobs s place) [ gives next ↦ linesPast jobs more s next | refuses r ↦ refuses r ]
 
+-- a `Block`, by its fields in order: how many lines, where they begin, the place past them
 abbrev pub block : ℕ → ℕ → ℕ → Block
 block count from to = record { count = count; from = from; to = to }
 
@@ -79,9 +87,11 @@ block count from to = record { count = count; from = from; to = to }
 abbrev pub linesOf : Bool → List ℕ → ℕ × ℕ → Said Block
 linesOf jobs s c = said (block (c .0) (c .1)) (linesPast jobs (c .0) s (c .1))
 
+-- "each after its count line": the section at a place, of jobs or of any lines, with the limit of its count
 unfoldable pub section : Bool → ℕ → List ℕ → ℕ → Said Block
 section jobs limit s place = onward (countLine limit s place) (linesOf jobs s)
 
+-- a `Plan`, by its fields in order: whether directed, and the three sections
 abbrev pub plan : Bool → Block → Block → Block → Plan
 plan directed vertices edges jobs = record { directed = directed; vertices = vertices; edges = edges; jobs = jobs }
 
@@ -107,18 +117,22 @@ abbrev pub checkedSays : Checked → Said Plan
 checkedSays (Ch.Refused r) = refuses r
 checkedSays (Ch.Good p) = gives p
 
+-- of the first line: whether directed, and the place past it
 abbrev pub modeSays : Mode → Said (Bool × ℕ)
 modeSays (M.Refused r) = refuses r
 modeSays (M.Directed d next) = gives (d, next)
 
+-- of a count line: the count, and the place past it
 abbrev pub countLineSays : CountLine → Said (ℕ × ℕ)
 countLineSays (C.Refused r) = refuses r
 countLineSays (C.Count n next) = gives (n, next)
 
+-- of one line or of a section's lines: the place past them
 abbrev pub pastSays : Past → Said ℕ
 pastSays (P.Refused r) = refuses r
 pastSays (P.Next next) = gives next
 
+-- of a section: how many lines, where they begin, the place past them
 abbrev pub sectionSays : Section → Said Block
 sectionSays (S.Refused r) = refuses r
 sectionSays (S.Lines b) = gives b
