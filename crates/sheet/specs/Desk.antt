@@ -19,6 +19,7 @@ use Rattle.sheet.specs.Jobs.{between, jobsText}
 abbrev pub deskLimits : Limits
 deskLimits = record { vertices = mostVertices; edges = mostEdges }
 
+-- the places in those areas: 1,024 identifiers, then 1,025 offsets and 4,096 arcs outward, then as many inward
 abbrev pub deskRoom : Room
 deskRoom = roomOf 1024 1025 4096 1025 4096
 
@@ -44,6 +45,7 @@ loadText s p o (gives size) =
     jobsText (graphIn size (o .ids) (o .outOffsets) (o .outTargets) (o .inOffsets) (o .inSources)) s (p .jobs .count) (p .jobs .from)
 loadText s p o (refuses r) = refusedText r
 
+-- what a good sheet prints: its plan's sections are loaded into areas of the desk's size, and the load's answer decides
 unfoldable pub planText : List ℕ → Plan → List ℕ
 planText s p = loadText s p (loadOf s p deskRoom) (loadOf s p deskRoom .answer)
 
@@ -52,5 +54,6 @@ abbrev pub checkedText : List ℕ → Said Plan → List ℕ
 checkedText s (gives p) = planText s p
 checkedText s (refuses r) = refusedText r
 
+-- the whole output for the bytes of a sheet, by what its check says
 unfoldable pub deskOutput : List ℕ → List ℕ
 deskOutput s = checkedText s (checked s)

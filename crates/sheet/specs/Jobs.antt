@@ -19,6 +19,7 @@ use Rattle.listing.specs.Listing.{refusedText, headText, pairLines, ratioLines}
 abbrev pub zeros : List ℕ
 zeros = replicate mostVertices 0
 
+-- the same area of signed numbers, for the results of BFS, WCC and CDLP
 abbrev pub zerosZ : List ℤ
 zerosZ = replicate mostVertices (pos 0)
 
@@ -31,17 +32,21 @@ answered n line (refuses r) listing = refusedText r
 unfoldable pub bfsText : Graph → ℤ → List ℕ → List ℕ
 bfsText g root line = let call = bfsCall g root zerosZ zeros in answered (g .vertices) line (call .said) (pairLines (g .ids) (call .depth))
 
+-- `wcc`: identifier and label of each vertex
 unfoldable pub wccText : Graph → List ℕ → List ℕ
 wccText g line = let call = wccCall g zerosZ zeros zeros in answered (g .vertices) line (call .said) (pairLines (g .ids) (call .result))
 
+-- `cdlp N`, with N its iterations: identifier and label of each vertex
 unfoldable pub cdlpText : Graph → ℤ → List ℕ → List ℕ
 cdlpText g iterations line =
     let call = cdlpCall g iterations zerosZ zeros zeros zeros in answered (g .vertices) line (call .said) (pairLines (g .ids) (call .result))
 
+-- `lcc`: identifier and fraction of each vertex, from the two result areas
 unfoldable pub lccText : Graph → List ℕ → List ℕ
 lccText g line =
     let call = lccCall g zeros zeros zeros in answered (g .vertices) line (call .said) (ratioLines (g .ids) (call .numerators) (call .denominators))
 
+-- "Jobs are `bfs ID`, `wcc`, `cdlp N`, `lcc`": what one of them prints on a graph, with the bytes of its line
 abbrev pub jobText : Graph → List ℕ → Job → List ℕ
 jobText g line (Bfs root) = bfsText g root line
 jobText g line Wcc = wccText g line

@@ -59,5 +59,6 @@ partsOf s w p f n = cond (wholeIsGood s w && (leb p (w + f) && leb (w + f) digit
 unfoldable pub fractionOf : List ℕ → ℕ → ℕ → Word Decimal
 fractionOf s w p = partsOf s w p (runLen (drop p s)) (runVal (runVal 0 s) (drop p s))
 
+-- "For LCC it is a plain or scientific decimal": what the bytes of a whole word say as one
 unfoldable pub decimalOf : List ℕ → Word Decimal
 decimalOf s = fractionOf s (runLen s) (pastPoint s (runLen s))

@@ -23,9 +23,11 @@ pub data LineSaid (A : Type 0) : Type 0 where
   none : ℕ → LineSaid A
   fault : ℕ → ℕ → LineSaid A
 
+-- "A line is ended by one LF": its byte
 abbrev pub lf : ℕ
 lf = 10
 
+-- "with one space between": its byte
 abbrev pub space : ℕ
 space = 32
 
@@ -34,6 +36,7 @@ abbrev pub upTo : ℕ → List ℕ → List ℕ
 upTo c [] = []
 upTo c (b ∷ l) = elim (eqb c b) [ true ↦ [] | false ↦ b ∷ upTo c l ]
 
+-- the bytes after the first c; none where there is no c
 abbrev pub past : ℕ → List ℕ → List ℕ
 past c [] = []
 past c (b ∷ l) = elim (eqb c b) [ true ↦ l | false ↦ past c l ]
@@ -86,11 +89,13 @@ vertexSays (VL.End k) = none (k .at)
 vertexSays (VL.Fault n k) = fault n (k .at)
 vertexSays (VL.Line z k) = line z (k .at)
 
+-- the same for an edge line, and a claim line of its form: the two numbers and the place past the line
 abbrev pub edgeSays : EdgeLine → LineSaid (ℤ × ℤ)
 edgeSays (EL.End k) = none (k .at)
 edgeSays (EL.Fault n k) = fault n (k .at)
 edgeSays (EL.Line u v k) = line (u, v) (k .at)
 
+-- the same for a line of an LCC claim: the identifier, the decimal and the place past the line
 abbrev pub coefficientSays : CoefficientLine → LineSaid (ℤ × Decimal)
 coefficientSays (CL.End k) = none (k .at)
 coefficientSays (CL.Fault n k) = fault n (k .at)

@@ -24,9 +24,11 @@ pub record Scanned (A : Type 0) : Type 0 where
   pub said : Word A
   pub next : ℕ
 
+-- the same, by its fields in order
 abbrev pub scanned : {A : Type 0} → Word A → ℕ → Scanned A
 scanned said next = record { said = said; next = next }
 
+-- a word has the right form, in range or not
 abbrev pub wellFormed : {A : Type 0} → Word A → Bool
 wellFormed malformed = false
 wellFormed outside = true
@@ -56,9 +58,11 @@ cutWord malformed = malformed
 cutWord outside = outside
 cutWord (value n) = value (capped n)
 
+-- a scanned count, cut down; its place stays
 abbrev pub saturated : Scanned ℕ → Scanned ℕ
 saturated x = scanned (cutWord (x .said)) (x .next)
 
+-- "a definition that gives this paper's number and values for each of its cases": the code's count
 abbrev pub countSays : Counted → Scanned ℕ
 countSays (C.Bad p) = scanned malformed p
 countSays (C.Value n p) = scanned (value n) p
@@ -67,9 +71,11 @@ countSays (C.Value n p) = scanned (value n) p
 abbrev pub rangedAt : Bool → ℕ → ℕ → Scanned ℤ
 rangedAt negative n next = scanned (rangedOf negative n) next
 
+-- a scanned count as a signed number, after a `-` or not
 abbrev pub signedAt : Bool → Scanned ℕ → Scanned ℤ
 signedAt negative x = scanned (signedOf negative (x .said)) (x .next)
 
+-- "An identifier is `0`, or an optional `-`, a digit 1 to 9 and more digits.": from a place on; `-0` can't go on at its `0`
 unfoldable pub identAt : List ℕ → ℕ → Scanned ℤ
 identAt s at =
     cond (hasAt s at 45)
@@ -81,9 +87,11 @@ abbrev pub closed : {A : Type 0} → List ℕ → ℕ → Scanned A → Scanned 
 closed s c x =
     cond (wellFormed (x .said)) (cond (hasAt s (x .next) c) (scanned (x .said) (x .next + 1)) (scanned malformed (x .next))) x
 
+-- the identifier at a place, if the byte c follows it
 unfoldable pub fieldAt : List ℕ → ℕ → ℕ → Scanned ℤ
 fieldAt s at c = closed s c (identAt s at)
 
+-- the code's scan of an identifier or a field, by its cases
 abbrev pub scanSays : Scan → Scanned ℤ
 scanSays (S.Bad p) = scanned malformed p
 scanSays (S.Outside p) = scanned outside p
@@ -93,12 +101,15 @@ scanSays (S.Value z p) = scanned (value z) p
 abbrev pub lineFrom : List ℕ → ℕ → List ℕ
 lineFrom s at = upTo lf (drop at s)
 
+-- what those bytes say as a decimal, and the place where it breaks off, or the end of the line
 unfoldable pub decimalAt : List ℕ → ℕ → Scanned Decimal
 decimalAt s at = scanned (decimalOf (lineFrom s at)) (at + decimalStop (lineFrom s at))
 
+-- the same, if LF follows: then with the place past LF
 unfoldable pub restAt : List ℕ → ℕ → Scanned Decimal
 restAt s at = closed s lf (decimalAt s at)
 
+-- the code's answer for the rest of an LCC claim's line, by its cases
 abbrev pub restSays : Rest → Scanned Decimal
 restSays (R.Bad p) = scanned malformed p
 restSays (R.Value d p) = scanned (value d) p

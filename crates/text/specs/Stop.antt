@@ -36,6 +36,7 @@ partsStop s w p f =
     (cond (ltb digitLimit (w + f)) (p + (digitLimit - w)) (powerStop s (p + f)))))
     1)
 
+-- the same with all digits that stand from p on as those after the point
 unfoldable pub fractionStop : List ℕ → ℕ → ℕ → ℕ
 fractionStop s w p = partsStop s w p (runLen (drop p s))
 
@@ -56,6 +57,7 @@ powerWord (up k) stop = P.Up k
 powerWord (down k) stop = P.Down k
 powerWord wrong stop = P.Wrong stop
 
+-- the same for a decimal, which is never out of range
 abbrev pub decimalWord : Word Decimal → ℕ → DecimalWord
 decimalWord malformed stop = DW.Bad stop
 decimalWord outside stop = DW.Bad stop

@@ -15,6 +15,7 @@ pub data Word (A : Type 0) : Type 0 where
 unfoldable pub within : ℕ → ℕ → ℕ → Bool
 within lo hi b = leb lo b && leb b hi
 
+-- a byte is a digit, `0` to `9`
 abbrev pub isDigit : ℕ → Bool
 isDigit b = within 48 57 b
 
@@ -37,10 +38,12 @@ abbrev pub zeroOf : List ℕ → Word ℕ
 zeroOf [] = value 0
 zeroOf (b ∷ bs) = malformed
 
+-- the same of a whole word; zeroOf is for what follows a `0` at its front
 abbrev pub countOf : List ℕ → Word ℕ
 countOf [] = malformed
 countOf (b ∷ bs) = cond (eqb b 48) (zeroOf bs) (cond (within 49 57 b && each isDigit bs) (value (runVal 0 (b ∷ bs))) malformed)
 
+-- the number -n
 abbrev pub minusOf : ℕ → ℤ
 minusOf n = negℤ (pos n)
 
@@ -49,6 +52,7 @@ abbrev pub rangedOf : Bool → ℕ → Word ℤ
 rangedOf true n = cond (leb n (2 ^ 63)) (value (minusOf n)) outside
 rangedOf false n = cond (leb n (2 ^ 63 - 1)) (value (pos n)) outside
 
+-- the same of a word that says a count, after a `-` or not; a wrong form stays one
 abbrev pub signedOf : Bool → Word ℕ → Word ℤ
 signedOf negative malformed = malformed
 signedOf negative outside = outside

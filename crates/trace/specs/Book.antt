@@ -30,6 +30,7 @@ pub record BookTold : Type 0 where
   pub parents : List ℕ
   pub sizes : List ℕ
 
+-- the same, by its fields in order
 abbrev pub bookTold : ℕ → List ℕ → List ℕ → BookTold
 bookTold answer parents sizes = record { answer = answer; parents = parents; sizes = sizes }
 

@@ -17,9 +17,11 @@ coded (refuses r) value = placed r
 abbrev pub numberIn : ℕ → ℕ
 numberIn code = code / 1000000000000000
 
+-- the file number, the one digit above the line's 14
 abbrev pub fileIn : ℕ → ℕ
 fileIn code = code / 100000000000000 % 10
 
+-- the line, or the values: the last 14 digits
 abbrev pub lineIn : ℕ → ℕ
 lineIn code = code % 100000000000000
 
@@ -31,15 +33,19 @@ wide = 100000000000000
 abbrev pub narrow : ℕ
 narrow = 100000
 
+-- "The answer is number × 1,000,000 + file × 100,000 + line."
 abbrev pub hostCode : Refusal → ℕ
 hostCode r = r .number * 1000000 + r .file * 100000 + r .line
 
+-- the number in that answer, as a host takes it out again
 abbrev pub hostNumberIn : ℕ → ℕ
 hostNumberIn code = code / 1000000
 
+-- the file number in it, the one digit above the line's five
 abbrev pub hostFileIn : ℕ → ℕ
 hostFileIn code = code / 100000 % 10
 
+-- the line in it, the last five digits
 abbrev pub hostLineIn : ℕ → ℕ
 hostLineIn code = code % 100000
 

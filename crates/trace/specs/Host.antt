@@ -22,6 +22,7 @@ use Rattle.trace.specs.Verdict.{threeOf}
 abbrev pub desk : Limits
 desk = record { vertices = 1024; edges = 2048 }
 
+-- the last of these three: how many lines a claim may have
 abbrev pub deskLines : ℕ
 deskLines = 1024
 
@@ -49,6 +50,7 @@ graphOf l =
 abbrev pub isKernel : ℕ → Bool
 isKernel kernel = leb 1 kernel && leb kernel 4
 
+-- "mode (0 undirected, 1 directed)": both numbers are known
 unfoldable pub isKnown : ℕ → ℕ → Bool
 isKnown mode kernel = leb mode 1 && isKernel kernel
 

@@ -19,9 +19,11 @@ pub record BfsTold : Type 0 where
   pub depth : List ℤ
   pub queue : List ℕ
 
+-- the same, by its fields in order
 abbrev pub bfsTold : ℕ → List ℤ → List ℕ → BfsTold
 bfsTold answer depth queue = record { answer = answer; depth = depth; queue = queue }
 
+-- what a BFS call tells by its outcome: 0 or its refusal as a number, and the areas as they stand
 unfoldable pub bfsTells : Bfs.Outcome → BfsTold
 bfsTells o = bfsTold (coded (o .said) nothing) (o .depth) (o .queue)
 
@@ -32,9 +34,11 @@ pub record WccTold : Type 0 where
   pub parents : List ℕ
   pub sizes : List ℕ
 
+-- the same, by its fields in order
 abbrev pub wccTold : ℕ → List ℤ → List ℕ → List ℕ → WccTold
 wccTold answer result parents sizes = record { answer = answer; result = result; parents = parents; sizes = sizes }
 
+-- what a WCC call tells by its outcome: 0 or its refusal, the result area, and the two working areas of its book
 unfoldable pub wccTells : Wcc.Outcome → WccTold
 wccTells o = wccTold (coded (o .said) nothing) (o .result) (o .parents) (o .sizes)
 
@@ -46,10 +50,12 @@ pub record CdlpTold : Type 0 where
   pub next : List ℕ
   pub counts : List ℕ
 
+-- the same, by its fields in order
 abbrev pub cdlpTold : ℕ → List ℤ → List ℕ → List ℕ → List ℕ → CdlpTold
 cdlpTold answer result labels next counts =
     record { answer = answer; result = result; labels = labels; next = next; counts = counts }
 
+-- what a CDLP call tells by its outcome: 0 or its refusal, the result area, and the three working areas
 unfoldable pub cdlpTells : Cdlp.Outcome → CdlpTold
 cdlpTells o = cdlpTold (coded (o .said) nothing) (o .result) (o .labels) (o .next) (o .counts)
 
@@ -60,9 +66,11 @@ pub record LccTold : Type 0 where
   pub denominators : List ℕ
   pub work : List ℕ
 
+-- the same, by its fields in order
 abbrev pub lccTold : ℕ → List ℕ → List ℕ → List ℕ → LccTold
 lccTold answer numerators denominators work =
     record { answer = answer; numerators = numerators; denominators = denominators; work = work }
 
+-- what an LCC call tells by its outcome: 0 or its refusal, the two result areas, and the working area
 unfoldable pub lccTells : Lcc.Outcome → LccTold
 lccTells o = lccTold (coded (o .said) nothing) (o .numerators) (o .denominators) (o .work)

@@ -19,8 +19,10 @@ pub record LoadTold : Type 0 where
   pub inOffsets : List ℕ
   pub inSources : List ℕ
 
+-- the same, by its fields in order
 abbrev pub loadTold : ℕ → List ℤ → List ℕ → List ℕ → List ℕ → List ℕ → LoadTold
 loadTold answer ids oo ot io is = record { answer = answer; ids = ids; outOffsets = oo; outTargets = ot; inOffsets = io; inSources = is }
 
+-- what a load tells by its outcome: the two counts or its refusal as a number, and the areas as they stand
 unfoldable pub loadTells : Outcome → LoadTold
 loadTells o = loadTold (coded (o .answer) loadValue) (o .ids) (o .outOffsets) (o .outTargets) (o .inOffsets) (o .inSources)

@@ -14,6 +14,7 @@ use Rattle.trace.specs.Host.{deskLines}
 abbrev pub deskRoom : Room
 deskRoom = roomOf 1024 1025 4096 1025 4096
 
+-- what is said of a claim on a graph by a kernel and its parameter, where five areas of 1,024 zeros are lent, two of them for signed numbers
 unfoldable pub deskJudged : Graph → ℕ → ℤ → List ℕ → Said Verdict
 deskJudged g kernel parameter claim =
     let z = replicate 1024 (pos 0) in

@@ -22,9 +22,11 @@ pub record JudgeTold : Type 0 where
   pub second : List ℕ
   pub third : List ℕ
 
+-- the same, by its fields in order
 abbrev pub judgeTold : ℕ → List ℤ → List ℤ → List ℕ → List ℕ → List ℕ → JudgeTold
 judgeTold answer result claimed first second third =
     record { answer = answer; result = result; claimed = claimed; first = first; second = second; third = third }
 
+-- what a verdict tells by its outcome: its three numbers, or a refusal's, as one, and the areas as they stand
 unfoldable pub judgeTells : Outcome → JudgeTold
 judgeTells o = judgeTold (placed (threeOf (o .said))) (o .result) (o .claimed) (o .first) (o .second) (o .third)

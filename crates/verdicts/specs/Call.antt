@@ -25,6 +25,7 @@ pub record Outcome : Type 0 where
   pub second : List ℕ
   pub third : List ℕ
 
+-- the same, by its fields in order
 abbrev pub outcome : Said Verdict → List ℤ → List ℤ → List ℕ → List ℕ → List ℕ → Outcome
 outcome said R C F S T = record { said = said; result = R; claimed = C; first = F; second = S; third = T }
 
@@ -46,9 +47,11 @@ unfoldable pub leftBy : Reference → Said Verdict → List ℤ → List ℤ →
 leftBy k said R C F S T =
     outcome said (leaves said (pos 0) (length R) (k .values)) (clearedZ C) (leaves said 0 (length F) (k .numerators)) (leaves said 0 (length S) (k .denominators)) (cleared T)
 
+-- the call for a known kernel: what is said of the graph, the areas and the claim, and what that leaves in the areas
 unfoldable pub callOn : Reference → Graph → List ℤ → List ℤ → List ℕ → List ℕ → List ℕ → Outcome
 callOn k g R C F S T = leftBy k (verdictSays k (soundGraph g) (roomFor (g .vertices) R C F S T)) R C F S T
 
+-- "a mode or kernel number is unknown": refusal 12, and zero in all five areas
 unfoldable pub unknownCall : List ℤ → List ℤ → List ℕ → List ℕ → List ℕ → Outcome
 unknownCall R C F S T = outcome (refuses (plain unknownNumber)) (clearedZ R) (clearedZ C) (cleared F) (cleared S) (cleared T)
 

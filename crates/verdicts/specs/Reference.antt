@@ -28,6 +28,7 @@ pub record Reference : Type 0 where
 abbrev pub coefficientAt : Graph → ℕ → Fraction
 coefficientAt g v = (numerator (g .vertices) (outward g) (inward g) v, denominator (g .vertices) (outward g) (inward g) v)
 
+-- those of all vertices, in vertex order
 abbrev pub coefficients : Graph → List Fraction
 coefficients g = column (coefficientAt g) 0 (g .vertices)
 
@@ -57,6 +58,7 @@ module _ (most : ℕ) (g : Graph) (s : List ℕ) where
         judged = judgedBy (names g) (unlikeLine (wccOf g)) (numberLines most s);
       }
 
+  -- "BFS and CDLP: equal numbers.": the labels after so many iterations
   abbrev pub cdlpReference : ℤ → Reference
   cdlpReference iterations =
       record {

@@ -19,6 +19,7 @@ abbrev pub kept : {A : Type 0} → Said Verdict → A → List A → List A
 kept (gives v) z l = l
 kept (refuses r) z l = replicate (length l) z
 
+-- a refusal was said, no verdict
 abbrev pub isRefused : Said Verdict → Bool
 isRefused (gives v) = false
 isRefused (refuses r) = true
@@ -37,6 +38,7 @@ pub record Numbers : Type 0 where
   pub result : List ℤ
   pub claimed : List ℤ
 
+-- the same, by its fields in order
 abbrev pub numbers : Said Verdict → List ℤ → List ℤ → Numbers
 numbers said R C = record { said = said; result = R; claimed = C }
 
@@ -45,6 +47,7 @@ unfoldable pub numbersSays : Said (Unit {0}) → Bool → Rule → ℕ → List 
 numbersSays answer room rule most ids reference s =
     thenSays answer (check room noRoom (judgedBy ids (mismatchLine rule reference) (numberLines most s)))
 
+-- the same on the first n identifiers and results; the result area stays, or is zero after a refusal, and the working area is zero
 unfoldable pub numbersOn : Said (Unit {0}) → Bool → Rule → ℕ → ℕ → List ℤ → List ℕ → List ℤ → List ℤ → Numbers
 numbersOn answer room rule most n ids s R C =
     let said = numbersSays answer room rule most (take n ids) (take n R) s in
@@ -62,18 +65,22 @@ pub record Terms : Type 0 where
   pub first : List ℕ
   pub second : List ℕ
 
+-- the same, by its fields in order
 abbrev pub terms : Said Verdict → List ℕ → List ℕ → Terms
 terms said F S = record { said = said; first = F; second = S }
 
+-- a claim of coefficients on the first n fractions in a kernel's two result areas, if there is room in all areas
 unfoldable pub termsSays : Said (Unit {0}) → Bool → ℕ → ℕ → List ℤ → List ℕ → List ℕ → List ℕ → Said Verdict
 termsSays answer room most n ids s F S =
     thenSays answer (check room noRoom (judgedBy (take n ids) (farWithin (fractions n F S)) (coefficientLines most s)))
 
+-- the same with the two areas, which are kept or, after a refusal, zero
 unfoldable pub termsOn : Said (Unit {0}) → Bool → ℕ → ℕ → List ℤ → List ℕ → List ℕ → List ℕ → Terms
 termsOn answer room most n ids s F S =
     let said = termsSays answer room most n ids s F S in
     terms said (kept said 0 F) (kept said 0 S)
 
+-- a kernel's verdict on a claim of coefficients: what is said, and its numerators and denominators in the two areas
 unfoldable pub termsCall : Reference → Bool → Bool → List ℕ → List ℕ → Terms
 termsCall k sound room F S =
     let said = verdictSays k sound room in

@@ -18,6 +18,7 @@ pub record Outcome : Type 0 where
   pub parents : List ℕ
   pub sizes : List ℕ
 
+-- the same, by its fields in order
 abbrev pub outcome : Said (Unit {0}) → List ℤ → List ℕ → List ℕ → Outcome
 outcome said result parents sizes = record { said = said; result = result; parents = parents; sizes = sizes }
 

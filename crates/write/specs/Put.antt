@@ -10,6 +10,7 @@ pub record Written : Type 0 where
   pub area : List ℕ
   pub next : ℕ
 
+-- the same, by its fields in order
 abbrev pub written : List ℕ → ℕ → Written
 written area next = record { area = area; next = next }
 
