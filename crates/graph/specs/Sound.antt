@@ -33,7 +33,7 @@ abbrev pub lent : Size → List ℤ → List ℕ → List ℕ → List ℕ → L
 lent size ids oo ot io is =
     record { vertices = size .vertices; arcs = size .arcs; ids = ids; outOffsets = oo; outTargets = ot; inOffsets = io; inSources = is }
 
--- the vertices that v's arcs lead to, and those whose arcs lead to v
+-- the vertices that v's arcs lead to: its part of the targets
 abbrev pub outward : Graph → ℕ → List ℕ
 outward g v = partOf (g .vertices) (g .outOffsets) (g .outTargets) v
 

@@ -230,21 +230,32 @@ pub fn load(
     }
 }
 
+/// A call on a lent graph: its size and five areas, then the call's own arguments.
+macro_rules! on_graph {
+    ($call:ident, $g:ident, $($own:expr),* $(,)?) => {
+        $call(
+            $g.size.vertices,
+            $g.size.arcs,
+            $g.ids.as_ptr(),
+            $g.ids.len(),
+            $g.out_offsets.as_ptr(),
+            $g.out_offsets.len(),
+            $g.out_targets.as_ptr(),
+            $g.out_targets.len(),
+            $g.in_offsets.as_ptr(),
+            $g.in_offsets.len(),
+            $g.in_sources.as_ptr(),
+            $g.in_sources.len(),
+            $($own),*
+        )
+    };
+}
+
 pub fn bfs(g: &Lent<'_>, root: i64, depth: &mut [i64], queue: &mut [usize]) -> u64 {
     unsafe {
-        trace_bfs(
-            g.size.vertices,
-            g.size.arcs,
-            g.ids.as_ptr(),
-            g.ids.len(),
-            g.out_offsets.as_ptr(),
-            g.out_offsets.len(),
-            g.out_targets.as_ptr(),
-            g.out_targets.len(),
-            g.in_offsets.as_ptr(),
-            g.in_offsets.len(),
-            g.in_sources.as_ptr(),
-            g.in_sources.len(),
+        on_graph!(
+            trace_bfs,
+            g,
             root,
             depth.as_mut_ptr(),
             depth.len(),
@@ -256,19 +267,9 @@ pub fn bfs(g: &Lent<'_>, root: i64, depth: &mut [i64], queue: &mut [usize]) -> u
 
 pub fn wcc(g: &Lent<'_>, result: &mut [i64], parents: &mut [usize], sizes: &mut [usize]) -> u64 {
     unsafe {
-        trace_wcc(
-            g.size.vertices,
-            g.size.arcs,
-            g.ids.as_ptr(),
-            g.ids.len(),
-            g.out_offsets.as_ptr(),
-            g.out_offsets.len(),
-            g.out_targets.as_ptr(),
-            g.out_targets.len(),
-            g.in_offsets.as_ptr(),
-            g.in_offsets.len(),
-            g.in_sources.as_ptr(),
-            g.in_sources.len(),
+        on_graph!(
+            trace_wcc,
+            g,
             result.as_mut_ptr(),
             result.len(),
             parents.as_mut_ptr(),
@@ -288,19 +289,9 @@ pub fn cdlp(
     counts: &mut [usize],
 ) -> u64 {
     unsafe {
-        trace_cdlp(
-            g.size.vertices,
-            g.size.arcs,
-            g.ids.as_ptr(),
-            g.ids.len(),
-            g.out_offsets.as_ptr(),
-            g.out_offsets.len(),
-            g.out_targets.as_ptr(),
-            g.out_targets.len(),
-            g.in_offsets.as_ptr(),
-            g.in_offsets.len(),
-            g.in_sources.as_ptr(),
-            g.in_sources.len(),
+        on_graph!(
+            trace_cdlp,
+            g,
             iterations,
             result.as_mut_ptr(),
             result.len(),
@@ -316,19 +307,9 @@ pub fn cdlp(
 
 pub fn lcc(g: &Lent<'_>, numerators: &mut [usize], denominators: &mut [usize], work: &mut [usize]) -> u64 {
     unsafe {
-        trace_lcc(
-            g.size.vertices,
-            g.size.arcs,
-            g.ids.as_ptr(),
-            g.ids.len(),
-            g.out_offsets.as_ptr(),
-            g.out_offsets.len(),
-            g.out_targets.as_ptr(),
-            g.out_targets.len(),
-            g.in_offsets.as_ptr(),
-            g.in_offsets.len(),
-            g.in_sources.as_ptr(),
-            g.in_sources.len(),
+        on_graph!(
+            trace_lcc,
+            g,
             numerators.as_mut_ptr(),
             numerators.len(),
             denominators.as_mut_ptr(),
@@ -341,19 +322,9 @@ pub fn lcc(g: &Lent<'_>, numerators: &mut [usize], denominators: &mut [usize], w
 
 pub fn judge(g: &Lent<'_>, kernel: u64, parameter: i64, claim: &[u8], to: &mut Areas<'_>) -> u64 {
     unsafe {
-        trace_judge(
-            g.size.vertices,
-            g.size.arcs,
-            g.ids.as_ptr(),
-            g.ids.len(),
-            g.out_offsets.as_ptr(),
-            g.out_offsets.len(),
-            g.out_targets.as_ptr(),
-            g.out_targets.len(),
-            g.in_offsets.as_ptr(),
-            g.in_offsets.len(),
-            g.in_sources.as_ptr(),
-            g.in_sources.len(),
+        on_graph!(
+            trace_judge,
+            g,
             kernel,
             parameter,
             claim.as_ptr(),
