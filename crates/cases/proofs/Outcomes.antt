@@ -36,7 +36,6 @@ use Rattle.book.proofs.readings.group_size as book-group_size
 use Rattle.book.proofs.readings.group_count as book-group_count
 use Rattle.book.proofs.readings.step_limit as book-step_limit
 use Rattle.graph.proofs.find.find as graph-find
-use Rattle.graph.proofs.sound.sides_sound as graph-sides_sound
 use Rattle.graph.proofs.sound.sound as graph-sound
 use Rattle.graph.proofs.walk.sound_over as graph-sound_over
 use Rattle.graph.proofs.part.part as graph-part
@@ -206,9 +205,6 @@ book-step_limit-one = record { promise = book-step_limit.Reads.Learnt; told = re
 -- ---- graph
 pub graph-find-one : One graph-find.ended (λ M 𝓤. graph-find.clauses 𝓤)
 graph-find-one = record { promise = graph-find.Reads.Learnt; told = refl; one = λ _ _ _ _ _ _ p q. (meet p q, refl) }
-
-pub graph-sides_sound-one : One graph-sides_sound.ended (λ M 𝓤. graph-sides_sound.clauses 𝓤)
-graph-sides_sound-one = record { promise = graph-sides_sound.Reads.Learnt; told = refl; one = λ _ _ _ _ _ _ p q. (meet p q, refl) }
 
 pub graph-sound-one : One graph-sound.ended (λ M 𝓤. graph-sound.clauses 𝓤)
 graph-sound-one = record { promise = graph-sound.Reads.Learnt; told = refl; one = λ _ _ _ _ _ _ p q. (meet p q, refl) }

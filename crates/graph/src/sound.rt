@@ -180,7 +180,7 @@ fn side_answered(
 }
 
 // All of it but how the two ways belong together: the limits, the identifiers, and each way for itself.
-pub fn sides_sound(
+pub(crate) fn sides_sound(
     size: Size,
     ids: &[i64],
     out_offsets: &[usize],
