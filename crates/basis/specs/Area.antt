@@ -38,3 +38,10 @@ areaOf z size list (refuses r) = replicate size z
 -- the same with a list that stands apart from what it gives
 abbrev pub leaves : {A B : Type 0} → Said B → A → ℕ → List A → List A
 leaves s z size l = areaOf z size (λ x. l) s
+
+-- the first n of a list over the front of an area, as many as both have
+unfoldable pub copied : {A : Type 0} → ℕ → List A → List A → List A
+copied zero l area = area
+copied (suc n) [] area = area
+copied (suc n) (x ∷ l) [] = []
+copied (suc n) (x ∷ l) (y ∷ area) = x ∷ copied n l area

@@ -1,4 +1,4 @@
-// What every layer of the engine says: refusals, the order of signed numbers, one element of an area, an area filled or cleared.
+// What every layer of the engine says: refusals, the order of signed numbers, one element of an area, an area filled, cleared or copied.
 pub mod area;
 pub mod order;
 pub mod refusal;

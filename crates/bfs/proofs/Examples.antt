@@ -7,7 +7,7 @@ use Rattle.basis.specs.Area.{column}
 use Rattle.basis.specs.Scan.{every, each, mem}
 use Rattle.graph.specs.Part.{between, partOf}
 use Rattle.graph.specs.Find.{placeFrom}
-use Rattle.graph.specs.Sound.{Graph, outward, soundIds, soundOffsets, soundSide, mirrored, soundGraph}
+use Rattle.graph.specs.Sound.{Graph, outward, soundIds, soundOffsets, soundSide, mirrored, soundSides, soundGraph}
 use Rattle.graph.proofs.Examples.{sheetGraph}
 use Rattle.kernels.specs.Answer.{kernelSays}
 use Rattle.bfs.specs.Depth.{leastFrom, ends, ring, depthOf, depths}
@@ -20,17 +20,17 @@ p4 = refl
 -- the same by a call, with two places to spare in the result area and one in the working area
 pub p4-call : bfsCall sheetGraph (pos 2) (pos 7 ∷ pos 7 ∷ pos 7 ∷ pos 7 ∷ pos 7 ∷ pos 7 ∷ pos 7 ∷ []) (9 ∷ 9 ∷ 9 ∷ 9 ∷ 9 ∷ 9 ∷ [])
     ≡ outcome (gives tt) (pos 9223372036854775807 ∷ pos 0 ∷ pos 1 ∷ pos 1 ∷ pos 2 ∷ pos 0 ∷ pos 0 ∷ []) (0 ∷ 0 ∷ 0 ∷ 0 ∷ 0 ∷ 0 ∷ [])
-unfolding bfsCall bfsSays kernelSays soundGraph soundIds soundSide soundOffsets mirrored every each placeFrom leastFrom ends ring depthOf column mem partOf between
+unfolding bfsCall bfsSays kernelSays soundSides soundGraph soundIds soundSide soundOffsets mirrored every each placeFrom leastFrom ends ring depthOf column mem partOf between
 p4-call = refl
 
 -- no vertex is 3; a queue of four places is too short; a graph of six vertices wants a sixth identifier
 pub root-missing : bfsCall sheetGraph (pos 3) (pos 7 ∷ []) (9 ∷ 9 ∷ []) ≡ outcome (refuses (plain 10)) (pos 0 ∷ []) (0 ∷ 0 ∷ [])
-unfolding bfsCall bfsSays kernelSays soundGraph soundIds soundSide soundOffsets mirrored every each placeFrom mem partOf between
+unfolding bfsCall bfsSays kernelSays soundSides soundGraph soundIds soundSide soundOffsets mirrored every each placeFrom mem partOf between
 root-missing = refl
 
 pub queue-short : bfsCall sheetGraph (pos 2) (pos 7 ∷ pos 7 ∷ pos 7 ∷ pos 7 ∷ pos 7 ∷ []) (9 ∷ 9 ∷ 9 ∷ 9 ∷ [])
     ≡ outcome (refuses (plain 8)) (pos 0 ∷ pos 0 ∷ pos 0 ∷ pos 0 ∷ pos 0 ∷ []) (0 ∷ 0 ∷ 0 ∷ 0 ∷ [])
-unfolding bfsCall bfsSays kernelSays soundGraph soundIds soundSide soundOffsets mirrored every each placeFrom mem partOf between
+unfolding bfsCall bfsSays kernelSays soundSides soundGraph soundIds soundSide soundOffsets mirrored every each placeFrom mem partOf between
 queue-short = refl
 
 abbrev sixVertices : Graph
@@ -47,5 +47,5 @@ sixVertices =
     }
 
 pub graph-unsound : bfsCall sixVertices (pos 3) (pos 7 ∷ []) (9 ∷ []) ≡ outcome (refuses (plain 9)) (pos 0 ∷ []) (0 ∷ [])
-unfolding bfsCall bfsSays kernelSays soundGraph soundIds soundSide soundOffsets mirrored every each placeFrom mem partOf between
+unfolding bfsCall bfsSays kernelSays soundSides soundGraph soundIds soundSide soundOffsets mirrored every each placeFrom mem partOf between
 graph-unsound = refl

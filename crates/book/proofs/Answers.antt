@@ -2,10 +2,9 @@
 use mathlib.Core.Path.{_≡_, refl, sym, ap, _∙_}
 use mathlib.Core.Bool.{Bool, true, false, cond}
 use Prim.Native.Nat.{ℕ}
-use Rattle.basis.proofs.Saids.{refused-given, given-one}
+use Rattle.basis.proofs.Saids.{one-of, refused-given, given-one}
 use Rattle.basis.specs.declared.refusal.Refusal.{Refusal}
 use Rattle.basis.specs.Refusal.{Said, gives, refuses, plain, noRoom, onward}
-use Rattle.basis.proofs.Tests.{no-case}
 use Rattle.book.specs.declared.Opened.{Opened}
 use Rattle.book.specs.declared.Joined.{Joined}
 use Rattle.book.specs.declared.Headed.{Headed}
@@ -16,52 +15,65 @@ use Rattle.book.specs.Says.{saysOpened, saysJoined, saysHeaded, saysComp
 use Rattle.book.proofs.Calls.{heads-inside}
 use Rattle.book.proofs.Joins.{link-already}
 
--- ---- two answers that say the same are the same
-pub one-opened : (a b : Opened) → saysOpened a ≡ saysOpened b → a ≡ b
-one-opened Opened.Ready Opened.Ready e = refl
-one-opened Opened.Ready (Opened.Refused s) e = refused-given (sym e)
-one-opened (Opened.Refused r) Opened.Ready e = refused-given e
-one-opened (Opened.Refused r) (Opened.Refused s) e = cc
+-- ---- two answers that say the same are the same: what is said leads back to the answer
+abbrev opened : Said (Unit {0}) → Opened
+opened (gives x) = Opened.Ready
+opened (refuses r) = Opened.Refused r
 
-merged-same {ℓ} : {X : Type ℓ} → _≡_ {A = Said Joining} (gives merged) (gives same) → X
-merged-same e = no-case cc
+opened-back : (a : Opened) → opened (saysOpened a) ≡ a
+opened-back Opened.Ready = refl
+opened-back (Opened.Refused r) = refl
+
+pub one-opened : (a b : Opened) → saysOpened a ≡ saysOpened b → a ≡ b
+one-opened = one-of saysOpened opened opened-back
+
+abbrev joined : Said Joining → Joined
+joined (gives merged) = Joined.Merged
+joined (gives same) = Joined.Already
+joined (refuses r) = Joined.Refused r
+
+joined-back : (a : Joined) → joined (saysJoined a) ≡ a
+joined-back Joined.Merged = refl
+joined-back Joined.Already = refl
+joined-back (Joined.Refused r) = refl
 
 pub one-joined : (a b : Joined) → saysJoined a ≡ saysJoined b → a ≡ b
-one-joined Joined.Merged Joined.Merged e = refl
-one-joined Joined.Merged Joined.Already e = merged-same e
-one-joined Joined.Merged (Joined.Refused s) e = refused-given (sym e)
-one-joined Joined.Already Joined.Merged e = merged-same (sym e)
-one-joined Joined.Already Joined.Already e = refl
-one-joined Joined.Already (Joined.Refused s) e = refused-given (sym e)
-one-joined (Joined.Refused r) Joined.Merged e = refused-given e
-one-joined (Joined.Refused r) Joined.Already e = refused-given e
-one-joined (Joined.Refused r) (Joined.Refused s) e = cc
+one-joined = one-of saysJoined joined joined-back
+
+abbrev headed : Said Found → Headed
+headed (gives f) = Headed.Head (f .head) (f .moves)
+headed (refuses r) = Headed.Refused r
+
+headed-back : (a : Headed) → headed (saysHeaded a) ≡ a
+headed-back (Headed.Head h moves) = refl
+headed-back (Headed.Refused r) = refl
 
 pub one-headed : (a b : Headed) → saysHeaded a ≡ saysHeaded b → a ≡ b
-one-headed (Headed.Head g k) (Headed.Head h l) e = ap (λ (f : Found). Headed.Head (f .head) (f .moves)) (given-one e)
-one-headed (Headed.Head g k) (Headed.Refused s) e = refused-given (sym e)
-one-headed (Headed.Refused r) (Headed.Head h l) e = refused-given e
-one-headed (Headed.Refused r) (Headed.Refused s) e = cc
+one-headed = one-of saysHeaded headed headed-back
 
-true-false {ℓ} : {X : Type ℓ} → _≡_ {A = Said Bool} (gives true) (gives false) → X
-true-false e = no-case cc
+abbrev compared : Said Bool → Compared
+compared (gives true) = Compared.Together
+compared (gives false) = Compared.Apart
+compared (refuses r) = Compared.Refused r
+
+compared-back : (a : Compared) → compared (saysCompared a) ≡ a
+compared-back Compared.Together = refl
+compared-back Compared.Apart = refl
+compared-back (Compared.Refused r) = refl
 
 pub one-compared : (a b : Compared) → saysCompared a ≡ saysCompared b → a ≡ b
-one-compared Compared.Together Compared.Together e = refl
-one-compared Compared.Together Compared.Apart e = true-false e
-one-compared Compared.Together (Compared.Refused s) e = refused-given (sym e)
-one-compared Compared.Apart Compared.Together e = true-false (sym e)
-one-compared Compared.Apart Compared.Apart e = refl
-one-compared Compared.Apart (Compared.Refused s) e = refused-given (sym e)
-one-compared (Compared.Refused r) Compared.Together e = refused-given e
-one-compared (Compared.Refused r) Compared.Apart e = refused-given e
-one-compared (Compared.Refused r) (Compared.Refused s) e = cc
+one-compared = one-of saysCompared compared compared-back
+
+abbrev reading : Said ℕ → Reading
+reading (gives k) = Reading.Value k
+reading (refuses r) = Reading.Refused r
+
+reading-back : (a : Reading) → reading (saysReading a) ≡ a
+reading-back (Reading.Value k) = refl
+reading-back (Reading.Refused r) = refl
 
 pub one-reading : (a b : Reading) → saysReading a ≡ saysReading b → a ≡ b
-one-reading (Reading.Value k) (Reading.Value l) e = cc
-one-reading (Reading.Value k) (Reading.Refused s) e = refused-given (sym e)
-one-reading (Reading.Refused r) (Reading.Value l) e = refused-given e
-one-reading (Reading.Refused r) (Reading.Refused s) e = cc
+one-reading = one-of saysReading reading reading-back
 
 -- ---- "Refused book calls change nothing"
 module _ (M : Machine) (a : M .Area) where

@@ -12,6 +12,7 @@ use Rattle.basis.proofs.area.fill as basis-fill
 use Rattle.basis.proofs.area.fill_signed as basis-fill_signed
 use Rattle.basis.proofs.area.clear as basis-clear
 use Rattle.basis.proofs.area.clear_signed as basis-clear_signed
+use Rattle.basis.proofs.area.copy as basis-copy
 use Rattle.text.proofs.count.has as text-has
 use Rattle.text.proofs.count.digits as text-digits
 use Rattle.text.proofs.count.line_end as text-line_end
@@ -129,6 +130,9 @@ basis-clear-one = record { promise = basis-clear.Reads.Learnt; told = refl; one 
 
 pub basis-clear_signed-one : One basis-clear_signed.ended (λ M 𝓤. basis-clear_signed.clauses 𝓤)
 basis-clear_signed-one = record { promise = basis-clear_signed.Reads.Learnt; told = refl; one = λ _ _ _ _ _ _ p q. (refl, ap (λ l. (l, tt)) (meet p q)) }
+
+pub basis-copy-one : One basis-copy.ended (λ M 𝓤. basis-copy.clauses 𝓤)
+basis-copy-one = record { promise = basis-copy.Reads.Learnt; told = refl; one = λ _ _ _ _ _ _ p q. (refl, ap (λ l. (tt, (tt, (l, tt)))) (meet p q)) }
 
 -- ---- text
 pub text-has-one : One text-has.ended (λ M 𝓤. text-has.clauses 𝓤)

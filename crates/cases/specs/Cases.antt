@@ -8,7 +8,7 @@ use Rattle.text.specs.Word.{minusOf}
 use Rattle.text.specs.Line.{LineSaid, line, fault, vertexLine}
 use Rattle.book.specs.Two.{Areas, areas, two, twoBook}
 use Rattle.book.specs.Rules.{groupCount}
-use Rattle.book.specs.Series.{Call, State, state, run}
+use Rattle.book.specs.Series.{Call, state, run}
 use Rattle.bfs.specs.Call as B
 use Rattle.wcc.specs.Promise as W
 use Rattle.cdlp.specs.Promise as C

@@ -7,8 +7,8 @@ use native.Mathlib.Omega.{arith}
 use native.Mathlib.Numerals.{add-one}
 use lib.ListN.{length, getD, set, drop, replicate}
 use lib.Dec.{eqb, ltb}
-use Rattle.basis.specs.Area.{column}
-use Rattle.basis.proofs.Areas.{column-none, column-more, column-end}
+use Rattle.basis.specs.Area.{column, copied}
+use Rattle.basis.proofs.Areas.{column-none, column-more, column-end, column-length, copied-all}
 use Rattle.basis.specs.Scan.{allBelow}
 use Rattle.basis.proofs.Scans.{below-append}
 use Rattle.graph.specs.Part.{partOf}
@@ -76,16 +76,14 @@ module _ {io is oo ot L N C : List ℕ} (s : Board io is oo ot L N C) where
         fresh = subst (λ (D : List ℕ). D ≡ replicate (length D) 0) (sym q) (s .fresh);
       }
 
-  -- and the labels are as long as what is copied into them
-  pub copy-room : (L′ N′ N″ : List ℕ) (k : ℕ) → L′ ≡ numbersAfter io is oo ot L k → length N′ ≡ length N → length N″ ≡ length N′ → length L′ ≡ length N″
-  copy-room L′ N′ N″ k e p q = sym (q ∙ board-on {N′ = N′} k e p refl .roomNext)
-
 -- one round more: the labels are what was copied into them, the next labels
 module _ (io is oo ot L : List ℕ) where
-  pub round-on : (L′ M X : List ℕ) (k : ℕ) → L′ ≡ numbersAfter io is oo ot L k → length L′ ≡ length L → M ≡ nextNumbers io is oo ot L′ → X ≡ M
+  pub round-on : (L′ M X : List ℕ) (k : ℕ) → L′ ≡ numbersAfter io is oo ot L k → length L′ ≡ length L → M ≡ nextNumbers io is oo ot L′ → X ≡ copied (length M) M L′
       → X ≡ numbersAfter io is oo ot L (k + 1)
-  unfolding rounds
-  round-on L′ M X k e l m q = q ∙ m ∙ ap₂ (λ n M. oneRound eqb ltb 0 (near n io is oo ot) n M) l e ∙ rw (add-one k) refl
+  unfolding rounds oneRound
+  round-on L′ M X k e l m q =
+      let f = nextAt eqb ltb 0 (near (length L′) io is oo ot) (length L′) L′ in
+      q ∙ copied-all M L′ (sym (ap length m ∙ column-length f 0 (length L′))) ∙ m ∙ ap₂ (λ n M. oneRound eqb ltb 0 (near n io is oo ot) n M) l e ∙ rw (add-one k) refl
 
   pub round-none : L ≡ numbersAfter io is oo ot L 0
   unfolding rounds

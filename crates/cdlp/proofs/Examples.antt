@@ -6,44 +6,32 @@ use Rattle.basis.specs.Refusal.{gives, refuses, plain}
 use Rattle.basis.specs.Area.{column}
 use Rattle.basis.specs.Scan.{every, each, mem}
 use Rattle.graph.specs.Part.{between, partOf}
-use Rattle.graph.specs.Sound.{Graph, soundIds, soundOffsets, soundSide, mirrored, soundGraph}
+use Rattle.graph.specs.Sound.{soundIds, soundOffsets, soundSide, mirrored, soundSides, soundGraph}
+use Rattle.graph.proofs.Examples.{sheetGraph}
 use Rattle.kernels.specs.Answer.{kernelSays}
 use Rattle.cdlp.specs.Label.{times, mostTimes, standing, mostCommon, smallest, smallestOr, nextLabel}
 use Rattle.cdlp.specs.Rounds.{around, labelsAt, nextAt, oneRound, rounds, cdlpOf}
 use Rattle.cdlp.specs.Promise.{goodRounds, roomFor, outcome, leftBy, cdlpCall}
 
--- the sheet's graph: directed, vertices -3 2 5 9 20, edges 2 5, 2 9, 5 2, 5 9, 9 20
-abbrev pub sheet : Graph
-sheet =
-    record {
-      vertices = 5;
-      arcs = 5;
-      ids = negsuc 2 ∷ pos 2 ∷ pos 5 ∷ pos 9 ∷ pos 20 ∷ [];
-      outOffsets = 0 ∷ 0 ∷ 2 ∷ 4 ∷ 5 ∷ 5 ∷ [];
-      outTargets = 2 ∷ 3 ∷ 1 ∷ 3 ∷ 4 ∷ [];
-      inOffsets = 0 ∷ 0 ∷ 1 ∷ 2 ∷ 4 ∷ 5 ∷ [];
-      inSources = 2 ∷ 1 ∷ 1 ∷ 2 ∷ 3 ∷ [];
-    }
-
-pub p6 : cdlpOf sheet 2 ≡ negsuc 2 ∷ pos 2 ∷ pos 5 ∷ pos 2 ∷ pos 2 ∷ []
+pub p6 : cdlpOf sheetGraph 2 ≡ negsuc 2 ∷ pos 2 ∷ pos 5 ∷ pos 2 ∷ pos 2 ∷ []
 unfolding between partOf column times mostTimes standing mostCommon smallest smallestOr nextLabel around labelsAt nextAt oneRound rounds cdlpOf
 p6 = refl
 
-pub p8 : cdlpOf sheet 1 ≡ negsuc 2 ∷ pos 5 ∷ pos 2 ∷ pos 2 ∷ pos 9 ∷ []
+pub p8 : cdlpOf sheetGraph 1 ≡ negsuc 2 ∷ pos 5 ∷ pos 2 ∷ pos 2 ∷ pos 9 ∷ []
 unfolding between partOf column times mostTimes standing mostCommon smallest smallestOr nextLabel around labelsAt nextAt oneRound rounds cdlpOf
 p8 = refl
 
 -- P6 through the call, in areas with a place to spare
-pub p6-call : cdlpCall sheet (pos 2) (pos 7 ∷ pos 7 ∷ pos 7 ∷ pos 7 ∷ pos 7 ∷ pos 7 ∷ []) (1 ∷ 1 ∷ 1 ∷ 1 ∷ 1 ∷ []) (1 ∷ 1 ∷ 1 ∷ 1 ∷ 1 ∷ []) (1 ∷ 1 ∷ 1 ∷ 1 ∷ 1 ∷ 1 ∷ [])
+pub p6-call : cdlpCall sheetGraph (pos 2) (pos 7 ∷ pos 7 ∷ pos 7 ∷ pos 7 ∷ pos 7 ∷ pos 7 ∷ []) (1 ∷ 1 ∷ 1 ∷ 1 ∷ 1 ∷ []) (1 ∷ 1 ∷ 1 ∷ 1 ∷ 1 ∷ []) (1 ∷ 1 ∷ 1 ∷ 1 ∷ 1 ∷ 1 ∷ [])
     ≡ outcome (gives tt) (negsuc 2 ∷ pos 2 ∷ pos 5 ∷ pos 2 ∷ pos 2 ∷ pos 0 ∷ []) (0 ∷ 0 ∷ 0 ∷ 0 ∷ 0 ∷ []) (0 ∷ 0 ∷ 0 ∷ 0 ∷ 0 ∷ []) (0 ∷ 0 ∷ 0 ∷ 0 ∷ 0 ∷ 0 ∷ [])
-unfolding cdlpCall leftBy kernelSays goodRounds roomFor soundGraph soundIds soundSide soundOffsets mirrored every each mem between partOf column times mostTimes standing mostCommon smallest smallestOr nextLabel around labelsAt nextAt oneRound rounds cdlpOf
+unfolding cdlpCall leftBy kernelSays goodRounds roomFor soundSides soundGraph soundIds soundSide soundOffsets mirrored every each mem between partOf column times mostTimes standing mostCommon smallest smallestOr nextLabel around labelsAt nextAt oneRound rounds cdlpOf
 p6-call = refl
 
 -- a round too many comes before an area too short: 11, then 8; zero rounds of no vertices are answered
-pub too-many : cdlpCall sheet (pos 1001) (pos 7 ∷ []) [] [] [] ≡ outcome (refuses (plain 11)) (pos 0 ∷ []) [] [] []
-unfolding cdlpCall leftBy kernelSays goodRounds soundGraph soundIds soundSide soundOffsets mirrored every each mem between partOf
+pub too-many : cdlpCall sheetGraph (pos 1001) (pos 7 ∷ []) [] [] [] ≡ outcome (refuses (plain 11)) (pos 0 ∷ []) [] [] []
+unfolding cdlpCall leftBy kernelSays goodRounds soundSides soundGraph soundIds soundSide soundOffsets mirrored every each mem between partOf
 too-many = refl
 
-pub too-short : cdlpCall sheet (pos 1000) (pos 7 ∷ []) (3 ∷ []) [] [] ≡ outcome (refuses (plain 8)) (pos 0 ∷ []) (0 ∷ []) [] []
-unfolding cdlpCall leftBy kernelSays goodRounds roomFor soundGraph soundIds soundSide soundOffsets mirrored every each mem between partOf
+pub too-short : cdlpCall sheetGraph (pos 1000) (pos 7 ∷ []) (3 ∷ []) [] [] ≡ outcome (refuses (plain 8)) (pos 0 ∷ []) (0 ∷ []) [] []
+unfolding cdlpCall leftBy kernelSays goodRounds roomFor soundSides soundGraph soundIds soundSide soundOffsets mirrored every each mem between partOf
 too-short = refl

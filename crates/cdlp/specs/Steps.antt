@@ -85,7 +85,7 @@ pub record Board (io is oo ot labels next counts : List ℕ) : Type 0 where
   pub roomCounts : length counts ≡ length labels
   pub fresh : counts ≡ replicate (length counts) 0
 
--- one round, and k rounds, with vertex numbers as labels
+-- v's neighbours, first its part of the inward sources, then its part of the outward targets
 abbrev pub near : ℕ → List ℕ → List ℕ → List ℕ → List ℕ → ℕ → List ℕ
 near n io is oo ot v = around (partOf n io is) (partOf n oo ot) v
 
@@ -97,11 +97,11 @@ nextNumbers io is oo ot L = oneRound eqb ltb 0 (near (length L) io is oo ot) (le
 abbrev pub numbersAfter : List ℕ → List ℕ → List ℕ → List ℕ → List ℕ → ℕ → List ℕ
 numbersAfter io is oo ot L k = rounds eqb ltb 0 (near (length L) io is oo ot) (length L) L k
 
--- the vertex numbers 0, 1, .., n - 1
+-- a vertex's label before the first round: its own number
 abbrev pub itself : ℕ → ℕ
 itself v = v
 
--- these numbers as a list: the labels before the first round
+-- the labels of n vertices before the first round
 unfoldable pub upTo : ℕ → List ℕ
 upTo n = column itself 0 n
 

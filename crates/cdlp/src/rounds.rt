@@ -1,7 +1,7 @@
-// Rounds of label propagation on areas that have one place a vertex. `io` and `is` are the graph's inward offsets and sources, `oo` and `ot` its
-// outward offsets and targets.
+// Rounds of label propagation on areas that have one place a vertex.
 use crate::label::settle;
 use basis::area::clear;
+use basis::area::copy;
 use graph::Size;
 use view::neighbours;
 ghost use mathlib.Core.Path.{_≡_};
@@ -22,17 +22,6 @@ fn number(labels: &mut [usize])
     }
 }
 
-fn copy(from: &[usize], to: &mut [usize])
-    requires { ⌜ length (now to) ≡ length (now from) ⌝ }
-    ensures { λ _. ⌜ now (to .exit) ≡ now (from .entry) ⌝ }
-{
-    let mut i = 0;
-    while i < from.len() {
-        to[i] = from[i];
-        i += 1;
-    }
-}
-
 // The identifiers of the labels.
 fn name(ids: &[i64], labels: &[usize], result: &mut [i64])
     requires { ⌜ Nameable (now ids) (now labels) (now result) ⌝ }
@@ -48,23 +37,23 @@ fn name(ids: &[i64], labels: &[usize], result: &mut [i64])
 
 // One round: every vertex's next label, from the labels of the round before.
 fn round(
-    io: &[usize],
-    is: &[usize],
-    oo: &[usize],
-    ot: &[usize],
+    in_offsets: &[usize],
+    in_sources: &[usize],
+    out_offsets: &[usize],
+    out_targets: &[usize],
     labels: &[usize],
     next: &mut [usize],
     counts: &mut [usize],
 )
-    requires { ⌜ Board (now io) (now is) (now oo) (now ot) (now labels) (now next) (now counts) ⌝ }
-    ensures next { λ _. ⌜ now (next .exit) ≡ nextNumbers (now (io .entry)) (now (is .entry)) (now (oo .entry)) (now (ot .entry)) (now (labels .entry)) ⌝ }
+    requires { ⌜ Board (now «in_offsets») (now «in_sources») (now «out_offsets») (now «out_targets») (now labels) (now next) (now counts) ⌝ }
+    ensures next { λ _. ⌜ now (next .exit) ≡ nextNumbers (now («in_offsets» .entry)) (now («in_sources» .entry)) (now («out_offsets» .entry)) (now («out_targets» .entry)) (now (labels .entry)) ⌝ }
     ensures counts { λ _. ⌜ now (counts .exit) ≡ now (counts .entry) ⌝ }
 {
     let mut v = 0;
     while v < labels.len() {
         let own = labels[v];
-        let inward = neighbours(is, io, labels.len(), v);
-        let outward = neighbours(ot, oo, labels.len(), v);
+        let inward = neighbours(in_sources, in_offsets, labels.len(), v);
+        let outward = neighbours(out_targets, out_offsets, labels.len(), v);
         next[v] = settle(inward, outward, labels, counts, own);
         v += 1;
     }
@@ -72,22 +61,30 @@ fn round(
 
 // So many rounds.
 fn turns(
-    io: &[usize],
-    is: &[usize],
-    oo: &[usize],
-    ot: &[usize],
+    in_offsets: &[usize],
+    in_sources: &[usize],
+    out_offsets: &[usize],
+    out_targets: &[usize],
     k: usize,
     labels: &mut [usize],
     next: &mut [usize],
     counts: &mut [usize],
 )
-    requires { ⌜ Board (now io) (now is) (now oo) (now ot) (now labels) (now next) (now counts) ⌝ }
-    ensures { λ _. ⌜ now (labels .exit) ≡ numbersAfter (now (io .entry)) (now (is .entry)) (now (oo .entry)) (now (ot .entry)) (now (labels .entry)) k ⌝ }
+    requires { ⌜ Board (now «in_offsets») (now «in_sources») (now «out_offsets») (now «out_targets») (now labels) (now next) (now counts) ⌝ }
+    ensures { λ _. ⌜ now (labels .exit) ≡ numbersAfter (now («in_offsets» .entry)) (now («in_sources» .entry)) (now («out_offsets» .entry)) (now («out_targets» .entry)) (now (labels .entry)) k ⌝ }
 {
     let mut done = 0;
     while done < k {
-        round(io, is, oo, ot, labels, next, counts);
-        copy(next, labels);
+        round(
+            in_offsets,
+            in_sources,
+            out_offsets,
+            out_targets,
+            labels,
+            next,
+            counts,
+        );
+        copy(next, next.len(), labels);
         done += 1;
     }
 }
@@ -96,21 +93,30 @@ fn turns(
 pub(crate) fn propagate(
     size: Size,
     ids: &[i64],
-    oo: &[usize],
-    ot: &[usize],
-    io: &[usize],
-    is: &[usize],
+    out_offsets: &[usize],
+    out_targets: &[usize],
+    in_offsets: &[usize],
+    in_sources: &[usize],
     k: usize,
     result: &mut [i64],
     labels: &mut [usize],
     next: &mut [usize],
     counts: &mut [usize],
 )
-    requires { ⌜ Ready size (now ids) (now oo) (now ot) (now io) (now is) (now result) (now labels) (now next) (now counts) ⌝ }
-    ensures { λ _. ⌜ now (result .exit) ≡ cdlpOf (lent size (now (ids .entry)) (now (oo .entry)) (now (ot .entry)) (now (io .entry)) (now (is .entry))) k ⌝ }
+    requires { ⌜ Ready size (now ids) (now «out_offsets») (now «out_targets») (now «in_offsets») (now «in_sources») (now result) (now labels) (now next) (now counts) ⌝ }
+    ensures { λ _. ⌜ now (result .exit) ≡ cdlpOf (lent size (now (ids .entry)) (now («out_offsets» .entry)) (now («out_targets» .entry)) (now («in_offsets» .entry)) (now («in_sources» .entry))) k ⌝ }
 {
     number(labels);
     clear(counts);
-    turns(io, is, oo, ot, k, labels, next, counts);
+    turns(
+        in_offsets,
+        in_sources,
+        out_offsets,
+        out_targets,
+        k,
+        labels,
+        next,
+        counts,
+    );
     name(ids, labels, result);
 }

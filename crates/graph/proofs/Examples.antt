@@ -8,7 +8,7 @@ use Rattle.basis.specs.Area.{column}
 use Rattle.basis.specs.Scan.{every, each, mem}
 use Rattle.graph.specs.Part.{between, partOf}
 use Rattle.graph.specs.Arcs.{Arc, arcs, backward, parts, offsets}
-use Rattle.graph.specs.Sound.{Graph, soundIds, soundOffsets, soundSide, mirrored, soundGraph}
+use Rattle.graph.specs.Sound.{Graph, soundIds, soundOffsets, soundSide, mirrored, soundSides, soundGraph}
 
 -- ---- the sheet of 01: vertices -3 2 5 9 20, arcs 2 5, 2 9, 5 2, 5 9, 9 20
 abbrev sheetArcs : List Arc
@@ -27,7 +27,7 @@ sheetGraph =
     }
 
 pub sheet-sound : soundGraph sheetGraph ≡ true
-unfolding soundGraph soundIds soundOffsets soundSide mirrored every each mem partOf between
+unfolding soundSides soundGraph soundIds soundOffsets soundSide mirrored every each mem partOf between
 sheet-sound = refl
 
 -- its areas store its arcs, and their reverse
@@ -62,7 +62,7 @@ pathGraph =
     }
 
 path-sound : soundGraph pathGraph ≡ true
-unfolding column soundGraph soundIds soundOffsets soundSide mirrored every each mem partOf between
+unfolding column soundSides soundGraph soundIds soundOffsets soundSide mirrored every each mem partOf between
 path-sound = refl
 
 -- ---- the sheet's graph without the inward arc 9 20, and with 5 20 in its place
@@ -79,9 +79,9 @@ damagedGraph offsets sources =
     }
 
 missing-unsound : soundGraph (damagedGraph (0 ∷ 0 ∷ 1 ∷ 2 ∷ 4 ∷ 4 ∷ []) (2 ∷ 1 ∷ 1 ∷ 2 ∷ 0 ∷ [])) ≡ false
-unfolding soundGraph soundIds soundOffsets soundSide mirrored every each mem partOf between
+unfolding soundSides soundGraph soundIds soundOffsets soundSide mirrored every each mem partOf between
 missing-unsound = refl
 
 changed-unsound : soundGraph (damagedGraph (0 ∷ 0 ∷ 1 ∷ 2 ∷ 4 ∷ 5 ∷ []) (2 ∷ 1 ∷ 1 ∷ 2 ∷ 2 ∷ [])) ≡ false
-unfolding soundGraph soundIds soundOffsets soundSide mirrored every each mem partOf between
+unfolding soundSides soundGraph soundIds soundOffsets soundSide mirrored every each mem partOf between
 changed-unsound = refl

@@ -17,7 +17,7 @@ use Rattle.basis.proofs.Tests.{and-first, and-second, and-both}
 use Rattle.basis.proofs.Scans.{every-at, every-of, each-at, each-of, mem-index, each-mem, below-of}
 use Rattle.basis.proofs.Orders.{rising-lt}
 use Rattle.graph.specs.Part.{partOf}
-use Rattle.graph.specs.Sound.{Graph, outward, inward, names, soundIds, soundOffsets, other, soundPart, soundSide, mirrored, soundGraph}
+use Rattle.graph.specs.Sound.{Graph, outward, inward, names, soundIds, soundOffsets, other, soundPart, soundSide, mirrored, soundSides, soundGraph}
 use Rattle.graph.specs.Find.{placeIn, bisected}
 use Rattle.graph.proofs.Parts.{part-whole}
 use Rattle.graph.proofs.Finds.{find-rising}
@@ -76,7 +76,7 @@ pub record Sound (g : Graph) : Type 0 where
   pub forth : mirrored (g .vertices) (inward g) (outward g) ≡ true
 
 pub sound-of : (g : Graph) → soundGraph g ≡ true → Sound g
-unfolding soundGraph soundIds
+unfolding soundSides soundGraph soundIds
 sound-of g h =
     let a = leb (g .vertices) 65536 in let b = leb (g .arcs) 2097152 in
     let i = leb (g .vertices) (length (g .ids)) in let j = risingZ (names g) in
@@ -151,7 +151,7 @@ side-from {n} {m} {off} {tgt} s =
     (every-of (λ v. soundPart n v (partOf n off tgt v)) n (s .good))
 
 pub sound-from : {g : Graph} → Sound g → soundGraph g ≡ true
-unfolding soundGraph soundIds
+unfolding soundSides soundGraph soundIds
 sound-from {g} s =
     and-both
     (and-both

@@ -22,8 +22,8 @@ use Rattle.graph.specs.declared.find.Found.{Found}
 use Rattle.graph.specs.declared.find.Found.the-variants.{At, Missing}
 use Rattle.graph.specs.Part.{partOf}
 use Rattle.graph.specs.Find.{bisectBy}
-use Rattle.graph.specs.Sound.{Graph, outward, inward, lent, idsRise, soundIds, other, neverFall, soundOffsets, soundPart, soundParts, soundSide, mirrored, bothWays, soundGraph}
-use Rattle.graph.specs.Steps.{soundSides, located, bisectFinds, answered}
+use Rattle.graph.specs.Sound.{Graph, outward, inward, lent, idsRise, soundIds, other, neverFall, soundOffsets, soundPart, soundParts, soundSide, mirrored, bothWays, soundSides, soundGraph}
+use Rattle.graph.specs.Steps.{located, bisectFinds, answered}
 use Rattle.graph.specs.Walk.{Ways}
 use Rattle.graph.proofs.Parts.{part-far}
 use Rattle.graph.proofs.Sounds.{part-rises}
@@ -220,7 +220,7 @@ module _ (n : ℕ) (from back : List ℕ) (from′ back′ : List ℕ) where
 
 -- ---- the whole graph: a clause that fails, and all of them
 graph-is : (g : Graph) → soundGraph g ≡ (soundSides g && bothWays (g .vertices) (outward g) (inward g))
-unfolding soundGraph soundSides
+unfolding soundGraph
 graph-is g = refl
 
 module _ (size : Size) (ids : List ℤ) (oo ot io is : List ℕ) where

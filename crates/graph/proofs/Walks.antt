@@ -13,14 +13,14 @@ use lib.Dec.{eqb, ltb}
 use borrow.Author.Tests.{lt-ltb, le-ltb, ltb-true, eq-eqb, ne-eqb, eqb-true, not-true, not-false}
 use Rattle.basis.specs.Order.{rising}
 use Rattle.basis.specs.Scan.{each, mem, allBelow}
-use Rattle.basis.specs.Area.{column, cleared}
+use Rattle.basis.specs.Area.{cleared, copied}
 use Rattle.basis.proofs.Tests.{clash, false-of, bool-cases, same-test, and-first, and-second, and-both, and-off, or-first, or-second}
 use Rattle.basis.proofs.Scans.{every-at, every-of, every-fail, each-mem, mem-index, mem-none, mem-head, mem-append, each-at, below-at, below-of}
 use Rattle.basis.proofs.Orders.{rising-lt, risingBy-of}
-use Rattle.basis.proofs.Areas.{column-more, column-length, column-at}
+use Rattle.basis.proofs.Areas.{copied-length, copied-at}
 use Rattle.graph.specs.Part.{partOf}
 use Rattle.graph.specs.Sound.{soundPart, other, soundParts, mirrored, bothWays}
-use Rattle.graph.specs.Walk.{Ways, Checked, checked, atStarts, isNext, stepped, walked, atEnds}
+use Rattle.graph.specs.Walk.{Ways, Checked, checked, isNext, stepped, walked, atEnds}
 use Rattle.graph.proofs.Sounds.{Side, side-of, offset-most, part-slice, part-rises, part-others, other-below, mirrored-at, mirrored-of}
 
 or-none : (t : Bool) → (t || false) ≡ t
@@ -420,13 +420,6 @@ targets-low n off tgt u l d cursors s h q r e =
     (λ i g. let o : each (other n u) l ≡ true = rw q (part-others n u (partOf n off tgt u) (every-at (λ v. soundPart n v (partOf n off tgt v)) n u h s)) in
     let x = other-below n u (getD l i 0) (each-at (other n u) 0 l o i g) in omega arith)
 
--- a loop that sets the cursors; d is what stood in the area
-pub starts-more : (n w : ℕ) (off d cursors : List ℕ) → n ≤ length d → w < n → cursors ≡ atStarts w off d → set cursors w (getD off w 0) ≡ atStarts (w + 1) off d
-starts-more n w off d cursors a b e = column-more (λ w. getD off w 0) w d cursors (getD off w 0) (omega arith) e refl
-
-pub starts-end : (n w : ℕ) (off d cursors : List ℕ) → n ≤ w → w ≤ n → cursors ≡ atStarts w off d → cursors ≡ atStarts n off d
-starts-end n w off d cursors a b e = let q : w ≡ n = omega arith in e ∙ ap (λ (k : ℕ). atStarts k off d) q
-
 -- ---- what the walk says
 module _ {n : ℕ} {out : ℕ → List ℕ} {off src : List ℕ} (s : Ways n out off src) where
   told-step : (u : ℕ) → u < n → (left i : ℕ) → i + left ≡ length (out u) → (cursors : List ℕ) → Cursors n out off src u i cursors
@@ -453,23 +446,16 @@ module _ {n : ℕ} {out : ℕ → List ℕ} {off src : List ℕ} (s : Ways n out
       (λ t. rw (walked-on src out cursors u t, ← add-one u) (told-step u (omega arith) (length (out u)) 0 (omega arith) (walked src out u cursors .cursors) (b .came t)))
       (λ f. rw (walked-off src out cursors u f) (record { came = λ t. clash t f; broke = λ _. b .broke f }))
 
-starts-room : (n : ℕ) (off cursors : List ℕ) → n ≤ length (atStarts n off cursors)
-starts-room n off cursors =
-    let a = length-append (column (λ w. getD off w 0) 0 n) (drop n cursors) in let b = column-length (λ w. getD off w 0) 0 n in omega arith
-
-starts-at : (n : ℕ) (off cursors : List ℕ) (w : ℕ) → w < n → getD (atStarts n off cursors) w 0 ≡ getD off w 0
-starts-at n off cursors w l =
-    List·getD-append (column (λ w. getD off w 0) 0 n) (drop n cursors) 0 w (rw (column-length (λ w. getD off w 0) 0 n) l) ∙ column-at (λ w. getD off w 0) n w 0 l
-
--- d is what stood in the area, b and a stand there before and after the walk
 module _ {n : ℕ} {out : ℕ → List ℕ} {off src : List ℕ} (s : Ways n out off src) where
   pub ways-room : n < length off
   ways-room = side s .offsetsRoom
 
   -- d is what stood in the area, b and a stand there before and after the walk
-  module _ (d b : List ℕ) (q : b ≡ atStarts n off d) (t : Bool) (a : List ℕ) (e : checked t a ≡ walked src out n b) where
+  module _ (d b : List ℕ) (room : n ≤ length d) (q : b ≡ copied n off d) (t : Bool) (a : List ℕ) (e : checked t a ≡ walked src out n b) where
     told : Told n out off src n (checked t a)
-    told = rw e (told-walk s b (walk-none s b (rw q (starts-room n off d)) (λ w l. ap (λ (x : List ℕ). getD x w 0) q ∙ starts-at n off d w l)) n (omega arith))
+    told =
+        rw e (told-walk s b (walk-none s b (let x = ap length q ∙ copied-length n off d in omega arith)
+        (λ w l. ap (λ (x : List ℕ). getD x w 0) q ∙ copied-at n off d w 0 l (let x = ways-room in omega arith) room)) n (omega arith))
 
     pub ways-stop : not t ≡ true → false ≡ bothWays n out (partOf n off src)
     ways-stop h = sym (told .broke (not-true t h))

@@ -85,9 +85,12 @@ mirrored n from back = every n (λ u. each (λ w. mem u (back w)) (from u))
 abbrev pub bothWays : ℕ → (ℕ → List ℕ) → (ℕ → List ℕ) → Bool
 bothWays n out into = mirrored n out into && mirrored n into out
 
--- "A graph that breaks any of this, or a limit, or whose areas are too short for its stated counts, is unsound (9)"
-unfoldable pub soundGraph : Graph → Bool
-soundGraph g =
+-- "A graph that breaks .. a limit, or whose areas are too short for its stated counts", or whose identifiers or one way are unsound for themselves
+unfoldable pub soundSides : Graph → Bool
+soundSides g =
     (leb (g .vertices) mostVertices && leb (g .arcs) mostArcs) && soundIds g
     && (soundSide (g .vertices) (g .arcs) (g .outOffsets) (g .outTargets) && soundSide (g .vertices) (g .arcs) (g .inOffsets) (g .inSources))
-    && bothWays (g .vertices) (outward g) (inward g)
+
+-- "A graph that breaks any of this, or a limit, or whose areas are too short for its stated counts, is unsound (9)"
+unfoldable pub soundGraph : Graph → Bool
+soundGraph g = soundSides g && bothWays (g .vertices) (outward g) (inward g)

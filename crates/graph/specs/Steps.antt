@@ -1,20 +1,13 @@
 -- What the steps of the soundness check answer, piece by piece of `soundGraph`.
 use Prim.Native.Nat.{ℕ}
-use mathlib.Core.Bool.{Bool, true, false, _&&_}
+use mathlib.Core.Bool.{Bool, true, false}
 use mathlib.Core.List.{List}
-use lib.Dec.{leb, ltb}
+use lib.Dec.{ltb}
 use Rattle.basis.specs.Scan.{each, mem}
 use Rattle.graph.specs.declared.find.Found.{Found}
 use Rattle.graph.specs.declared.find.Found.the-variants.{At, Missing}
 use Rattle.graph.specs.Part.{partOf}
-use Rattle.graph.specs.Sound.{Graph, mostVertices, mostArcs, soundIds, soundSide}
 use Rattle.graph.specs.Find.{bisectBy}
-
--- all of `soundGraph` but that the arcs are each other's reversed
-unfoldable pub soundSides : Graph → Bool
-soundSides g =
-    (leb (g .vertices) mostVertices && leb (g .arcs) mostArcs) && soundIds g
-    && (soundSide (g .vertices) (g .arcs) (g .outOffsets) (g .outTargets) && soundSide (g .vertices) (g .arcs) (g .inOffsets) (g .inSources))
 
 -- x is found in a list by bisection
 abbrev pub located : Found → Bool

@@ -3,10 +3,9 @@
 use Prim.Native.Nat.{ℕ, zero, suc, _+_}
 use mathlib.Core.Path.{_≡_}
 use mathlib.Core.Bool.{Bool, true, false, _&&_}
-use mathlib.Core.List.{List, [], _∷_, _++_}
-use lib.ListN.{length, getD, set, drop}
+use mathlib.Core.List.{List, [], _∷_}
+use lib.ListN.{length, getD, set}
 use lib.Dec.{eqb, ltb}
-use Rattle.basis.specs.Area.{column}
 use Rattle.basis.specs.Scan.{every}
 use Rattle.graph.specs.Sound.{soundPart, soundSide}
 
@@ -24,10 +23,6 @@ pub record Checked : Type 0 where
 -- the same, by its fields in order
 abbrev pub checked : Bool → List ℕ → Checked
 checked sound cursors = record { sound = sound; cursors = cursors }
-
--- every cursor stands where its vertex's part starts
-abbrev pub atStarts : ℕ → List ℕ → List ℕ → List ℕ
-atStarts n off cursors = column (λ w. getD off w 0) 0 n ++ drop n cursors
 
 -- u stands at w's cursor
 abbrev pub isNext : List ℕ → ℕ → List ℕ → ℕ → Bool

@@ -4,8 +4,8 @@ ghost use mathlib.Core.Bool.{true};
 ghost use Prim.Native.Nat.{_<_};
 ghost use lib.ListN.{length};
 ghost use Rattle.graph.specs.Part.{partOf};
-ghost use Rattle.graph.specs.Sound.{lent, idsRise, neverFall, soundOffsets, soundPart, soundParts, soundSide, mirrored, soundGraph};
-ghost use Rattle.graph.specs.Steps.{soundSides, bisectFinds, answered};
+ghost use Rattle.graph.specs.Sound.{lent, idsRise, neverFall, soundOffsets, soundPart, soundParts, soundSide, mirrored, soundSides, soundGraph};
+ghost use Rattle.graph.specs.Steps.{bisectFinds, answered};
 use crate::Size;
 use crate::part::part;
 

@@ -7,24 +7,13 @@ ghost use Rattle.basis.specs.Area.{cleared};
 ghost use Rattle.basis.specs.Scan.{allBelow};
 ghost use Rattle.graph.specs.Part.{partOf};
 ghost use Rattle.graph.specs.Sound.{lent, soundParts, bothWays, soundGraph};
-ghost use Rattle.graph.specs.Walk.{Ways, atStarts, stepped, walked, atEnds, checked};
+ghost use Rattle.graph.specs.Walk.{Ways, stepped, walked, atEnds, checked};
 use crate::Size;
 use crate::part::part;
 use crate::sound::sides_sound;
 use crate::sound::sound;
 use basis::area::clear;
-
-// Every cursor is set to the start of its vertex's part.
-fn begin(in_offsets: &[usize], n: usize, cursors: &mut [usize])
-    requires { ⌜ (n < length (now «in_offsets»)) × (n ≤ length (now cursors)) ⌝ }
-    ensures { λ _. ⌜ now (cursors .exit) ≡ atStarts n (now («in_offsets» .entry)) (now (cursors .entry)) ⌝ }
-{
-    let mut w = 0;
-    while w < n {
-        cursors[w] = in_offsets[w];
-        w += 1;
-    }
-}
+use basis::area::copy;
 
 // The arcs from u, in order: u stands at the target's cursor, which moves on. That a cursor passes its part's end shows at the end of the walk.
 fn arcs_walked(targets: &[usize], in_sources: &[usize], u: usize, cursors: &mut [usize]) -> bool
@@ -85,7 +74,7 @@ fn at_ends(in_offsets: &[usize], n: usize, cursors: &[usize]) -> bool
     true
 }
 
-// The inward arcs are exactly the outward ones reversed.
+// The inward arcs are exactly the outward ones reversed. Every cursor begins at the start of its vertex's part.
 fn reversed(
     out_targets: &[usize],
     out_offsets: &[usize],
@@ -98,7 +87,7 @@ fn reversed(
     requires { ⌜ n ≤ length (now cursors) ⌝ }
     ensures { λ r. ⌜ r ≡ bothWays n (partOf n (now («out_offsets» .entry)) (now («out_targets» .entry))) (partOf n (now («in_offsets» .entry)) (now («in_sources» .entry))) ⌝ }
 {
-    begin(in_offsets, n, cursors);
+    copy(in_offsets, n, cursors);
     if !all_walked(out_targets, out_offsets, in_sources, n, cursors) {
         return false;
     }

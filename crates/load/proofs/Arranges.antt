@@ -1,13 +1,13 @@
--- Laws of storing the edges of a file: copies, and both pairs of areas as the edges say. Assumes nothing.
+-- Laws of storing the edges of a file: both pairs of areas as the edges say. Assumes nothing.
 use Prim.Native.Nat.{ℕ, suc, _+_, _-_, _≤_, _<_}
-use mathlib.Core.Path.{_≡_, refl, sym, ap, ap₂, subst, _∙_}
+use mathlib.Core.Path.{_≡_, refl, sym, ap, ap₂, _∙_}
 use mathlib.Core.Bool.{Bool, true, false}
-use mathlib.Core.List.{List, [], _∷_, _++_, append-assoc}
+use mathlib.Core.List.{List, [], _∷_, _++_}
 use native.Mathlib.Omega.{arith}
 use native.Mathlib.Numerals.{add-one}
 use borrow.Author.Tests.{lt-ltb, ltb-true, ltb-false, le-leb, lt-leb}
-use lib.ListN.{length, getD, set, take, drop, replicate}
-use lib.Seq.{set-at, take-suc, take-all, drop-cons, length-take-le}
+use lib.ListN.{length, take, drop, replicate}
+use lib.Seq.{take-all}
 use lib.Dec.{leb, ltb}
 use lib.IntN.{ℤ}
 use Rattle.basis.specs.Refusal.{Said, gives, refuses, plain, noRoom, edgeFile, said}
@@ -37,22 +37,6 @@ use Rattle.load.specs.Steps.{edgesRead, Arranged, arranged, arrangedBy, 
 use Rattle.load.proofs.Values.{values-accepted}
 use Rattle.load.proofs.Valids.{valid-edges}
 use Rattle.load.proofs.Lookups.{same-edges, same-numbered}
-
--- ---- a copy, a number at a time
-module _ (d s : List ℕ) (n i : ℕ) (h : i < n) (room : n ≤ length d) (long : n ≤ length s) (e : List ℕ) (q : e ≡ take i s ++ drop i d) where
-  pub copy-more : set e i (getD s i 0) ≡ take (i + 1) s ++ drop (i + 1) d
-  copy-more =
-      rw (
-        q,
-        drop-cons d i 0 (omega arith),
-        set-at (take i s) (getD d i 0) (drop (suc i) d) (getD s i 0) i (length-take-le i s (omega arith)),
-        add-one,
-        take-suc s i 0 (omega arith),
-      )
-      (simp append-assoc)
-
-pub copy-end : (d s e : List ℕ) (n i : ℕ) → n ≤ i → i ≤ n → e ≡ take i s ++ drop i d → e ≡ take n s ++ drop n d
-copy-end d s e n i h g q = let o : i ≡ n = omega arith in subst (λ (k : ℕ). e ≡ take k s ++ drop k d) o q
 
 -- ---- lengths of edges and arcs
 pub length-numbered : (ids : List ℤ) (es : List (ℤ × ℤ)) → length (allNumbered (placeIn ids) es) ≡ length es

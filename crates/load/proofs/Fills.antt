@@ -1,20 +1,20 @@
 -- Laws of the four areas of a graph: a directed file's edges as they were arranged, an undirected file's arcs the same both ways. Assumes nothing.
-use Prim.Native.Nat.{ℕ, suc, _+_, _-_, _≤_}
+use Prim.Native.Nat.{ℕ, suc, _+_, _-_, _≤_, _<_}
 use mathlib.Core.Path.{_≡_, refl, sym, ap, ap₂, subst, _∙_}
 use mathlib.Core.Bool.{Bool, true, false}
 use mathlib.Core.List.{List, [], _∷_, _++_}
 use native.Mathlib.Omega.{arith}
 use borrow.Author.Tests.{leb-true}
-use lib.ListN.{length, take, drop, replicate}
+use lib.ListN.{length, take, drop, replicate, length-append}
 use lib.Seq.{take-at, drop-append-add}
 use lib.Dec.{leb}
 use lib.IntN.{ℤ}
 use Rattle.basis.specs.Refusal.{Said, gives, refuses, edgeFile, onward, said, noRoom}
 use Rattle.basis.specs.declared.refusal.Refusal.{Refusal}
-use Rattle.basis.specs.Area.{pad}
+use Rattle.basis.specs.Area.{pad, copied}
 use Rattle.basis.specs.Order.{risingZ}
 use Rattle.basis.proofs.Tests.{and-first, and-second, no-case, and-swap}
-use Rattle.basis.proofs.Areas.{column-ext, drop-replicate}
+use Rattle.basis.proofs.Areas.{column-ext, drop-replicate, pad-length, copied-first}
 use Rattle.basis.proofs.Saids.{said-gives, said-refuses, given-one, check-passed}
 use Rattle.text.specs.Line.{edgeLine}
 use Rattle.graph.specs.Find.{placeIn}
@@ -115,14 +115,20 @@ module _ (most : ℕ) (ids : List ℤ) (s : List ℕ) (lo lt li ls : ℕ) (x : L
       (ap (λ (y : Arranged). y .backOffsets) (g .2)) (ap (λ (y : Arranged). y .backTargets) (g .2))))
 
 -- ---- a list copied from one area to another
-copy-pad : (xs ys : List ℕ) (a b k : ℕ) → length xs ≡ k → length ys ≤ k → take k (pad a xs) ++ drop k (pad b ys) ≡ pad b xs
-copy-pad xs ys a b k e h =
+pad-front : (xs ys : List ℕ) (a b k : ℕ) → length xs ≡ k → length ys ≤ k → take k (pad a xs) ++ drop k (pad b ys) ≡ pad b xs
+pad-front xs ys a b k e h =
     let j : length ys + (k - length ys) ≡ k = omega arith in
     let m : b - length ys - (k - length ys) ≡ b - length xs = omega arith in
     rw (take-at xs (replicate (a - length xs) 0) k e)
     (ap (λ (r : List ℕ). xs ++ r)
     (ap (λ (n : ℕ). drop n (ys ++ replicate (b - length ys) 0)) (sym j) ∙ drop-append-add ys (replicate (b - length ys) 0) (k - length ys) ∙ drop-replicate 0 (k - length ys) (b - length ys)
     ∙ ap (λ (n : ℕ). replicate {A = ℕ} n 0) m))
+
+copy-pad : (xs ys : List ℕ) (a b k : ℕ) → length xs ≡ k → length ys ≤ k → k ≤ b → copied k (pad a xs) (pad b ys) ≡ pad b xs
+copy-pad xs ys a b k e h room =
+    let p : k ≤ length (pad a xs) = let z = length-append xs (replicate (a - length xs) 0) in omega arith in
+    let q : k ≤ length (pad b ys) = let z = pad-length 0 b ys (omega arith) in omega arith in
+    copied-first k (pad a xs) (pad b ys) p q ∙ pad-front xs ys a b k e h
 
 -- ---- an undirected file, arranged in the inward areas i, j and the outward areas o, t
 module _ (most : ℕ) (ids : List ℤ) (s : List ℕ) (lo lt li ls : ℕ) (rise : risingZ ids ≡ true) (x : Listed) (i j o t : List ℕ)
@@ -156,9 +162,6 @@ module _ (most : ℕ) (ids : List ℤ) (s : List ℕ) (lo lt li ls : ℕ) (rise 
     pub undirected-fits : m + m ≤ ls
     undirected-fits = omega (arith, read-fits true most ids s rise ls lt es (given .1), edges-are)
 
-    pub undirected-fits-out : m + m ≤ lt
-    undirected-fits-out = omega (arith, read-fits-back true most ids s rise ls lt es (given .1), edges-are)
-
     arcs-long : length (arcs true es) ≡ m + m
     arcs-long = arc-count true es ∙ (let e = edges-are in omega arith)
 
@@ -171,9 +174,9 @@ module _ (most : ℕ) (ids : List ℤ) (s : List ℕ) (lo lt li ls : ℕ) (rise 
     out-offsets : offsets inward n ≡ offsets (arcs true es) n
     out-offsets = column-ext (start inward) (start (arcs true es)) (suc n) (λ v l. ap length (both-parts es v n (valid .fine)))
 
-    pub undirected-lines : (i′ j′ : List ℕ) → i′ ≡ take (n + 1) o ++ drop (n + 1) i → j′ ≡ take (m + m) t ++ drop (m + m) j
+    pub undirected-lines : (i′ j′ : List ℕ) → n < li → i′ ≡ copied (n + 1) o i → j′ ≡ copied (m + m) t j
         → gives (filled (record { vertices = n; arcs = m + m }) o t i′ j′) ≡ said (filledBy n lo lt li ls) (arcsRead true most ids s lt ls)
-    undirected-lines i′ j′ ei ej =
+    undirected-lines i′ j′ room ei ej =
         let a : i ≡ pad li (offsets es n) = ap (λ (y : Arranged). y .offsets) (given .2) in
         let b : j ≡ pad ls (parts es n) = ap (λ (y : Arranged). y .targets) (given .2) in
         let c : o ≡ pad lo (offsets inward n) = ap (λ (y : Arranged). y .backOffsets) (given .2) in
@@ -181,9 +184,9 @@ module _ (most : ℕ) (ids : List ℤ) (s : List ℕ) (lo lt li ls : ℕ) (rise 
         let ko = offsets-length inward n in
         let ke = offsets-length es n in
         let h₁ : i′ ≡ pad li (offsets inward n) =
-        ei ∙ ap₂ (λ (p q : List ℕ). take (n + 1) p ++ drop (n + 1) q) c a ∙ copy-pad (offsets inward n) (offsets es n) lo li (n + 1) (omega arith) (omega arith) in
+        ei ∙ ap₂ (copied (n + 1)) c a ∙ copy-pad (offsets inward n) (offsets es n) lo li (n + 1) (omega arith) (omega arith) (omega arith) in
         let h₂ : j′ ≡ pad ls (parts inward n) =
-        ej ∙ ap₂ (λ (p q : List ℕ). take (m + m) p ++ drop (m + m) q) d b ∙ copy-pad (parts inward n) (parts es n) lt ls (m + m) parts-long edges-long in
+        ej ∙ ap₂ (copied (m + m)) d b ∙ copy-pad (parts inward n) (parts es n) lt ls (m + m) parts-long edges-long undirected-fits in
         let h₃ : o ≡ pad lo (offsets (arcs true es) n) = c ∙ ap (pad lo) out-offsets in
         let h₄ : t ≡ pad lt (parts (arcs true es) n) = d ∙ ap (pad lt) (both-parts es n n (valid .fine)) in
         rw (swapped, given .1) (ap gives (filled-of n (sym arcs-long) h₃ h₄ h₁ h₂))

@@ -2,6 +2,7 @@
 use crate::Limits;
 use crate::Loaded;
 use basis::Refusal;
+use basis::area::copy;
 use basis::refusal::NO_ROOM;
 use basis::refusal::UNKNOWN_NUMBER;
 use graph::Size;
@@ -13,24 +14,10 @@ use store::spread::spread;
 use store::sums::sum_up;
 ghost use mathlib.Core.Path.{_≡_};
 ghost use mathlib.Core.Bool.{true, false};
-ghost use mathlib.Core.List.{_++_};
-ghost use Prim.Native.Nat.{_+_, _≤_};
-ghost use lib.ListN.{length, take, drop};
+ghost use lib.ListN.{length};
 ghost use Rattle.basis.specs.Refusal.{said};
 ghost use Rattle.load.specs.Load.{vertexRoom, roomOf, arcsRead, loaded};
 ghost use Rattle.load.specs.Steps.{edgesRead, arrangedBy, arrangedLeft, Blank, filledBy, filledLeft, outcomeBy, outcomeLeft};
-
-// The first n numbers of one area, copied to another.
-fn copy(to: &mut [usize], from: &[usize], n: usize)
-    requires { ⌜ (n ≤ length (now to)) × (n ≤ length (now from)) ⌝ }
-    ensures { λ _. ⌜ now (to .exit) ≡ take n (now (from .entry)) ++ drop n (now (to .entry)) ⌝ }
-{
-    let mut i = 0;
-    while i < n {
-        to[i] = from[i];
-        i += 1;
-    }
-}
 
 // The edges of a file: stored by their first ends in one pair of areas as they are read, and their arcs the other way in the other pair.
 fn arrange(
@@ -125,8 +112,8 @@ fn undirected(
         Listed::Refused(r) => Loaded::Refused(r),
         Listed::Lines(m) => {
             let arcs = m + m;
-            copy(in_offsets, out_offsets, n + 1);
-            copy(in_sources, out_targets, arcs);
+            copy(out_offsets, n + 1, in_offsets);
+            copy(out_targets, arcs, in_sources);
             Loaded::Graph(Size { vertices: n, arcs })
         }
     }

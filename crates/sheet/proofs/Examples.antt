@@ -10,7 +10,7 @@ use Rattle.text.specs.Word.{within}
 use Rattle.write.specs.Decimal.{digits, decimal, signedText}
 use Rattle.graph.specs.Find.{placeFrom, bisect}
 use Rattle.graph.specs.Part.{between, partOf}
-use Rattle.graph.specs.Sound.{soundIds, soundOffsets, soundSide, mirrored, soundGraph}
+use Rattle.graph.specs.Sound.{soundIds, soundOffsets, soundSide, mirrored, soundSides, soundGraph}
 use Rattle.lists.specs.Files.{edgeTest}
 use Rattle.lists.specs.Lines.{linesFrom, valuesFrom}
 use Rattle.load.specs.Load.{arcsRead, listsRead, loaded, outcomeOf, loadCall}
@@ -67,5 +67,5 @@ pub outputs :
     × (deskOutput refusedJobSheet ≡ refusedJobOutput)
     × (deskOutput refusedLoadSheet ≡ refusedLoadOutput)
     × (deskOutput refusedSheetSheet ≡ refusedSheetOutput)
-unfolding column every each mem lineBy twoOf hasAt runAt countAt identAt fieldAt restAt within digits decimal signedText placeFrom bisect between partOf soundIds soundOffsets soundSide mirrored soundGraph edgeTest linesFrom valuesFrom arcsRead listsRead loaded outcomeOf loadCall kernelSays bfsSays bfsCall leastFrom ends ring depthOf beside chain firstFrom first labelOf wcc-roomFor wcc-leftBy wccCall times mostTimes standing mostCommon smallest smallestOr nextLabel goodRounds cdlp-roomFor cdlp-leftBy cdlpCall around labelsAt nextAt oneRound rounds cdlpOf commonCount those neighbours arcsFrom coefficientAmong numerator denominator room lccSays lccCall euclid gcdOf lowest jobOf lfs sheetLine begins isWord modeOf countLine linesPast section sections checked spacedText numbersText refusedText headText namedText pairText fractionText ratioText pairLines ratioLines planText deskOutput bfsText wccText cdlpText lccText jobsText
+unfolding column every each mem lineBy twoOf hasAt runAt countAt identAt fieldAt restAt within digits decimal signedText placeFrom bisect between partOf soundIds soundOffsets soundSide mirrored soundSides soundGraph edgeTest linesFrom valuesFrom arcsRead listsRead loaded outcomeOf loadCall kernelSays bfsSays bfsCall leastFrom ends ring depthOf beside chain firstFrom first labelOf wcc-roomFor wcc-leftBy wccCall times mostTimes standing mostCommon smallest smallestOr nextLabel goodRounds cdlp-roomFor cdlp-leftBy cdlpCall around labelsAt nextAt oneRound rounds cdlpOf commonCount those neighbours arcsFrom coefficientAmong numerator denominator room lccSays lccCall euclid gcdOf lowest jobOf lfs sheetLine begins isWord modeOf countLine linesPast section sections checked spacedText numbersText refusedText headText namedText pairText fractionText ratioText pairLines ratioLines planText deskOutput bfsText wccText cdlpText lccText jobsText
 outputs = (refl, refl, refl, refl)

@@ -14,7 +14,7 @@ use Rattle.basis.specs.Refusal.{gives, plain, notThere, badRounds}
 use Rattle.basis.specs.Order.{risingZ}
 use Rattle.basis.proofs.Areas.{column-length}
 use Rattle.basis.proofs.Tests.{and-first, and-second, and-both}
-use Rattle.graph.specs.Sound.{Graph, outward, names, soundIds, soundGraph, lent}
+use Rattle.graph.specs.Sound.{Graph, outward, names, soundIds, soundSides, soundGraph, lent}
 use Rattle.graph.specs.Find.{placeIn}
 use Rattle.graph.specs.declared.find.Found.the-variants.{At, Missing}
 use Rattle.kernels.specs.Answer.{kernelSays}
@@ -100,12 +100,12 @@ cut-ids g h =
     (ap risingZ (take-take n n (g .ids) (omega arith)) ∙ and-second (leb n (length (g .ids))) (risingZ (names g)) h)
 
 sound-ids : (g : Graph) → soundGraph g ≡ true → soundIds g ≡ true
-unfolding soundGraph
+unfolding soundSides soundGraph
 sound-ids g h = and-second (leb (g .vertices) 65536 && leb (g .arcs) 2097152) (soundIds g) (and-first _ _ (and-first _ _ h))
 
 cut-sound : (g : Graph) → soundGraph g ≡ true
     → soundGraph (lent (record { vertices = g .vertices; arcs = g .arcs }) (names g) (g .outOffsets) (g .outTargets) (g .inOffsets) (g .inSources)) ≡ true
-unfolding soundGraph
+unfolding soundSides soundGraph
 cut-sound g h = rw (cut-ids g (sound-ids g h)) (rw (sound-ids g h) at h)
 
 module _ (s : List ℕ) (p : Plan) (l : Lists)

@@ -17,7 +17,7 @@ use Rattle.basis.proofs.Scans.{every-of, each-of, mem-index}
 use Rattle.basis.proofs.Areas.{pad-length}
 use Rattle.graph.specs.Arcs.{Arc, arcs, targetsOf, parts, start, offsets, backward}
 use Rattle.graph.specs.Part.{partOf}
-use Rattle.graph.specs.Sound.{Graph, outward, inward, soundIds, soundOffsets, other, soundPart, soundSide, mirrored, soundGraph}
+use Rattle.graph.specs.Sound.{Graph, outward, inward, soundIds, soundOffsets, other, soundPart, soundSide, mirrored, soundSides, soundGraph}
 use Rattle.store.specs.Steps.{Below}
 use Rattle.store.proofs.Arcs.{start-suc, start-length}
 use Rattle.store.proofs.Passes.{length-backward}
@@ -134,7 +134,7 @@ module _ (both : Bool) (n : ℕ) (es : List Arc) (valid : Valid both n es) (ids 
   -- it is sound, where its identifiers are and the limits are kept
   pub stored-sound : soundIds (storedGraph n (arcs both es) ids oo ot io is) ≡ true → n ≤ 65536 → length (arcs both es) ≤ 2097152
       → soundGraph (storedGraph n (arcs both es) ids oo ot io is) ≡ true
-  unfolding soundGraph
+  unfolding soundSides soundGraph
   stored-sound i ln lm =
       let l = arcs both es in
       let k = length-backward l in

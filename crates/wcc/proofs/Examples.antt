@@ -6,7 +6,7 @@ use Rattle.basis.specs.Refusal.{gives, refuses, plain}
 use Rattle.basis.specs.Area.{column}
 use Rattle.basis.specs.Scan.{every, each, mem}
 use Rattle.graph.specs.Part.{between, partOf}
-use Rattle.graph.specs.Sound.{lent, soundIds, soundOffsets, soundSide, mirrored, soundGraph}
+use Rattle.graph.specs.Sound.{lent, soundIds, soundOffsets, soundSide, mirrored, soundSides, soundGraph}
 use Rattle.graph.proofs.Examples.{sheetGraph}
 use Rattle.kernels.specs.Answer.{kernelSays}
 use Rattle.wcc.specs.Component.{beside, chain, firstFrom, first, labelOf, labels, wccOf}
@@ -20,19 +20,19 @@ p5 = refl
 -- through the call, in areas with places to spare
 pub p5-call : wccCall sheetGraph (pos 7 ∷ pos 7 ∷ pos 7 ∷ pos 7 ∷ pos 7 ∷ pos 7 ∷ []) (9 ∷ 9 ∷ 9 ∷ 9 ∷ 9 ∷ []) (9 ∷ 9 ∷ 9 ∷ 9 ∷ 9 ∷ 9 ∷ [])
     ≡ outcome (gives tt) (negsuc 2 ∷ pos 2 ∷ pos 2 ∷ pos 2 ∷ pos 2 ∷ pos 0 ∷ []) (0 ∷ 0 ∷ 0 ∷ 0 ∷ 0 ∷ []) (0 ∷ 0 ∷ 0 ∷ 0 ∷ 0 ∷ 0 ∷ [])
-unfolding wccCall leftBy kernelSays roomFor soundGraph soundIds soundSide soundOffsets mirrored every each mem partOf between column labelOf first firstFrom chain beside
+unfolding wccCall leftBy kernelSays roomFor soundSides soundGraph soundIds soundSide soundOffsets mirrored every each mem partOf between column labelOf first firstFrom chain beside
 p5-call = refl
 
 -- one place too few in the last area
 pub too-short : wccCall sheetGraph (pos 7 ∷ pos 7 ∷ pos 7 ∷ pos 7 ∷ pos 7 ∷ []) (9 ∷ 9 ∷ 9 ∷ 9 ∷ 9 ∷ []) (9 ∷ 9 ∷ 9 ∷ 9 ∷ [])
     ≡ outcome (refuses (plain 8)) (pos 0 ∷ pos 0 ∷ pos 0 ∷ pos 0 ∷ pos 0 ∷ []) (0 ∷ 0 ∷ 0 ∷ 0 ∷ 0 ∷ []) (0 ∷ 0 ∷ 0 ∷ 0 ∷ [])
-unfolding wccCall leftBy kernelSays roomFor soundGraph soundIds soundSide soundOffsets mirrored every each mem partOf between
+unfolding wccCall leftBy kernelSays roomFor soundSides soundGraph soundIds soundSide soundOffsets mirrored every each mem partOf between
 too-short = refl
 
 -- an unsound graph, with an arc too few stated, comes before an area too short
 pub unsound-first : wccCall (lent (record { vertices = 5; arcs = 4 }) (sheetGraph .ids) (sheetGraph .outOffsets) (sheetGraph .outTargets) (sheetGraph .inOffsets) (sheetGraph .inSources)) (pos 7 ∷ []) [] (9 ∷ [])
     ≡ outcome (refuses (plain 9)) (pos 0 ∷ []) [] (0 ∷ [])
-unfolding wccCall leftBy kernelSays soundGraph soundIds soundSide soundOffsets mirrored every each mem partOf between
+unfolding wccCall leftBy kernelSays soundSides soundGraph soundIds soundSide soundOffsets mirrored every each mem partOf between
 unsound-first = refl
 
 -- arcs 3 to 0, 3 to 2 and 2 to 1: from 0 to 1 leads one arc against its direction and two along theirs; vertex 4 is alone

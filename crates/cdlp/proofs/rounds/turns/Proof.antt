@@ -5,7 +5,7 @@ use native.Mathlib.Omega.{arith}
 use denote.Ref.{now}
 use lib.ListN.{length}
 use Rattle.cdlp.specs.Steps.{numbersAfter}
-use Rattle.cdlp.proofs.Boards.{board-on, copy-room, round-on, round-none}
+use Rattle.cdlp.proofs.Boards.{board-on, round-on, round-none}
 use Rattle.cdlp.proofs.rounds.turns.Statement.{statement}
 use Rattle.cdlp.proofs.rounds.turns.Tie as tie
 
@@ -24,7 +24,7 @@ round-requires : tie.Need-round-requires Inv-loop μ-loop
 round-requires c κs = search board-on
 
 copy-requires : tie.Need-copy-requires Inv-loop μ-loop
-copy-requires c κs = let l = c .before .before .before .before .before .before .before .before .before .before .before .loop in let r = c .before .before .before .before .before .before .round in copy-room (c .before .before .before .before .before .before .before .before .before .before .before .before .before .before .before .before .before .before .before .pre) _ (l .next) (r .last .1 .1 .1 .1 .1 .0) (l .done) (l .inv .4) (l .inv .2) (r .kept .1 .1 .1 .1 .1 .0)
+copy-requires c κs = search needs
 
 add-done : tie.Need-add-done Inv-loop μ-loop
 add-done c = search needs
@@ -33,11 +33,7 @@ loop-less : tie.Need-loop-less Inv-loop μ-loop
 loop-less c = search needs
 
 loop-again : tie.Need-loop-again Inv-loop μ-loop
-loop-again c =
-    let l = c .before .before .before .before .before .before .before .before .before .before .before .before .before .before .loop in
-    let r = c .before .before .before .before .before .before .before .before .before .round in
-    let y = c .before .before .copy in
-    (omega arith, y .kept .1 .0 ∙ l .inv .1, r .kept .1 .1 .1 .1 .1 .0 ∙ l .inv .2, r .ensures .1 ∙ l .inv .3, search round-on)
+loop-again c = (omega arith, search needs, search needs, cc, search round-on)
 
 same-length : tie.Need-same-length Inv-loop μ-loop
 same-length c = c .before .loop .inv .1
@@ -53,7 +49,7 @@ returns c =
     let l = c .before .loop in
     let a = c .before .before .before .before .before .before .before .before .before .args in
     let e : l .done ≡ a .k = omega arith in
-    l .inv .4 ∙ ap (numbersAfter (now (a .io)) (now (a .is)) (now (a .oo)) (now (a .ot)) (now (a .labels))) e
+    l .inv .4 ∙ ap (numbersAfter (now (a .in-offsets)) (now (a .in-sources)) (now (a .out-offsets)) (now (a .out-targets)) (now (a .labels))) e
 
 pub turns-spec : {M : Type 1} → statement M
 turns-spec =

@@ -3,8 +3,8 @@ use borrow.Author.Needs.{needs}
 use Rattle.graph.proofs.walk.reversed.Statement.{statement}
 use Rattle.graph.proofs.walk.reversed.Tie as tie
 
-begin-requires : tie.Need-begin-requires
-begin-requires c κs = (search ways-room, search needs)
+copy-requires : tie.Need-copy-requires
+copy-requires c κs = search needs
 
 all-walked-requires : tie.Need-all-walked-requires
 all-walked-requires c κs = search needs
@@ -28,7 +28,7 @@ pub reversed-spec : {M : Type 1} → statement M
 reversed-spec =
     tie.close
     (tie.spec
-    begin-requires
+    copy-requires
     all-walked-requires
     same-length
     returns

@@ -1,4 +1,4 @@
-use Rattle.load.proofs.Fills.{undirected-refused, undirected-fits, undirected-fits-out, undirected-lines}
+use Rattle.load.proofs.Fills.{undirected-refused, undirected-fits, undirected-lines}
 use native.Mathlib.Omega.{arith}
 use borrow.Author.Needs.{needs}
 use Rattle.load.proofs.fill.undirected.Statement.{statement}
@@ -23,7 +23,7 @@ copy-requires : tie.Need-copy-requires
 copy-requires c κs = search needs
 
 copy-requires-2 : tie.Need-copy-requires-2
-copy-requires-2 c κs = (omega (arith, undirected-fits _ _ _ _ _ _ _ (c .before .before .before .before .before .before .before .before .before .before .before .before .before .before .before .before .before .before .before .before .before .before .before .before .before .before .before .before .pre .rise) _ _ _ _ _ (c .before .before .before .before .before .before .before .before .before .before .before .before .before .before .before .before .before .before .arrange .ensures) _ (c .before .before .before .before .before .before .before .before .listed2 .given .1), c .before .before .before .before .before .before .before .before .before .before .before .before .before .before .before .before .before .before .arrange .kept .1 .1 .1 .1 .1 .0), omega (arith, undirected-fits-out _ _ _ _ _ _ _ (c .before .before .before .before .before .before .before .before .before .before .before .before .before .before .before .before .before .before .before .before .before .before .before .before .before .before .before .before .pre .rise) _ _ _ _ _ (c .before .before .before .before .before .before .before .before .before .before .before .before .before .before .before .before .before .before .arrange .ensures) _ (c .before .before .before .before .before .before .before .before .listed2 .given .1), c .before .before .before .before .before .before .before .before .before .before .before .before .before .before .before .before .before .before .arrange .kept .1 .1 .1 .1 .1 .1 .1 .0))
+copy-requires-2 c κs = search needs
 
 same-length : tie.Need-same-length
 same-length c = search needs
