@@ -21,7 +21,7 @@ use Rattle.book.specs.Series as series
 use Rattle.book.proofs.TwoBook.{faithful-two}
 use Rattle.book.proofs.Held.{Held, two-open, held-join, held-kept, held-head}
 use Rattle.wcc.specs.Component.{Linked, itself, along, back, on, labels}
-use Rattle.wcc.specs.Steps.{headHere, joinArcs, marked, copied, Within, Exact}
+use Rattle.wcc.specs.Steps.{headHere, joinArcs, marked, takenOver, Within, Exact}
 use Rattle.wcc.proofs.Passes.{Heads, labels-are}
 
 -- ---- the joins along the arcs, the latest first
@@ -128,18 +128,18 @@ module _ (n : ℕ) (out : ℕ → List ℕ) (ids R : List ℤ) (ps ss : List ℕ
         );
       }
 
-  -- what marking and copying need, and what they leave
+  -- what marking and taking over need, and what they leave
   pub mark-within : Within (length R) (headHere ps₂ ss₂)
   mark-within = rw (x .resultRoom) (heads-are .within)
 
   module _ (R₁ : List ℤ) (e : length R₁ ≡ length R) where
-    pub copy-within : Within (length R₁) (headHere ps₂ ss₂)
-    copy-within = rw e mark-within
+    pub take-within : Within (length R₁) (headHere ps₂ ss₂)
+    take-within = rw e mark-within
 
-    pub labelled : (R₂ : List ℤ) → R₁ ≡ marked (headHere ps₂ ss₂) ids (length R) R → R₂ ≡ copied (headHere ps₂ ss₂) (length R₁) R₁ → R₂ ≡ labels n out ids
+    pub labelled : (R₂ : List ℤ) → R₁ ≡ marked (headHere ps₂ ss₂) ids (length R) R → R₂ ≡ takenOver (headHere ps₂ ss₂) (length R₁) R₁ → R₂ ≡ labels n out ids
     labelled R₂ p q =
         let l : length R₁ ≡ n = e ∙ x .resultRoom in
-        q ∙ ap₂ (copied (headHere ps₂ ss₂)) l (p ∙ ap (λ (k : ℕ). marked (headHere ps₂ ss₂) ids k R) (x .resultRoom))
+        q ∙ ap₂ (takenOver (headHere ps₂ ss₂)) l (p ∙ ap (λ (k : ℕ). marked (headHere ps₂ ss₂) ids k R) (x .resultRoom))
         ∙ labels-are n out (x .inside) (headHere ps₂ ss₂) heads-are ids R (x .resultRoom)
 
 pub exact-named : (n : ℕ) (out : ℕ → List ℕ) (ids R : List ℤ) (ps ss : List ℕ) → Exact n out ids R ps ss → length ids ≡ length R

@@ -1,4 +1,4 @@
--- Writing each group's smallest identifier at its head, and copying it from there, gives the labels. Assumes nothing.
+-- Writing each group's smallest identifier at its head, and taking it over from there, gives the labels. Assumes nothing.
 use Prim.Native.Nat.{ℕ, zero, suc, _≤_, _<_}
 use mathlib.Core.Path.{_≡_, refl, sym, ap, _∙_}
 use mathlib.Core.Logic.{_↔_, ⊎-elim}
@@ -13,7 +13,7 @@ use lib.Seq.{getD-set-same, getD-set-other}
 use Rattle.basis.specs.Scan.{allBelow}
 use Rattle.basis.proofs.Areas.{column-is}
 use Rattle.wcc.specs.Component.{Linked, first, labelOf, labels}
-use Rattle.wcc.specs.Steps.{marked, copied, Within}
+use Rattle.wcc.specs.Steps.{marked, takenOver, Within}
 use Rattle.wcc.proofs.Firsts.{first-below, first-linked, first-least}
 
 -- ---- the two passes
@@ -46,37 +46,37 @@ module _ (g : ℕ → ℕ) where
         (λ a. mark-first v (set R (g v) (getD ids v (pos 0))) h u (rw length-set b) a e none)
         (eq-or-lt-of-le (le-of-suc-le-suc l))
 
-  length-copied : (k : ℕ) (R : List ℤ) → length (copied g k R) ≡ length R
-  unfolding copied
-  length-copied zero R = refl
-  length-copied (suc v) R = length-set (copied g v R) v _ ∙ length-copied v R
+  length-taken : (k : ℕ) (R : List ℤ) → length (takenOver g k R) ≡ length R
+  unfolding takenOver
+  length-taken zero R = refl
+  length-taken (suc v) R = length-set (takenOver g v R) v _ ∙ length-taken v R
 
-  copy-same : (k : ℕ) (R : List ℤ) → k < length R → getD (copied g (suc k) R) k (pos 0) ≡ getD (copied g k R) (g k) (pos 0)
-  unfolding copied
-  copy-same k R l = getD-set-same (copied g k R) k _ (pos 0) (rw (length-copied k R) l)
+  take-same : (k : ℕ) (R : List ℤ) → k < length R → getD (takenOver g (suc k) R) k (pos 0) ≡ getD (takenOver g k R) (g k) (pos 0)
+  unfolding takenOver
+  take-same k R l = getD-set-same (takenOver g k R) k _ (pos 0) (rw (length-taken k R) l)
 
-  copy-other : (k : ℕ) (R : List ℤ) (v : ℕ) → (v ≡ k → ⊥) → getD (copied g (suc k) R) v (pos 0) ≡ getD (copied g k R) v (pos 0)
-  unfolding copied
-  copy-other k R v q = getD-set-other (copied g k R) k v _ (pos 0) q
+  take-other : (k : ℕ) (R : List ℤ) (v : ℕ) → (v ≡ k → ⊥) → getD (takenOver g (suc k) R) v (pos 0) ≡ getD (takenOver g k R) v (pos 0)
+  unfolding takenOver
+  take-other k R v q = getD-set-other (takenOver g k R) k v _ (pos 0) q
 
   -- a head keeps its label
-  copy-head : (k : ℕ) (R : List ℤ) (h : ℕ) → k ≤ length R → g h ≡ h → getD (copied g k R) h (pos 0) ≡ getD R h (pos 0)
-  copy-head zero R h l e = unfold copied in refl
-  copy-head (suc k) R h l e =
-      let r = copy-head k R h (omega arith) e in
-      elim (ℕ-discrete h k) as (λ _. getD (copied g (suc k) R) h (pos 0) ≡ getD R h (pos 0)) [
+  take-head : (k : ℕ) (R : List ℤ) (h : ℕ) → k ≤ length R → g h ≡ h → getD (takenOver g k R) h (pos 0) ≡ getD R h (pos 0)
+  take-head zero R h l e = unfold takenOver in refl
+  take-head (suc k) R h l e =
+      let r = take-head k R h (omega arith) e in
+      elim (ℕ-discrete h k) as (λ _. getD (takenOver g (suc k) R) h (pos 0) ≡ getD R h (pos 0)) [
         | yes q ↦
-            ap (λ (x : ℕ). getD (copied g (suc k) R) x (pos 0)) q ∙ copy-same k R l
-            ∙ ap (λ (x : ℕ). getD (copied g k R) x (pos 0)) (ap g (sym q) ∙ e) ∙ r
-        | no q ↦ copy-other k R h q ∙ r
+            ap (λ (x : ℕ). getD (takenOver g (suc k) R) x (pos 0)) q ∙ take-same k R l
+            ∙ ap (λ (x : ℕ). getD (takenOver g k R) x (pos 0)) (ap g (sym q) ∙ e) ∙ r
+        | no q ↦ take-other k R h q ∙ r
       ]
 
-  copy-at : (k : ℕ) (R : List ℤ) (v : ℕ) → k ≤ length R → v < k → g (g v) ≡ g v → getD (copied g k R) v (pos 0) ≡ getD R (g v) (pos 0)
-  copy-at zero R v l b e = absurd (not-suc-le-zero b)
-  copy-at (suc k) R v l b e =
+  take-at : (k : ℕ) (R : List ℤ) (v : ℕ) → k ≤ length R → v < k → g (g v) ≡ g v → getD (takenOver g k R) v (pos 0) ≡ getD R (g v) (pos 0)
+  take-at zero R v l b e = absurd (not-suc-le-zero b)
+  take-at (suc k) R v l b e =
       ⊎-elim
-      (λ q. ap (λ (x : ℕ). getD (copied g (suc k) R) x (pos 0)) q ∙ copy-same k R l ∙ ap (λ (x : ℕ). getD (copied g k R) (g x) (pos 0)) (sym q) ∙ copy-head k R (g v) (omega arith) e)
-      (λ a. copy-other k R v (λ q. omega arith) ∙ copy-at k R v (omega arith) a e)
+      (λ q. ap (λ (x : ℕ). getD (takenOver g (suc k) R) x (pos 0)) q ∙ take-same k R l ∙ ap (λ (x : ℕ). getD (takenOver g k R) (g x) (pos 0)) (sym q) ∙ take-head k R (g v) (omega arith) e)
+      (λ a. take-other k R v (λ q. omega arith) ∙ take-at k R v (omega arith) a e)
       (eq-or-lt-of-le (le-of-suc-le-suc b))
 
 -- ---- the labels
@@ -88,15 +88,15 @@ pub record Heads (n : ℕ) (out : ℕ → List ℕ) (g : ℕ → ℕ) : Type 0 w
   pub same : (u v : ℕ) → u < n → v < n → (g u ≡ g v) ↔ Linked n out u v
 
 module _ (n : ℕ) (out : ℕ → List ℕ) (inside : (u : ℕ) → u < n → allBelow n (out u) ≡ true) (g : ℕ → ℕ) (H : Heads n out g) (ids R : List ℤ) (e : length R ≡ n) where
-  label-at : (v : ℕ) → v < n → getD (copied g n (marked g ids n R)) v (pos 0) ≡ labelOf n out ids v
+  label-at : (v : ℕ) → v < n → getD (takenOver g n (marked g ids n R)) v (pos 0) ≡ labelOf n out ids v
   unfolding labelOf
   label-at v l =
       let u : ℕ = first n out v in
       let b : u < n = first-below n out inside v l in
-      copy-at g n (marked g ids n R) v (omega (arith, length-marked g ids n R)) l (H .settled v l)
+      take-at g n (marked g ids n R) v (omega (arith, length-marked g ids n R)) l (H .settled v l)
       ∙ mark-first g ids n R (g v) u (omega (arith, H .within v l)) b (H .same u v b l .1 (first-linked n out inside v l))
       (λ i a q. omega (arith, first-least n out inside i v (omega arith) l (H .same i v (omega arith) l .0 q)))
 
-  pub labels-are : copied g n (marked g ids n R) ≡ labels n out ids
+  pub labels-are : takenOver g n (marked g ids n R) ≡ labels n out ids
   labels-are =
-      sym (column-is (labelOf n out ids) (pos 0) (copied g n (marked g ids n R)) n (length-copied g n (marked g ids n R) ∙ length-marked g ids n R ∙ e) label-at)
+      sym (column-is (labelOf n out ids) (pos 0) (takenOver g n (marked g ids n R)) n (length-taken g n (marked g ids n R) ∙ length-marked g ids n R ∙ e) label-at)

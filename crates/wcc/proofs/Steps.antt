@@ -12,7 +12,7 @@ use Rattle.book.specs.Rules.{headOf, joinEach}
 use Rattle.book.specs.Two.{Areas, two, twoBook}
 use Rattle.book.specs.Says.{saysHeaded}
 use Rattle.book.specs.Series.{headIn}
-use Rattle.wcc.specs.Steps.{headHere, joinArcs, marked, copied, Within}
+use Rattle.wcc.specs.Steps.{headHere, joinArcs, marked, takenOver, Within}
 
 -- ---- the head that a call gives
 module _ (ps ss : List ℕ) (v : ℕ) (r : Headed) (e : saysHeaded r ≡ headOf (two ps ss) v) where
@@ -59,14 +59,14 @@ module _ (g : ℕ → ℕ) where
   unfolding marked
   mark-end ids R T n i l e = let q : 0 ≡ n - i = omega arith in ap (λ (k : ℕ). marked g ids k R) q ∙ e
 
-  pub copy-none : (R : List ℤ) → R ≡ copied g 0 R
-  unfolding copied
-  copy-none R = refl
+  pub take-none : (R : List ℤ) → R ≡ takenOver g 0 R
+  unfolding takenOver
+  take-none R = refl
 
-  pub copy-more : (R S : List ℤ) (v h : ℕ) (z : ℤ) → h ≡ g v → z ≡ getD S h (pos 0) → S ≡ copied g v R → set S v z ≡ copied g (v + 1) R
-  unfolding copied
-  copy-more R S v h z q f e =
+  pub take-more : (R S : List ℤ) (v h : ℕ) (z : ℤ) → h ≡ g v → z ≡ getD S h (pos 0) → S ≡ takenOver g v R → set S v z ≡ takenOver g (v + 1) R
+  unfolding takenOver
+  take-more R S v h z q f e =
       rw add-one (ap (set S v) f ∙ ap (λ (x : ℕ). set S v (getD S x (pos 0))) q ∙ ap (λ (X : List ℤ). set X v (getD X (g v) (pos 0))) e)
 
-  pub copy-end : (R S : List ℤ) (v : ℕ) → v ≤ length R → length S ≡ length R → length S ≤ v → S ≡ copied g v R → S ≡ copied g (length R) R
-  copy-end R S v l k h e = let q : v ≡ length R = omega arith in e ∙ ap (λ (x : ℕ). copied g x R) q
+  pub take-end : (R S : List ℤ) (v : ℕ) → v ≤ length R → length S ≡ length R → length S ≤ v → S ≡ takenOver g v R → S ≡ takenOver g (length R) R
+  take-end R S v l k h e = let q : v ≡ length R = omega arith in e ∙ ap (λ (x : ℕ). takenOver g x R) q

@@ -25,9 +25,9 @@ marked g ids zero R = R
 marked g ids (suc v) R = marked g ids v (set R (g v) (getD ids v (pos 0)))
 
 -- each vertex from 0 up to n - 1 takes over what stands at its head g
-unfoldable pub copied : (ℕ → ℕ) → ℕ → List ℤ → List ℤ
-copied g zero R = R
-copied g (suc v) R = set (copied g v R) v (getD (copied g v R) (g v) (pos 0))
+unfoldable pub takenOver : (ℕ → ℕ) → ℕ → List ℤ → List ℤ
+takenOver g zero R = R
+takenOver g (suc v) R = set (takenOver g v R) v (getD (takenOver g v R) (g v) (pos 0))
 
 -- the heads of the first n vertices are among them
 abbrev pub Within : ℕ → (ℕ → ℕ) → Type 0

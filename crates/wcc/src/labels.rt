@@ -6,7 +6,7 @@ ghost use mathlib.Core.Path.{_≡_};
 ghost use lib.ListN.{length};
 ghost use Rattle.graph.specs.Part.{partOf};
 ghost use Rattle.wcc.specs.Component.{labels};
-ghost use Rattle.wcc.specs.Steps.{headHere, marked, copied, Within, Exact};
+ghost use Rattle.wcc.specs.Steps.{headHere, marked, takenOver, Within, Exact};
 
 // Each head gets the smallest identifier of its group: vertices write theirs from the last to the first.
 fn mark(parents: &[usize], sizes: &[usize], ids: &[i64], result: &mut [i64])
@@ -25,9 +25,9 @@ fn mark(parents: &[usize], sizes: &[usize], ids: &[i64], result: &mut [i64])
 }
 
 // Each vertex takes over its head's label.
-fn copy_labels(parents: &[usize], sizes: &[usize], result: &mut [i64])
+fn take_over(parents: &[usize], sizes: &[usize], result: &mut [i64])
     requires { ⌜ Within (length (now result)) (headHere (now parents) (now sizes)) ⌝ }
-    ensures { λ _. ⌜ now (result .exit) ≡ copied (headHere (now (parents .entry)) (now (sizes .entry))) (length (now (result .entry))) (now (result .entry)) ⌝ }
+    ensures { λ _. ⌜ now (result .exit) ≡ takenOver (headHere (now (parents .entry)) (now (sizes .entry))) (length (now (result .entry))) (now (result .entry)) ⌝ }
 {
     let mut v = 0;
     while v < result.len() {
@@ -53,5 +53,5 @@ pub(crate) fn label(
     open_book(parents, sizes);
     join_arcs(n, offsets, targets, parents, sizes);
     mark(parents, sizes, ids, result);
-    copy_labels(parents, sizes, result);
+    take_over(parents, sizes, result);
 }

@@ -1,5 +1,5 @@
 use borrow.Author.Needs.{needs}
-use Rattle.wcc.proofs.Joins.{exact-named, mark-within, copy-within, labelled}
+use Rattle.wcc.proofs.Joins.{exact-named, mark-within, take-within, labelled}
 use Rattle.wcc.proofs.labels.label.Statement.{statement}
 use Rattle.wcc.proofs.labels.label.Tie as tie
 
@@ -12,8 +12,8 @@ join-arcs-requires c κs = search needs
 mark-requires : tie.Need-mark-requires
 mark-requires c κs = (search mark-within, search exact-named)
 
-copy-labels-requires : tie.Need-copy-labels-requires
-copy-labels-requires c κs = search copy-within
+take-over-requires : tie.Need-take-over-requires
+take-over-requires c κs = search take-within
 
 same-length : tie.Need-same-length
 same-length c = search needs
@@ -34,7 +34,7 @@ label-spec =
     open-book-requires
     join-arcs-requires
     mark-requires
-    copy-labels-requires
+    take-over-requires
     same-length
     same-length-2
     same-length-3
