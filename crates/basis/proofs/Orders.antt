@@ -1,7 +1,7 @@
 -- Laws of order, over any type with a test for same and one for less; numbers and signed numbers are two of them. Assumes nothing.
-use Prim.Native.Nat.{ℕ, zero, suc, _-_, _^_, _<_}
+use Prim.Native.Nat.{ℕ, zero, suc, _-_, _^_, _<_, min}
 use mathlib.Core.Path.{_≡_, refl, sym, ap, _∙_, subst}
-use mathlib.Core.Bool.{Bool, true, false}
+use mathlib.Core.Bool.{Bool, true, false, _&&_}
 use mathlib.Core.List.{List, [], _∷_}
 use native.Mathlib.Omega.{arith}
 use native.Mathlib.Nat.{not-suc-le-zero}
@@ -9,12 +9,12 @@ use native.Mathlib.Decide.{ℕ-discrete, decLt}
 use lib.IntN.{ℤ, pos, negsuc}
 use lib.ListN.{length, getD}
 use lib.Signed.{ltZ, mag}
-use lib.Dec.{eqb, ltb}
+use lib.Dec.{eqb, leb, ltb}
 use mir.Syntax.{w64}
 use mir.Val.{ofZ, hbits}
-use borrow.Author.Tests.{eq-eqb, ne-eqb, eqb-true, eqb-false, lt-ltb, le-ltb, ltb-true, ltb-false}
+use borrow.Author.Tests.{eq-eqb, ne-eqb, eqb-true, eqb-false, lt-ltb, le-ltb, ltb-true, ltb-false, le-leb, leb-true}
 use Rattle.basis.specs.Order.{sameZ, aboveBy, risingBy, rising}
-use Rattle.basis.proofs.Tests.{clash, false-of, bool-cases, and-first, and-second, and-both}
+use Rattle.basis.proofs.Tests.{clash, false-of, bool-cases, same-test, and-first, and-second, and-both}
 
 -- what the two tests must be
 pub record Order {A : Type 0} (same less : A → A → Bool) : Type 0 where
@@ -107,6 +107,13 @@ number-order =
 
 pub rising-lt : (l : List ℕ) → rising l ≡ true → (i j : ℕ) → i < j → j < length l → getD l i 0 < getD l j 0
 rising-lt l r i j a b = ltb-true (getD l i 0) (getD l j 0) (rising-less number-order 0 l r i j a b)
+
+-- at most the lesser of two is at most both
+pub leb-min : (n a b : ℕ) → leb n (min a b) ≡ (leb n a && leb n b)
+leb-min n a b =
+    same-test (leb n (min a b)) (leb n a && leb n b)
+    (λ h. let l = leb-true n (min a b) h in and-both (le-leb n a (omega arith)) (le-leb n b (omega arith)))
+    (λ h. let k = leb-true n a (and-first (leb n a) (leb n b) h) in let l = leb-true n b (and-second (leb n a) (leb n b) h) in le-leb n (min a b) (omega arith))
 
 -- ---- signed numbers
 refl-z : (a : ℤ) → sameZ a a ≡ true

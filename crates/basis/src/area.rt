@@ -1,8 +1,8 @@
 // One element of an area, and an area filled, cleared or copied.
 ghost use mathlib.Core.Path.{_≡_};
 ghost use lib.ListN.{length, getD, replicate};
-ghost use Prim.Native.Nat.{min};
 ghost use Rattle.basis.specs.Area.{cleared, clearedZ, copied};
+use crate::order::lesser;
 
 // The number at a place, 0 past the end.
 pub fn number_at(area: &[usize], i: usize) -> usize
@@ -41,12 +41,6 @@ pub fn clear_signed(area: &mut [i64])
     ensures { λ _. ⌜ now (area .exit) ≡ clearedZ (now (area .entry)) ⌝ }
 {
     fill_signed(area, 0);
-}
-
-fn lesser(a: usize, b: usize) -> usize
-    ensures { λ r. ⌜ r ≡ min a b ⌝ }
-{
-    if a < b { a } else { b }
 }
 
 // The first n numbers of an area to the front of another, as many as both have.

@@ -1,5 +1,5 @@
 -- Laws of the whole call, by the tests that the code makes. Assumes nothing.
-use Prim.Native.Nat.{ℕ, _-_, _≤_, _<_}
+use Prim.Native.Nat.{ℕ, _-_, _≤_, _<_, min}
 use mathlib.Core.Path.{_≡_, refl, sym, ap, _∙_}
 use mathlib.Core.Bool.{Bool, true, false, cond, _&&_}
 use mathlib.Core.List.{List, _++_}
@@ -12,7 +12,7 @@ use borrow.Author.Tests.{le-leb, lt-leb}
 use borrow.Rule.Slice.PartMut.{midOf, putMid}
 use Rattle.basis.specs.Refusal.{Said, gives, refuses, plain, noRoom, unsound, notThere}
 use Rattle.basis.specs.Area.{cleared, clearedZ, padZ, leaves}
-use Rattle.basis.proofs.Tests.{and-off}
+use Rattle.basis.proofs.Orders.{leb-min}
 use Rattle.basis.proofs.Areas.{column-length, fill-behind}
 use Rattle.graph.specs.declared.find.Found.{Found}
 use Rattle.graph.specs.declared.find.Found.the-variants.{At, Missing}
@@ -34,13 +34,9 @@ outcomes a b c = cc
 
 -- ---- from a root that is there
 module _ (n : ℕ) (off tgt : List ℕ) (s : ℕ) (D : List ℤ) (Q : List ℕ) where
-  pub root-short : (o : Outcome) → o ≡ refusal noRoom D Q → length D < n → o ≡ fromRoot n (partOf n off tgt) s D Q
+  pub root-short : (o : Outcome) → o ≡ refusal noRoom D Q → (k : ℕ) → k ≡ min (length D) (length Q) → k < n → o ≡ fromRoot n (partOf n off tgt) s D Q
   unfolding fromRoot
-  root-short o e h = rw (lt-leb n (length D) h) e
-
-  pub root-tight : (o : Outcome) → o ≡ refusal noRoom D Q → length Q < n → o ≡ fromRoot n (partOf n off tgt) s D Q
-  unfolding fromRoot
-  root-tight o e h = rw (lt-leb n (length Q) h, and-off (leb n (length D)) false refl) e
+  root-short o e k q h = rw (← leb-min n (length D) (length Q), ← q, lt-leb n k h) e
 
   root-room : n ≤ length D → n ≤ length Q → outcome (gives tt) (padZ (length D) (depths n (partOf n off tgt) s)) (cleared Q) ≡ fromRoot n (partOf n off tgt) s D Q
   unfolding fromRoot

@@ -2,6 +2,7 @@
 use basis::area::clear;
 use basis::area::clear_signed;
 use basis::area::fill_signed;
+use basis::order::lesser;
 use basis::order::same;
 use basis::refusal::NO_ROOM;
 use basis::refusal::NOT_THERE;
@@ -130,10 +131,7 @@ fn from_root(
     requires { ⌜ root < n ⌝ }
     ensures { λ r. ⌜ outcome (says r) (now (depth .exit)) (now (queue .exit)) ≡ fromRoot n (partOf n (now (offsets .entry)) (now (targets .entry))) root (now (depth .entry)) (now (queue .entry)) ⌝ }
 {
-    if depth.len() < n {
-        return refuse(NO_ROOM, depth, queue);
-    }
-    if queue.len() < n {
+    if lesser(depth.len(), queue.len()) < n {
         return refuse(NO_ROOM, depth, queue);
     }
     search(offsets, targets, root, &mut depth[..n], &mut queue[..n]);

@@ -7,6 +7,7 @@ use Rattle.basis.proofs.refusal.Refusal.plain as basis-plain
 use Rattle.basis.proofs.refusal.Refusal.at as basis-at
 use Rattle.basis.proofs.order.less as basis-less
 use Rattle.basis.proofs.order.same as basis-same
+use Rattle.basis.proofs.order.lesser as basis-lesser
 use Rattle.basis.proofs.area.number_at as basis-number_at
 use Rattle.basis.proofs.area.fill as basis-fill
 use Rattle.basis.proofs.area.fill_signed as basis-fill_signed
@@ -115,6 +116,9 @@ basis-less-one = record { promise = basis-less.Reads.Learnt; told = refl; one = 
 
 pub basis-same-one : One basis-same.ended (λ M 𝓤. basis-same.clauses 𝓤)
 basis-same-one = record { promise = basis-same.Reads.Learnt; told = refl; one = λ _ _ _ _ _ _ p q. (meet p q, refl) }
+
+pub basis-lesser-one : One basis-lesser.ended (λ M 𝓤. basis-lesser.clauses 𝓤)
+basis-lesser-one = record { promise = basis-lesser.Reads.Learnt; told = refl; one = λ _ _ _ _ _ _ p q. (meet p q, refl) }
 
 pub basis-number_at-one : One basis-number_at.ended (λ M 𝓤. basis-number_at.clauses 𝓤)
 basis-number_at-one = record { promise = basis-number_at.Reads.Learnt; told = refl; one = λ _ _ _ _ _ _ p q. (meet p q, refl) }

@@ -1,5 +1,5 @@
 -- Laws of the call's promise: one for each way that a function of it ends, its premises the code's tests. Assumes nothing.
-use Prim.Native.Nat.{ℕ, _≤_, _<_}
+use Prim.Native.Nat.{ℕ, _≤_, min}
 use mathlib.Core.Path.{_≡_, refl, sym, ap, ap₂, _∙_}
 use mathlib.Core.Bool.{Bool, true, false, not, _&&_}
 use mathlib.Core.List.{List, [], _++_}
@@ -11,10 +11,11 @@ use lib.Seq.{length-take-le, length-front}
 use lib.Dec.{T, leb, ltb}
 use mir.Syntax.{w64}
 use mir.Val.{Fits}
-use borrow.Author.Tests.{lt-leb, le-leb, leb-true, ltb-false, not-true}
+use borrow.Author.Tests.{leb-true, ltb-false, not-true}
 use Rattle.basis.specs.Refusal.{Said, gives, refuses, plain}
 use Rattle.basis.specs.Area.{cleared, clearedZ, padWith}
 use Rattle.basis.proofs.Tests.{clash, and-first, and-second, failed, held}
+use Rattle.basis.proofs.Orders.{leb-min}
 use Rattle.basis.proofs.Areas.{pad-lent}
 use Rattle.graph.specs.declared.Size.{Size}
 use Rattle.graph.specs.Sound.{Graph, lent, soundGraph}
@@ -40,23 +41,12 @@ pub allowed-within : (z : ℤ) → ltZ z (pos 0) ≡ false → ltZ (pos 1000) z 
 unfolding goodRounds
 allowed-within z h g = rw (h, g)
 
--- ---- room for n places, area by area
-module _ (n : ℕ) (R : List ℤ) (L N C : List ℕ) where
-  pub room-result : length R < n → false ≡ roomFor n R L N C
-  unfolding roomFor
-  room-result h = rw (lt-leb n (length R) h)
-
-  pub room-labels : n ≤ length R → length L < n → false ≡ roomFor n R L N C
-  unfolding roomFor
-  room-labels g h = rw (le-leb n (length R) g, lt-leb n (length L) h)
-
-  pub room-next : n ≤ length R → n ≤ length L → length N < n → false ≡ roomFor n R L N C
-  unfolding roomFor
-  room-next g k h = rw (le-leb n (length R) g, le-leb n (length L) k, lt-leb n (length N) h)
-
-  pub room-counts : n ≤ length R → n ≤ length L → n ≤ length N → leb n (length C) ≡ roomFor n R L N C
-  unfolding roomFor
-  room-counts g k h = rw (le-leb n (length R) g, le-leb n (length L) k, le-leb n (length N) h)
+-- ---- room for n places in the shortest area
+pub room-all : (n : ℕ) (R : List ℤ) (L N C : List ℕ) {a b c : ℕ} → a ≡ min (length R) (length L) → b ≡ min a (length N) → c ≡ min b (length C) → leb n c ≡ roomFor n R L N C
+unfolding roomFor
+room-all n R L N C p q r =
+    let a = min (length R) (length L) in
+    rw (r, q, p, leb-min n (min a (length N)) (length C), leb-min n a (length N), leb-min n (length R) (length L)) refl
 
 -- ---- the areas
 pub works : {L M N O C D : List ℕ} → L ≡ M → N ≡ O → C ≡ D → worked L N C ≡ worked M O D

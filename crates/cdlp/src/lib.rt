@@ -4,6 +4,7 @@ mod rounds;
 
 use basis::area::clear;
 use basis::area::clear_signed;
+use basis::order::lesser;
 use basis::refusal::BAD_ROUNDS;
 use basis::refusal::NO_ROOM;
 use basis::refusal::UNSOUND;
@@ -42,16 +43,8 @@ fn allowed(iterations: i64) -> bool
 fn room(n: usize, result: &[i64], labels: &[usize], next: &[usize], counts: &[usize]) -> bool
     ensures { λ r. ⌜ r ≡ roomFor n (now (result .entry)) (now (labels .entry)) (now (next .entry)) (now (counts .entry)) ⌝ }
 {
-    if result.len() < n {
-        return false;
-    }
-    if labels.len() < n {
-        return false;
-    }
-    if next.len() < n {
-        return false;
-    }
-    n <= counts.len()
+    let first = lesser(result.len(), labels.len());
+    n <= lesser(lesser(first, next.len()), counts.len())
 }
 
 fn clear_work(labels: &mut [usize], next: &mut [usize], counts: &mut [usize])

@@ -1,5 +1,5 @@
 -- Laws of the call's promise: one for each way that a function of it ends, its premises the code's tests. Assumes nothing.
-use Prim.Native.Nat.{ℕ, _≤_, _<_}
+use Prim.Native.Nat.{ℕ, _≤_, min}
 use mathlib.Core.Path.{_≡_, refl, sym, ap, ap₂, _∙_}
 use mathlib.Core.Bool.{Bool, true, false, not, _&&_}
 use mathlib.Core.List.{List, [], _++_}
@@ -8,10 +8,11 @@ use lib.IntN.{ℤ, pos}
 use lib.ListN.{length, replicate, take, drop, length-replicate}
 use lib.Seq.{length-take-le, length-front}
 use lib.Dec.{leb}
-use borrow.Author.Tests.{lt-leb, le-leb, leb-true}
+use borrow.Author.Tests.{leb-true}
 use Rattle.basis.specs.Refusal.{Said, gives, refuses, plain}
 use Rattle.basis.specs.Area.{cleared, clearedZ, leaves}
 use Rattle.basis.proofs.Tests.{and-first, and-second, failed, held}
+use Rattle.basis.proofs.Orders.{leb-min}
 use Rattle.basis.proofs.Areas.{column-length, pad-lent}
 use Rattle.graph.specs.declared.Size.{Size}
 use Rattle.graph.specs.Part.{partOf}
@@ -24,19 +25,10 @@ use Rattle.wcc.specs.Component.{labelOf, wccOf}
 use Rattle.wcc.specs.Promise.{roomFor, Outcome, outcome, leftBy, wccCall}
 use Rattle.wcc.specs.Steps.{Exact}
 
--- ---- room for n places, area by area
-module _ (n : ℕ) (R : List ℤ) (P S : List ℕ) where
-  pub room-result : length R < n → false ≡ roomFor n R P S
-  unfolding roomFor
-  room-result h = rw (lt-leb n (length R) h)
-
-  pub room-parents : n ≤ length R → length P < n → false ≡ roomFor n R P S
-  unfolding roomFor
-  room-parents g h = rw (le-leb n (length R) g, lt-leb n (length P) h)
-
-  pub room-sizes : n ≤ length R → n ≤ length P → leb n (length S) ≡ roomFor n R P S
-  unfolding roomFor
-  room-sizes g h = rw (le-leb n (length R) g, le-leb n (length P) h)
+-- ---- room for n places in the shortest area
+pub room-all : (n : ℕ) (R : List ℤ) (P S : List ℕ) {a b : ℕ} → a ≡ min (length R) (length P) → b ≡ min a (length S) → leb n b ≡ roomFor n R P S
+unfolding roomFor
+room-all n R P S p q = rw (q, p, leb-min n (min (length R) (length P)) (length S), leb-min n (length R) (length P)) refl
 
 -- equal parts, equal outcomes
 outcomes : {s t : Said (Unit {0})} {R R′ : List ℤ} {P P′ S S′ : List ℕ} → s ≡ t → R ≡ R′ → P ≡ P′ → S ≡ S′ → outcome s R P S ≡ outcome t R′ P′ S′

@@ -4,6 +4,7 @@ mod labels;
 
 use basis::area::clear;
 use basis::area::clear_signed;
+use basis::order::lesser;
 use basis::refusal::NO_ROOM;
 use basis::refusal::UNSOUND;
 use graph::Size;
@@ -24,13 +25,7 @@ ghost use Rattle.wcc.specs.Promise.{roomFor, outcome, leftBy, wccCall};
 fn room(n: usize, result: &[i64], parents: &[usize], sizes: &[usize]) -> bool
     ensures { λ r. ⌜ r ≡ roomFor n (now (result .entry)) (now (parents .entry)) (now (sizes .entry)) ⌝ }
 {
-    if result.len() < n {
-        return false;
-    }
-    if parents.len() < n {
-        return false;
-    }
-    n <= sizes.len()
+    n <= lesser(lesser(result.len(), parents.len()), sizes.len())
 }
 
 // A refusal: all areas are zero.

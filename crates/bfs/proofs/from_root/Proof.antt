@@ -6,10 +6,13 @@ use lib.Seq.{length-take-le}
 use denote.Ref.{now}
 use Rattle.graph.specs.Part.{partOf}
 use Rattle.bfs.specs.Steps.{Inside}
-use Rattle.bfs.proofs.Calls.{root-short, root-tight, root-done}
+use Rattle.bfs.proofs.Calls.{root-short, root-done}
 use borrow.Author.Needs.{needs}
 use Rattle.bfs.proofs.from_root.Statement.{statement}
 use Rattle.bfs.proofs.from_root.Tie as tie
+
+lesser-requires : tie.Need-lesser-requires
+lesser-requires c κs = search needs
 
 refuse-requires : tie.Need-refuse-requires
 refuse-requires c κs = search needs
@@ -22,18 +25,6 @@ same-length-2 c = search needs
 
 returns : tie.Need-returns
 returns c = search root-short
-
-refuse-requires-2 : tie.Need-refuse-requires-2
-refuse-requires-2 c κs = search needs
-
-same-length-3 : tie.Need-same-length-3
-same-length-3 c = search needs
-
-same-length-4 : tie.Need-same-length-4
-same-length-4 c = search needs
-
-returns-2 : tie.Need-returns-2
-returns-2 c = search root-tight
 
 slice-relend-prefix-search : tie.Need-slice-relend-prefix-search
 slice-relend-prefix-search c = search needs
@@ -50,8 +41,8 @@ slice-aggregate-search-2 c = sym (length-take-le _ _ (omega arith))
 search-requires : tie.Need-search-requires
 search-requires c κs =
     let s = c .before .before .before .before .before .before .before in
-    let d : length (take (s .args .n) (now (s .args .depth))) ≡ s .args .n = length-take-le _ _ (c .before .before .before .if1 .left) in
-    let q : length (take (s .args .n) (now (s .args .queue))) ≡ s .args .n = length-take-le _ _ (c .before .before .if2 .left) in (
+    let d : length (take (s .args .n) (now (s .args .depth))) ≡ s .args .n = length-take-le _ _ (omega arith) in
+    let q : length (take (s .args .n) (now (s .args .queue))) ≡ s .args .n = length-take-le _ _ (omega arith) in (
       subst (λ (m : ℕ). Inside m (partOf m (now (s .args .offsets)) (now (s .args .targets)))) (sym d) (s .pre .0),
       (omega (arith, d, s .pre .1), q ∙ sym d),
     )
@@ -74,31 +65,28 @@ clear-signed-requires c κs = search needs
 clear-requires : tie.Need-clear-requires
 clear-requires c κs = search needs
 
-same-length-5 : tie.Need-same-length-5
-same-length-5 c = search needs
+same-length-3 : tie.Need-same-length-3
+same-length-3 c = search needs
 
-same-length-6 : tie.Need-same-length-6
-same-length-6 c = search needs
+same-length-4 : tie.Need-same-length-4
+same-length-4 c = search needs
 
-returns-3 : tie.Need-returns-3
-returns-3 c =
+returns-2 : tie.Need-returns-2
+returns-2 c =
     let f = c .before .before .before .before .before .before .before .before .before .before in
     let k = f .before .before .before in
-    root-done _ _ _ _ _ _ _ (f .search .last .1 .1 .1 .1 .0) _ _ (k .before .if1 .left) (k .if2 .left) (f .search .ensures) (f .search .kept .1 .1 .1 .1 .0)
+    root-done _ _ _ _ _ _ _ (f .search .last .1 .1 .1 .1 .0) _ _ (omega arith) (omega arith) (f .search .ensures) (f .search .kept .1 .1 .1 .1 .0)
     (c .before .before .before .before .before .clear-signed .ensures) (c .before .before .clear .ensures)
 
 pub from-root-spec : {M : Type 1} → statement M
 from-root-spec =
     tie.close
     (tie.spec
+    lesser-requires
     refuse-requires
     same-length
     same-length-2
     returns
-    refuse-requires-2
-    same-length-3
-    same-length-4
-    returns-2
     slice-relend-prefix-search
     slice-aggregate-search
     slice-relend-prefix-search-2
@@ -110,6 +98,6 @@ from-root-spec =
     part-clear-signed-end
     clear-signed-requires
     clear-requires
-    same-length-5
-    same-length-6
-    returns-3)
+    same-length-3
+    same-length-4
+    returns-2)

@@ -1,18 +1,19 @@
-use Rattle.cdlp.proofs.Calls.{room-result, room-labels, room-next, room-counts}
+use borrow.Author.Needs.{needs}
+use Rattle.cdlp.proofs.Calls.{room-all}
 use Rattle.cdlp.proofs.room.Statement.{statement}
 use Rattle.cdlp.proofs.room.Tie as tie
 
+lesser-requires : tie.Need-lesser-requires
+lesser-requires c κs = search needs
+
+lesser-requires-2 : tie.Need-lesser-requires-2
+lesser-requires-2 c κs = search needs
+
+lesser-requires-3 : tie.Need-lesser-requires-3
+lesser-requires-3 c κs = search needs
+
 returns : tie.Need-returns
-returns c = search room-result
-
-returns-2 : tie.Need-returns-2
-returns-2 c = search room-labels
-
-returns-3 : tie.Need-returns-3
-returns-3 c = search room-next
-
-returns-4 : tie.Need-returns-4
-returns-4 c = search room-counts
+returns c = search room-all
 
 pub room-spec : {M : Type 1} → statement M
-room-spec = tie.close (tie.spec returns returns-2 returns-3 returns-4)
+room-spec = tie.close (tie.spec lesser-requires lesser-requires-2 lesser-requires-3 returns)

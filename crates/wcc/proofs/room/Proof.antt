@@ -1,15 +1,16 @@
-use Rattle.wcc.proofs.Calls.{room-result, room-parents, room-sizes}
+use borrow.Author.Needs.{needs}
+use Rattle.wcc.proofs.Calls.{room-all}
 use Rattle.wcc.proofs.room.Statement.{statement}
 use Rattle.wcc.proofs.room.Tie as tie
 
+lesser-requires : tie.Need-lesser-requires
+lesser-requires c κs = search needs
+
+lesser-requires-2 : tie.Need-lesser-requires-2
+lesser-requires-2 c κs = search needs
+
 returns : tie.Need-returns
-returns c = search room-result
-
-returns-2 : tie.Need-returns-2
-returns-2 c = search room-parents
-
-returns-3 : tie.Need-returns-3
-returns-3 c = search room-sizes
+returns c = search room-all
 
 pub room-spec : {M : Type 1} → statement M
-room-spec = tie.close (tie.spec returns returns-2 returns-3)
+room-spec = tie.close (tie.spec lesser-requires lesser-requires-2 returns)
