@@ -1,5 +1,7 @@
 // Joining the groups of two vertices.
 use super::Joined;
+use super::MOST_MOVES;
+use super::MOST_VERTICES;
 use super::Pair;
 use super::heads;
 use super::walk;
@@ -96,21 +98,21 @@ fn join_next(parents: &mut [usize], sizes: &mut [usize], u: usize, at: usize, w:
     if parents.len() <= w {
         return at;
     }
-    if 16 < at / 65536 {
+    if MOST_MOVES < at / MOST_VERTICES {
         return at;
     }
     let to = walk(parents, w);
-    if 16 < to / 65536 {
+    if MOST_MOVES < to / MOST_VERTICES {
         return at;
     }
-    let g = at % 65536;
-    let h = to % 65536;
+    let g = at % MOST_VERTICES;
+    let h = to % MOST_VERTICES;
     match link(parents, sizes, g, h) {
         Joined::Merged => {
             if parents[g] == g {
                 return at;
             }
-            (at / 65536 + 1) * 65536 + h
+            (at / MOST_VERTICES + 1) * MOST_VERTICES + h
         }
         Joined::Already => at,
         Joined::Refused(_) => at,

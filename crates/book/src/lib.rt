@@ -51,7 +51,13 @@ enum Pair {
     Refused(Refusal),
 }
 
-// The number of a walk that does not end: 17 times 65,536.
+// How many vertices a book may have; a walk's one number is its moves times this, and the head.
+const MOST_VERTICES: usize = 65536;
+
+// How many moves a walk may take.
+const MOST_MOVES: usize = 16;
+
+// The number of a walk that does not end: one move too many.
 const NO_END: usize = 1114112;
 
 // Whether the two areas are of one length, at most 65,536.
@@ -59,14 +65,13 @@ fn well_lent(parents: &[usize], sizes: &[usize]) -> bool
     ensures { λ r. ⌜ r ≡ fits (now (parents .entry)) (now (sizes .entry)) ⌝ }
 {
     let n = parents.len();
-    if 65536 < n {
+    if MOST_VERTICES < n {
         return false;
     }
     sizes.len() == n
 }
 
-// The walk from `v` to its head, of at most 16 moves, in one number, since an answer of several goes through memory: 65,536 times the moves, and the head.
-// 17 moves say that no such walk ends.
+// The walk from `v` to its head, in one number, since an answer of several goes through memory.
 fn walk(parents: &[usize], v: usize) -> usize
     requires { ⌜ (v < length (now parents)) × (length (now parents) ≤ 65536) ⌝ }
     ensures { λ r. ⌜ saysWalked r ≡ walkFrom (nextIn (now (parents .entry))) (length (now (parents .entry))) v ⌝ }
@@ -76,9 +81,9 @@ fn walk(parents: &[usize], v: usize) -> usize
     loop {
         let p = parents[at];
         if p == at {
-            return moves * 65536 + at;
+            return moves * MOST_VERTICES + at;
         }
-        if 16 <= moves {
+        if MOST_MOVES <= moves {
             return NO_END;
         }
         if parents.len() <= p {
@@ -103,12 +108,12 @@ fn heads(parents: &[usize], sizes: &[usize], u: usize, v: usize) -> Pair
         return Pair::Refused(Refusal::plain(NOT_THERE));
     }
     let a = walk(parents, u);
-    if 16 < a / 65536 {
+    if MOST_MOVES < a / MOST_VERTICES {
         return Pair::Refused(Refusal::plain(UNSOUND));
     }
     let b = walk(parents, v);
-    if 16 < b / 65536 {
+    if MOST_MOVES < b / MOST_VERTICES {
         return Pair::Refused(Refusal::plain(UNSOUND));
     }
-    Pair::Heads(a % 65536, b % 65536)
+    Pair::Heads(a % MOST_VERTICES, b % MOST_VERTICES)
 }

@@ -1,6 +1,8 @@
 // The calls that read the book.
 use super::Compared;
 use super::Headed;
+use super::MOST_MOVES;
+use super::MOST_VERTICES;
 use super::Pair;
 use super::Reading;
 use super::heads;
@@ -27,10 +29,10 @@ pub fn head(parents: &[usize], sizes: &[usize], v: usize) -> Headed
         return Headed::Refused(Refusal::plain(NOT_THERE));
     }
     let a = walk(parents, v);
-    if 16 < a / 65536 {
+    if MOST_MOVES < a / MOST_VERTICES {
         return Headed::Refused(Refusal::plain(UNSOUND));
     }
-    Headed::Head(a % 65536, a / 65536)
+    Headed::Head(a % MOST_VERTICES, a / MOST_VERTICES)
 }
 
 pub fn same_group(parents: &[usize], sizes: &[usize], u: usize, v: usize) -> Compared

@@ -9,6 +9,11 @@ ghost use Rattle.graph.specs.Steps.{bisectFinds, answered};
 use crate::Size;
 use crate::part::part;
 
+// The library's limits.
+pub const MOST_VERTICES: usize = 65536;
+
+pub const MOST_ARCS: usize = 2097152;
+
 // The first n identifiers are there and rise.
 fn ids_rise(ids: &[i64], n: usize) -> bool
     ensures { λ r. ⌜ r ≡ idsRise n (now (ids .entry)) ⌝ }
@@ -192,10 +197,10 @@ pub(crate) fn sides_sound(
 {
     let n = size.vertices;
     let m = size.arcs;
-    if 65536 < n {
+    if MOST_VERTICES < n {
         return false;
     }
-    if 2097152 < m {
+    if MOST_ARCS < m {
         return false;
     }
     if !ids_rise(ids, n) {

@@ -7,13 +7,13 @@ use basis::Refusal;
 use basis::area::clear;
 use basis::area::clear_signed;
 use graph::Size;
+use graph::sound::MOST_VERTICES;
 ghost use mathlib.Core.Path.{_≡_};
 ghost use lib.ListN.{length};
 ghost use Rattle.load.specs.Load.{says, roomOf, outcome, loadCall, library};
 ghost use Rattle.load.specs.Steps.{Emptied};
 
-pub const MOST_VERTICES: usize = 65536;
-
+// The library's limit of edge lines; the one of vertex lines is the graph's of vertices.
 pub const MOST_EDGES: usize = 1048576;
 
 // How many lines a vertex file and an edge file may have.
