@@ -1,4 +1,4 @@
--- Rules of a walk, beside the library's. The library's words that the walks are written with (`Rules/Words.antt`) are passed on here, so that a walk imports both from one place.
+-- Rules of a walk, beside the library's. The library's words that the walks are written with (`Rules/Words.antt`) are passed on here: a walk imports both from one place.
 --     proved             a function's theorem from its walk: from what is had at entry, at the parameters' machine values, to what the contract promises
 --     Four, proved-four  the signature of the functions that answer a vertex's part, whatever their first parameter is; and `proved` of such a function
 --     answered           what a call leaves: the result, the tokens, and what the callee ensures
@@ -24,10 +24,11 @@ module _ {M : Type 1} (𝓤 : URA M) (H : Heap 𝓤) (𝓜 : Model 𝓤 H) (𝓖
     abbrev vals : (κs : Lfts (S .lifetimes)) → Args S κs → Vals S κs
     vals κs = valss (types κs) (sp κs)
 
+    -- the code, run at the machine values vss, comes to what the contract promises at y
     abbrev Promised : (y : tripleOf 𝓤 H A S c .Ghost) → Vals S (y .0 .0) → SProp 𝓤
     Promised y vss = Run (flat (types (y .0 .0)) vss) (tripleOf 𝓤 H A S c .post ((y .0 .0, y .0 .1, y .0 .2, y .0 .3, vss), y .1))
 
-    -- the values are of their types, so each can be stored in its parameter's local
+    -- κs and qs are the lifetimes and the tokens' shares, and a the arguments. The values are of their types, so each can be stored in its parameter's local
     abbrev Walk : Type 1
     Walk = (κs : Lfts (S .lifetimes)) (qs : Shares (S .lifetimes)) (b : AllOutlive (S .lifetimes) (S .outlives) κs) (a : Args S κs) (g : c κs a .ghost)
         → Typed (mirs (types κs)) (flat (types κs) (vals κs a))
@@ -73,7 +74,7 @@ module _ {M : Type 1} (𝓤 : URA M) (H : Heap 𝓤) (𝓜 : Model 𝓤 H) (𝓖
       proved 𝓤 H 𝓜 𝓖 𝓡 γ k f (Four s) c spelled closed (λ κs. (tells κs, (shr-slice-tells (named 1) (κs .1 .0) usize, (uint-tells w64, (uint-tells w64, tt)))))
       (λ κs. (lawful κs, (shr-slice-lawful 𝓤 H (𝓖 .A) W (named 1) (κs .1 .0) usize, (uint-lawful 𝓤 H (𝓖 .A) W w64, (uint-lawful 𝓤 H (𝓖 .A) W w64, tt)))))
 
--- ---- the steps of a walk. A local that holds v and one that holds nothing, each put before what follows; the six locals; and the MIR type of an answered part
+-- ---- the steps of a walk. A local that holds v and one that holds nothing, each before what follows; where six locals are; and the MIR type of the answer
 abbrev cell : {M : Type 1} {𝓤 : URA M} → Ty → ℕ → Val → List (Item 𝓤) → List (Item 𝓤)
 cell τ b v Γ = ‵ (fat fullShare τ b zero v) ∷ ‵ (fdies τ b) ∷ Γ
 
@@ -87,7 +88,7 @@ abbrev τᵣ : Ty
 τᵣ = sliceTy (tyRef (named 0) imm (tyInt w64))
 
 module _ {M : Type 1} {𝓤 : URA M} {H : Heap 𝓤} {A : Atoms 𝓤} {K : Type 0} {W : Given 𝓤 H A} where
-  -- at the machine value u
+  -- the callee has returned the machine value u
   pub answered : {Γ : List (Item 𝓤)} {G : Goal 𝓤 H} → K → Soaks G → (S : Signature) (c : Spec 𝓤 S) (y : tripleOf 𝓤 H A S c .Ghost) (u : Val)
       → ((r : Res S (y .0 .0)) → Is (typeAt (S .result) (y .0 .0)) r (u ∷ [])
       → Seq K W (‵ (typeAt (S .result) (y .0 .0) .own r (u ∷ [])) ∷ raw (alive 𝓤 H A S (y .0 .0) (y .0 .1)) ∷ raw (c (y .0 .0) (y .0 .3) .ensures (y .1) r) ∷ Γ) G)

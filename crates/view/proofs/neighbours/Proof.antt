@@ -1,9 +1,10 @@
 -- `view::neighbours` meets its contract: a walk of its MIR, by hand. The view that `view_of` makes is held in a local and passed to `of_vertex`.
 -- What `of_vertex` promises of a view of the targets is what is promised of the targets, so its answer is handed on. Assumes nothing.
-use Rattle.view.proofs.Rules.{_≡_, refl, ap, ℕ, List, [], _∷_, emp, exE, snd∗, id⊢, Atoms, sem, fact, flft, ftrue, Given, givenOf, tables, framed, FmC, cited, Contract, Spec}
-use Rattle.view.proofs.Rules.{tripleOf, lasts, RefT, NamedLft, namedLft, named, erased, plain, SliceRef, usize, owns, typesAt, slice-vals, shr-slice-tells, shr-slice-lawful}
-use Rattle.view.proofs.Rules.{‵, raw, _⊛_, pop, _$_, _∵_, !, qed, move, use1, split, join, fsplit, fjoin, nothing, heard, enter, calls-at, and-then, no-more, load, from}
-use Rattle.view.proofs.Rules.{stop, look, init, land, at, word, tokens, proved-four, answered, six-made, handed-on}
+use Rattle.view.proofs.Rules.{_≡_, refl, ap, ℕ, List, [], _∷_, emp, exE, snd∗, id⊢, Atoms, sem, fact, flft, ftrue, Given, givenOf, tables, framed, FmC}
+use Rattle.view.proofs.Rules.{cited, Contract, Spec, tripleOf, lasts, RefT, NamedLft, namedLft, named, erased, plain, SliceRef, usize, owns, typesAt}
+use Rattle.view.proofs.Rules.{slice-vals, shr-slice-tells, shr-slice-lawful, ‵, raw, _⊛_, pop, _$_, _∵_, !, qed, move, use1, split, join, fsplit, fjoin}
+use Rattle.view.proofs.Rules.{nothing, heard, enter, calls-at, and-then, no-more, load, from, stop, look, init, land, at, word, tokens, proved-four}
+use Rattle.view.proofs.Rules.{answered, six-made, handed-on}
 use denote.Struct.Laws as LL
 use Rattle.view.proofs.held.Neighbours as T
 use Rattle.view.proofs.held.view_of as view-of
@@ -16,6 +17,7 @@ unfolding code.routine
 neighbours-spec 𝓤 H 𝓜 𝓖 𝓡 =
     let A : Atoms 𝓤 = 𝓖 .A in
     let W : Given 𝓤 H A = givenOf 𝓤 H 𝓜 𝓖 in
+    -- the contracts: the function's own, `view_of`'s and `of_vertex`'s
     let Here : Spec 𝓤 neighbours.signature = neighbours.spec 𝓤 H A (𝓜 .mem) (𝓡 .run) in
     let Made : Spec 𝓤 view-of.signature = view-of.spec 𝓤 H A (𝓜 .mem) (𝓡 .run) in
     let Make : Contract 𝓤 = tripleOf 𝓤 H A view-of.signature Made in
@@ -23,6 +25,7 @@ neighbours-spec 𝓤 H 𝓜 𝓖 𝓡 =
     let fm : FmC 𝓤 H (W .laws) (tables 𝓤 H 𝓜 𝓡 code.env .C) = framed 𝓤 H 𝓜 (tables 𝓤 H 𝓜 𝓡 code.env) in
     proved-four 𝓤 H 𝓜 𝓖 𝓡 code.env neighbours.Key.name code.function (SliceRef 0 tt usize tt) Here (λ κs. word) (code.unfolded 𝓤 H 𝓜 𝓡)
     (λ κs. shr-slice-tells (named 0) (κs .0) usize) (λ κs. shr-slice-lawful 𝓤 H A W (named 0) (κs .0) usize) (λ κs qs b a g w.
+    -- what `view_of` is passed of the targets, a .0; and the lifetime as the local that holds the view has it
     let to-make : Make .Ghost = (((κs .0, tt), (qs .0, tt), tt, (a .0, tt), (slice-vals (a .0), tt)), tt) in
     let held : NamedLft = record { mir = erased; lft = κs .0 } in
     qed W (tokens 𝓤 κs qs ∷ ‵ (owns (typesAt (neighbours.signature .params) κs) a (at (word (a .0)) (a .1))) ∷ []) ∵
@@ -41,6 +44,8 @@ neighbours-spec 𝓤 H 𝓜 𝓖 𝓡 =
     move ! (0 ∷ 2 ∷ []) $ fjoin ! $ move ! (1 ∷ []) $ use1 W (‵ (flft (κs .0) (qs .0)) ⊛ ‵ ftrue) (id⊢ 𝓤 _) $ split ! $
     move ! (3 ∷ 1 ∷ []) $ join ! $ move ! (1 ∷ 0 ∷ []) $ join ! $
     handed-on ! fm (plain (λ κs. T.the-row (namedLft 2 0 tt κs))) Part
-    (cited 𝓤 H (tripleOf 𝓤 H A of-vertex.signature Part) 𝓜 𝓡 code.env of-vertex.Symbol.name of-vertex.Symbol.routine code.calls-view·held·of-vertex (of-vertex.Met.met 𝓤 H 𝓜 𝓖 𝓡))
+    (cited 𝓤 H (tripleOf 𝓤 H A of-vertex.signature Part) 𝓜 𝓡 code.env of-vertex.Symbol.name of-vertex.Symbol.routine
+    code.calls-view·held·of-vertex (of-vertex.Met.met 𝓤 H 𝓜 𝓖 𝓡))
     κs qs d u (a .1) tt (id⊢ 𝓤 (emp 𝓤))
+    -- the view's targets are the targets, so the two promises are one
     (ap (λ (s : RefT (List ℕ)). tripleOf 𝓤 H A neighbours.signature Here .post ((κs, qs, tt, (s, a .1), at (word s) (a .1)), tt)) e))))))

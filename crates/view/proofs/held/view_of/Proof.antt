@@ -1,9 +1,9 @@
 -- `view::held::view_of` meets its contract: a walk of its MIR, by hand. The view is made of the slice passed, in the result's local.
 -- What the slice owns is what its view owns. Assumes nothing.
-use Rattle.view.proofs.Rules.{_≡_, refl, [], _∷_, Val, sep, Atoms, sem, fact, flft, ftrue, Given, givenOf, Spec, Vals, Back, lasts, NamedLft, namedLft, named, usize, owns}
-use Rattle.view.proofs.Rules.{‵, _⊛_, _$_, _∵_, !, qed, move, use1, join, fjoin, nothing, suffices, show, says, frame, done, enter, assigns, agg, and-then, no-more, load, from}
-use Rattle.view.proofs.Rules.{stop, look, init, forget, returns, alloc1, alloc0, params1, pass1, pass0, free1, free0}
-use Rattle.view.proofs.Rules.{typesAt, slice-vals, shr-slice-tells, shr-slice-lawful, own-shut, proved}
+use Rattle.view.proofs.Rules.{_≡_, refl, [], _∷_, Val, sep, Atoms, sem, fact, flft, ftrue, Given, givenOf, Spec, Vals, Back, lasts, NamedLft, namedLft}
+use Rattle.view.proofs.Rules.{named, usize, owns, ‵, _⊛_, _$_, _∵_, !, qed, move, use1, join, fjoin, nothing, suffices, show, says, frame, done, enter}
+use Rattle.view.proofs.Rules.{assigns, agg, and-then, no-more, load, from, stop, look, init, forget, returns, alloc1, alloc0, params1, pass1, pass0}
+use Rattle.view.proofs.Rules.{free1, free0, typesAt, slice-vals, shr-slice-tells, shr-slice-lawful, own-shut, proved}
 use Rattle.view.specs.declared.held.Neighbours.{Neighbours}
 use Rattle.view.proofs.held.Neighbours as T
 use Rattle.view.proofs.held.view_of as view-of
@@ -29,6 +29,6 @@ view-of-spec 𝓤 H 𝓜 𝓖 𝓡 =
     -- [the token; what is owned]
     move ! (1 ∷ []) $ use1 W (‵ (T.the-row 'a .own made (md ∷ []))) (own-shut 𝓤 H A W (T.the-type 'a) (T.Laws.the-laws 'a) a) $ move ! (1 ∷ 0 ∷ []) $ join ! $
     -- [the token and what the view owns]: it is the result, and of the parameter nothing is said
-    suffices ! _ (W .laws .⇛-intro _) $ show ! (λ (r : Neighbours). sep 𝓤 (Back 𝓤 H A view-of.signature (κs, qs, b, a, at) md r) (Made κs a .ensures g r)) made $ frame ! $
-    show ! (λ (ws : Unit {0} × Unit {0}). sep 𝓤 (sem 𝓤 H A (lasts view-of.ended κs a ws)) (fact 𝓤 (made .targets ≡ a .0))) (tt, tt) $ says ! refl $
+    suffices ! _ (W .laws .⇛-intro _) $ show ! (λ (r : Neighbours). sep 𝓤 (Back 𝓤 H A view-of.signature (κs, qs, b, a, at) md r) (Made κs a .ensures g r)) made $
+    frame ! $ show ! (λ (ws : Unit {0} × Unit {0}). sep 𝓤 (sem 𝓤 H A (lasts view-of.ended κs a ws)) (fact 𝓤 (made .targets ≡ a .0))) (tt, tt) $ says ! refl $
     nothing ! $ nothing ! $ fjoin ! $ done !)))
