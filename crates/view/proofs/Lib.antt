@@ -1,3 +1,2 @@
--- What the three walks share: what the parameters own, and the rules of a body of six locals.
-pub mod Owned
+-- What the three walks share: the library's words that they are written with, and the rules of a function that hands its result on.
 pub mod Rules
