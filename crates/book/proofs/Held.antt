@@ -6,18 +6,12 @@ use mathlib.Core.Bool.{true}
 use Prim.Native.Nat.{ℕ, suc, _≤_, _<_}
 use lib.ListN.{length}
 use Rattle.basis.specs.Refusal.{Said, gives, refuses}
-use Rattle.book.specs.declared.Opened.{Opened}
-use Rattle.book.specs.declared.Joined.{Joined}
-use Rattle.book.specs.declared.Headed.{Headed}
-use Rattle.book.specs.Rules.{Done, done, Machine, found, Joining, merged, same, openBook, joinBook, headOf}
-use Rattle.book.specs.Two.{Areas, areas, two, twoBook}
-use Rattle.book.specs.Says.{saysOpened, saysJoined, saysHeaded}
+use Rattle.book.specs.Rules.{Machine, found, Joining, merged, same, openBook, joinBook, headOf}
+use Rattle.book.specs.Two.{areas, two, twoBook}
 use Rattle.book.specs.Series.{Call, Answer, Slip, slip, State, state, Kept, after, afterJoin, answer, run, headAt, movesAt}
 use Rattle.book.proofs.Checks.{fits-of}
 use Rattle.book.proofs.Faithful.{Faithful}
 use Rattle.book.proofs.Series.{open-is, demand3}
-use Rattle.book.proofs.Answers.{one-headed}
-use Rattle.book.proofs.TwoBook.{faithful-two}
 
 pub record Held (M : Machine) (n : ℕ) (a : M .Area) (js : List Slip) : Type 0 where
   pub start : State (M .Area)
@@ -82,18 +76,3 @@ module _ (M : Machine) (L : Faithful M) (n : ℕ) (a : M .Area) (js : List Slip)
 
       more : (m : ℕ) × (after M s (Call.joining u v) ≡ state b (gives tt) (slip u v ∷ js) m)
       more = unfold after in go (joinBook M a u v .said) refl
-
--- ---- the same from the promises of the code: an opening, a join, a head
-module _ (ps ss : List ℕ) (n : ℕ) where
-  pub two-opened : (qs ts : List ℕ) (r : Opened) → n ≤ 65536 → length ps ≡ n → length ss ≡ n → done (saysOpened r) (areas qs ts) ≡ openBook twoBook (areas ps ss)
-      → Held twoBook n (areas qs ts) []
-  two-opened qs ts r l p s e = subst (λ (a : Areas). Held twoBook n a []) (sym (ap (λ (d : Done (Unit {0}) Areas). d .area) e)) (two-open ps ss n l p s)
-
-  module _ (js : List Slip) (H : Held twoBook n (areas ps ss) js) where
-    pub two-joined : (qs ts : List ℕ) (u v : ℕ) (r : Joined) → u < n → v < n → done (saysJoined r) (areas qs ts) ≡ joinBook twoBook (areas ps ss) u v
-        → Held twoBook n (areas qs ts) (slip u v ∷ js)
-    two-joined qs ts u v r k l e =
-        subst (λ (a : Areas). Held twoBook n a (slip u v ∷ js)) (sym (ap (λ (d : Done Joining Areas). d .area) e)) (held-join twoBook faithful-two n (areas ps ss) js H u v k l)
-
-    pub two-headed : (v : ℕ) (r : Headed) → v < n → saysHeaded r ≡ headOf (two ps ss) v → r ≡ Headed.Head (headAt (two ps ss) v) (movesAt (two ps ss) v)
-    two-headed v r l e = one-headed r (Headed.Head (headAt (two ps ss) v) (movesAt (two ps ss) v)) (e ∙ held-head twoBook faithful-two n (areas ps ss) js H v l)

@@ -13,7 +13,7 @@ use Rattle.basis.specs.Refusal.{Said, gives, refuses, edgeFile, onward, said, n
 use Rattle.basis.specs.declared.refusal.Refusal.{Refusal}
 use Rattle.basis.specs.Area.{pad, copied}
 use Rattle.basis.specs.Order.{risingZ}
-use Rattle.basis.proofs.Tests.{and-first, and-second, no-case, and-swap}
+use Rattle.basis.proofs.Tests.{and-first, no-case, and-swap}
 use Rattle.basis.proofs.Areas.{column-ext, drop-replicate, pad-length, copied-first}
 use Rattle.basis.proofs.Saids.{said-gives, said-refuses, given-one, check-passed}
 use Rattle.text.specs.Line.{edgeLine}
@@ -83,9 +83,6 @@ module _ (both : Bool) (most : ℕ) (ids : List ℤ) (s : List ℕ) where
 
     pub read-fits : arcCount both (length es) ≤ t
     read-fits = let l = leb-true (length (arcs both es)) t (and-first (leb (length (arcs both es)) t) (leb (length (arcs both es)) t′) (taken .3)) in omega (arith, arc-count both es)
-
-    pub read-fits-back : arcCount both (length es) ≤ t′
-    read-fits-back = let l = leb-true (length (arcs both es)) t′ (and-second (leb (length (arcs both es)) t) (leb (length (arcs both es)) t′) (taken .3)) in omega (arith, arc-count both es)
 
 -- ---- areas, by each
 filled-of : (n : ℕ) {m k : ℕ} {a b c d a′ b′ c′ d′ : List ℕ} → m ≡ k → a ≡ a′ → b ≡ b′ → c ≡ c′ → d ≡ d′
