@@ -16,6 +16,7 @@ use Rattle.basis.proofs.Areas.{column-length}
 use Rattle.text.specs.Word.{Word, identOf}
 use Rattle.text.specs.Decimal.{decimalOf}
 use Rattle.text.specs.Line.{LineSaid, line, none, fault, lineBy, twoOf}
+use Rattle.text.proofs.Places.{Any, LineHas, line-any}
 use Rattle.graph.specs.Sound.{Graph, names, soundGraph, outward}
 use Rattle.graph.proofs.Sounds.{sound-of}
 use Rattle.kernels.specs.Answer.{kernelSays, bfsNumber, wccNumber, cdlpNumber, lccNumber}
@@ -29,7 +30,6 @@ use Rattle.trace.specs.Verdict.{threeOf, judgeTold, judgeTells}
 use Rattle.trace.specs.Host.{deskLines, isKernel, referenceFor, judgedAs}
 use Rattle.trace.specs.Steps.{deskJudged}
 use Rattle.trace.proofs.Codes.{readable-given, readable-refused}
-use Rattle.trace.proofs.Lines.{Faulty, line-faulty}
 
 -- ---- the lines of a claim
 
@@ -42,13 +42,13 @@ module _ {A : Type 0} (word : List ℕ → Word A) (s : List ℕ) (size room : �
       go : (t : Bool) → Readable {A = List A} room (cond t (gives []) (refuses (at tooMany claimFile k))) (λ l. k + length l)
       go true = readable-given [] (omega arith)
       go false = readable-refused (at tooMany claimFile k) (omega arith) (record { number = omega arith; file = omega arith; line = omega arith })
-  lines-readable (suc allowed) k place h = go (lineBy word s place) (line-faulty word s place) (λ next. lines-readable allowed (k + 1) next (omega arith))
+  lines-readable (suc allowed) k place h = go (lineBy word s place) (line-any word s place) (λ next. lines-readable allowed (k + 1) next (omega arith))
     where
       more : (v : A) (x : Said (List A)) → Readable room x (λ l. k + 1 + length l) → Readable room (said (λ l. v ∷ l) x) (λ l. k + length l)
       more v (gives l) f = readable-given (v ∷ l) (let t = f .values l refl in omega arith)
       more v (refuses r) f = let t = f .refusals r refl in readable-refused r (t .0) (t .1)
 
-      go : (x : LineSaid A) → Faulty x → ((next : ℕ) → Readable room (linesFrom (lineBy word s) size allowed (k + 1) next) (λ l. k + 1 + length l))
+      go : (x : LineSaid A) → LineHas Any x → ((next : ℕ) → Readable room (linesFrom (lineBy word s) size allowed (k + 1) next) (λ l. k + 1 + length l))
           → Readable {A = List A} room (elim x [
             | line v next ↦ said (λ l. v ∷ l) (linesFrom (lineBy word s) size allowed (k + 1) next)
             | none p ↦ gives []
@@ -56,7 +56,7 @@ module _ {A : Type 0} (word : List ℕ → Word A) (s : List ℕ) (size room : �
           ]) (λ l. k + length l)
       go (line v next) f ih = more v (linesFrom (lineBy word s) size allowed (k + 1) next) (ih next)
       go (none p) f ih = readable-given [] (omega arith)
-      go (fault n p) f ih = readable-refused (at n claimFile k) (f .0) (record { number = f .1; file = omega arith; line = omega arith })
+      go (fault n p) f ih = readable-refused (at n claimFile k) (omega (arith, f .0)) (record { number = omega (arith, f .1); file = omega arith; line = omega arith })
 
 -- ---- the line of a verdict
 
