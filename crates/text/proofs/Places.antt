@@ -15,7 +15,7 @@ use Rattle.basis.specs.Scan.{mem}
 use Rattle.basis.proofs.Tests.{clash, bool-cases}
 use Rattle.text.specs.Word.{Word, malformed, outside, value, rangedOf, countOf, signedOf, afterMinus, identOf}
 use Rattle.text.specs.Decimal.{decimalOf}
-use Rattle.text.specs.Line.{LineSaid, line, none, fault, lf, space, upTo, past, lineSays, lineBy, both, twoOf, vertexLine, edgeLine, coefficientLine}
+use Rattle.text.specs.Line.{LineSaid, line, none, fault, lf, space, upTo, past, lineSays, lineBy, both, twoOf, edgeLine, coefficientLine}
 use Rattle.text.specs.Scan.{Scanned, wellFormed, hasAt, identAt, closed, fieldAt, scanSays}
 use Rattle.text.specs.declared.decimal.Decimal.{Decimal}
 use Rattle.text.specs.declared.ident.Scan.{Scan}
@@ -181,9 +181,6 @@ pub line-any : {A : Type 0} (word : List ℕ → Word A) (s : List ℕ) (at : �
 line-any word s at = line-has Any word s at (λ bs. any-has (word bs))
 
 module _ (s : List ℕ) (at : ℕ) where
-  pub vertex-range : (z : ℤ) (q : ℕ) → vertexLine s at ≡ line z q → mag z < 2 ^ 63
-  vertex-range z q e = rw e at (line-has Small identOf s at ident-small)
-
   pub edge-range : (u v : ℤ) (q : ℕ) → edgeLine s at ≡ line (u, v) q → (mag u < 2 ^ 63) × (mag v < 2 ^ 63)
   edge-range u v q e = rw e at (line-has (Pairs Small Small) (twoOf identOf identOf) s at (two-has Small identOf ident-small))
 
