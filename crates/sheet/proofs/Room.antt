@@ -19,7 +19,6 @@ use Rattle.lists.specs.Files.{identifiers, edgesOf, allNumbered}
 use Rattle.lists.proofs.Refused.{Met, vertices-met, edges-met}
 use Rattle.load.specs.Load.{Lists, isUndirected, vertexRoom, arcRoom, withRoom, arcsRead, listsRead, loaded, sizeOf, outcomeOf, loadCall}
 use Rattle.load.specs.Good.{Says}
-use Rattle.load.proofs.Accepts.{load-accepted}
 use Rattle.graph.specs.Find.{placeIn}
 use Rattle.plan.specs.Lines.{lfs, sheetFault, inSheet, sheetLine}
 use Rattle.plan.specs.Jobs.{jobOf}
@@ -29,6 +28,7 @@ use Rattle.plan.proofs.Places.{Accepted, accepted}
 use Rattle.write.specs.Put.{written, putAt}
 use Rattle.write.proofs.Puts.{wrote-whole}
 use Rattle.sheet.specs.Desk.{deskLimits, deskRoom, modeNumber, linesIn, graphIn, loadText, planText, checkedText, deskOutput}
+use Rattle.sheet.proofs.Whole.{listsIn, lists-good}
 use Rattle.sheet.proofs.Lists.{All, all-take, all-pad}
 use Rattle.sheet.proofs.Lengths.{Brief, refused-most, jobs-most}
 
@@ -71,16 +71,7 @@ abbrev pub mostOutput : ℕ
 mostOutput = 65536 + 16 * 43013
 
 module _ (s : List ℕ) (p : Plan) (a : Accepted s p) where
-  abbrev mode : ℕ
-  mode = modeNumber (p .directed)
-
-  abbrev vertices : List ℕ
-  vertices = linesIn (p .vertices) s
-
-  abbrev edges : List ℕ
-  edges = linesIn (p .edges) s
-
-  plan-by : (x : Said Lists) → loaded deskLimits mode deskRoom vertices edges ≡ x → Either Any Brief x
+  plan-by : (x : Said Lists) → listsIn s p ≡ x → Either Any Brief x
       → length (loadText s p (outcomeOf deskRoom x) (outcomeOf deskRoom x .answer)) ≤ mostOutput
   unfolding outcomeOf
   plan-by (refuses r) e b = omega (arith, refused-most r b)
@@ -88,7 +79,7 @@ module _ (s : List ℕ) (p : Plan) (a : Accepted s p) where
       let w = a .places .jobs in
       let n : p .jobs .count * 43013 ≤ 16 * 43013 = omega (arith, a .places .few) in
       let o = outcomeOf deskRoom (gives l) in
-      let g = load-accepted deskLimits mode deskRoom vertices edges l .0 e in
+      let g = lists-good s p l e in
       let small = ids-small (g .goodVertices .lines .words) (l .ids) (g .goodVertices .lines .values) in
       omega (
         arith,
@@ -102,7 +93,7 @@ module _ (s : List ℕ) (p : Plan) (a : Accepted s p) where
 
   plan-most : length (planText s p) ≤ mostOutput
   unfolding planText loadCall
-  plan-most = plan-by (loaded deskLimits mode deskRoom vertices edges) refl (load-brief mode vertices edges)
+  plan-most = plan-by (listsIn s p) refl (load-brief (modeNumber (p .directed)) (linesIn (p .vertices) s) (linesIn (p .edges) s))
 
 -- ---- a refused sheet: its refusal is brief
 lfs-few : (l : List ℕ) → lfs l ≤ length l

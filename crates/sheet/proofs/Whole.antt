@@ -5,12 +5,14 @@ use mathlib.Core.List.{List}
 use native.Mathlib.Omega.{arith}
 use lib.IntN.{ℤ}
 use lib.ListN.{length}
+use Rattle.basis.specs.Refusal.{Said, gives}
 use Rattle.basis.specs.declared.refusal.Refusal.{Refusal}
 use Rattle.basis.proofs.Saids.{said-gives}
 use Rattle.graph.specs.declared.Size.{Size}
 use Rattle.load.specs.declared.Loaded.{Loaded}
 use Rattle.load.specs.declared.Loaded.the-variants as LD
-use Rattle.load.specs.Load.{says, Room, Outcome, outcome, loaded, sizeOf, outcomeOf, loadCall}
+use Rattle.load.specs.Load.{says, Lists, Room, Outcome, outcome, loaded, sizeOf, outcomeOf, loadCall}
+use Rattle.load.specs.Good.{GoodLoad}
 use Rattle.load.proofs.Accepts.{load-accepted}
 use Rattle.write.specs.Put.{written, putAt}
 use Rattle.write.proofs.Puts.{put-as}
@@ -24,18 +26,22 @@ use Rattle.sheet.specs.Jobs.{jobsText}
 use Rattle.sheet.specs.Desk.{deskLimits, deskRoom, modeNumber, linesIn, loadOf, graphIn, loadText, planText, checkedText, deskOutput}
 use Rattle.sheet.specs.Steps.{Placed}
 
--- ---- a graph that was loaded has no more vertices than the area of identifiers has places
+-- ---- what the vertex and edge sections of a plan say
+module _ (s : List ℕ) (p : Plan) where
+  abbrev pub listsIn : Said Lists
+  listsIn = loaded deskLimits (modeNumber (p .directed)) deskRoom (linesIn (p .vertices) s) (linesIn (p .edges) s)
+
+  pub lists-good : (l : Lists) → listsIn ≡ gives l → GoodLoad deskLimits (modeNumber (p .directed)) deskRoom (linesIn (p .vertices) s) (linesIn (p .edges) s) l
+  lists-good l e = load-accepted deskLimits (modeNumber (p .directed)) deskRoom (linesIn (p .vertices) s) (linesIn (p .edges) s) l .0 e
+
+-- a graph that was loaded has no more vertices than the area of identifiers has places
 pub few-vertices : (s : List ℕ) (p : Plan) (x : Loaded) {ids : List ℤ} {oo ot io is : List ℕ} (size : Size) → outcome (says x) ids oo ot io is ≡ loadOf s p deskRoom
     → x ≡ LD.Graph size → size .vertices ≤ 1024
 unfolding loadCall outcomeOf
 few-vertices s p x size u e =
-    let mode = modeNumber (p .directed) in
-    let vertices = linesIn (p .vertices) s in
-    let edges = linesIn (p .edges) s in
-    let g = said-gives sizeOf (loaded deskLimits mode deskRoom vertices edges) size (sym (ap says e) ∙ ap (λ (o : Outcome). o .answer) u) in
-    let few = load-accepted deskLimits mode deskRoom vertices edges (g .0) .0 (g .1) .idsFit in
+    let g = said-gives sizeOf (listsIn s p) size (sym (ap says e) ∙ ap (λ (o : Outcome). o .answer) u) in
     let q : size .vertices ≡ length (g .0 .ids) = ap (λ (z : Size). z .vertices) (g .2) in
-    omega arith
+    omega (arith, lists-good s p (g .0) (g .1) .idsFit)
 
 -- ---- the load of the sections
 pub sections-loaded : (s : List ℕ) (p : Plan) (room : Room) (m : ℕ) (o : Outcome) → m ≡ modeNumber (p .directed)

@@ -23,6 +23,7 @@ use Rattle.kernels.specs.Answer.{kernelSays, bfsNumber, wccNumber, cdlpNumber, 
 use Rattle.wcc.specs.Component.{labelOf, wccOf}
 use Rattle.matching.specs.Claim.{linesFrom, numberLines, coefficientLines, idsOf, valuesOf}
 use Rattle.matching.specs.Verdict.{Verdict, near, firstLine, incompleteLine, agrees, failingLine, unlikeLine, verdictOf, judgedBy}
+use Rattle.matching.proofs.Readings.{ids-length, values-length}
 use Rattle.verdicts.specs.Reference.{Reference, coefficients, bfsReference, wccReference, cdlpReference, lccReference}
 use Rattle.verdicts.specs.Call as Call
 use Rattle.trace.specs.Code.{placed, hostCode, wide, narrow, Small, Readable}
@@ -84,14 +85,6 @@ unlike-bound : (a b : List ℤ) → unlikeLine a b ≤ length a
 unfolding unlikeLine
 unlike-bound a b = let h = failing-bound (agrees a b) (length a) 0 in omega arith
 
-length-ids : {A : Type 0} (l : List (ℤ × A)) → length (idsOf l) ≡ length l
-length-ids [] = refl
-length-ids (x ∷ l) = ap suc (length-ids l)
-
-length-values : {A : Type 0} (l : List (ℤ × A)) → length (valuesOf l) ≡ length l
-length-values [] = refl
-length-values (x ∷ l) = ap suc (length-values l)
-
 -- ---- what is said of a claim
 module _ (room : ℕ) (some : 65537 < room) where
   verdict-small : (incomplete mismatch : ℕ) → incomplete < room → mismatch < room → Small room (threeOf (gives (verdictOf incomplete mismatch)))
@@ -104,7 +97,7 @@ module _ (room : ℕ) (some : 65537 < room) where
   unfolding judgedBy
   judged-small ids mismatch (gives l) h m =
       verdict-small (incompleteLine ids (idsOf l)) (mismatch (valuesOf l))
-      (let f = first-bound sameZ 1 ids (idsOf l) in let n = length-ids l in let k = h .values l refl in omega arith) (m l refl)
+      (let f = first-bound sameZ 1 ids (idsOf l) in let n = ids-length l in let k = h .values l refl in omega arith) (m l refl)
   judged-small ids mismatch (refuses r) h m = h .refusals r refl .1
 
   -- by the line at which two lists part
@@ -112,7 +105,7 @@ module _ (room : ℕ) (some : 65537 < room) where
       → Small room (threeOf (judgedBy ids (firstLine alike 1 reference) x))
   parted-small alike ids reference x h =
       judged-small ids (firstLine alike 1 reference) x h
-      (λ l e. let f = first-bound alike 1 reference (valuesOf l) in let n = length-values l in let k = h .values l e in omega arith)
+      (λ l e. let f = first-bound alike 1 reference (valuesOf l) in let n = values-length l in let k = h .values l e in omega arith)
 
   module _ (most : ℕ) (few : most ≤ 65536) (g : Graph) (s : List ℕ) (kernel : ℕ) (parameter : ℤ) where
     numbers-readable : Readable room (numberLines most s) (λ l. 1 + length l)
