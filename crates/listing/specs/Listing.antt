@@ -10,7 +10,7 @@ use Rattle.write.specs.Decimal.{decimal, signedText}
 abbrev pub slash : ℕ
 slash = 47
 
--- "`refused` and the three numbers, one space apart"
+-- `refused`, the word alone
 abbrev pub refusedWord : List ℕ
 refusedWord = 114 ∷ 101 ∷ 102 ∷ 117 ∷ 115 ∷ 101 ∷ 100 ∷ []
 
@@ -30,7 +30,7 @@ refusedText r = refusedWord ++ (numbersText r ++ (lf ∷ []))
 unfoldable pub headText : List ℕ → ℕ → List ℕ
 headText line n = line ++ (decimal n ++ (lf ∷ []))
 
--- "then identifier and value for each vertex": one space between; a coefficient has `/` between its two numbers
+-- "then identifier and value for each vertex": the identifier, and one space before the value
 unfoldable pub namedText : ℤ → List ℕ
 namedText id = signedText id ++ (space ∷ [])
 

@@ -3,3 +3,4 @@ pub mod Reading
 pub mod Runs
 pub mod Gathers
 pub mod Fronts
+pub mod Refused

@@ -18,7 +18,7 @@ abbrev pub listedSays : Listed → Said ℕ
 listedSays (Lines n) = gives n
 listedSays (Refused r) = refuses r
 
--- ---- the vertex file
+-- what the reading of a vertex file answers, and what stands in the area of identifiers then
 pub record Vertexes : Type 0 where
   pub answer : Said ℕ
   pub ids : List ℤ
@@ -35,7 +35,7 @@ idsArea size s = areaOf (pos 0) size (take size) s
 abbrev pub vertexCall : ℕ → List ℕ → ℕ → Vertexes
 vertexCall most s size = vertexOutcome (said length (identifiers most s)) (idsArea size (identifiers most s))
 
--- ---- the edge file
+-- the same of an edge file: the answer, how many edges begin at each vertex, and their second ends
 pub record EdgesRead : Type 0 where
   pub answer : Said ℕ
   pub counts : List ℕ
@@ -54,7 +54,7 @@ countsArea place size (refuses r) = replicate size 0
 abbrev pub targetsArea : (ℤ → Found) → ℕ → Said (List (ℤ × ℤ)) → List ℕ
 targetsArea place size s = areaOf 0 size (λ es. take size (seconds (allNumbered place es))) s
 
--- the edges between the vertices that `place` finds
+-- the reading of an edge file of at most so many lines between the vertices that `place` finds, into areas of the given lengths
 abbrev pub edgeCall : Bool → ℕ → (ℤ → Found) → List ℕ → ℕ → ℕ → EdgesRead
 edgeCall both most place s c t =
     edgeOutcome (said length (edgesOf both most place s)) (countsArea place c (edgesOf both most place s)) (targetsArea place t (edgesOf both most place s))

@@ -17,7 +17,7 @@ abbrev pub vertexTest : Before ℤ → ℤ → ℕ
 vertexTest first z = 0
 vertexTest (after y) z = cond (ltZ y z) 0 notAbove
 
--- the vertex file line by line (1, 2, 3, 4)
+-- "the vertex file line by line (1, 2, 3, 4)"
 abbrev pub identifiers : ℕ → List ℕ → Said (List ℤ)
 identifiers most s = valuesOf vertexFile most vertexTest (linesOf vertexLine s)
 
@@ -30,7 +30,7 @@ abbrev pub isAbove : Before (ℤ × ℤ) → ℤ × ℤ → Bool
 isAbove first e = true
 isAbove (after d) e = abovePair d e
 
--- where an identifier stands in the vertex file, if it does: the number of its vertex
+-- an identifier was found in the vertex file
 abbrev pub isThere : Found → Bool
 isThere (At k) = true
 isThere Missing = false
@@ -47,7 +47,7 @@ edgeTest both place before e =
     (cond (both && ltZ (e .1) (e .0)) largerFirst
     (cond (isAbove before e) (cond (isThere (place (e .0)) && isThere (place (e .1))) 0 unknownVertex) notAbove))
 
--- the edge file line by line (1, 2, 3, 5, 6, 4, 7)
+-- "the edge file line by line (1, 2, 3, 5, 6, 4, 7)"
 abbrev pub edgesOf : Bool → ℕ → (ℤ → Found) → List ℕ → Said (List (ℤ × ℤ))
 edgesOf both most place s = valuesOf edgeFile most (edgeTest both place) (linesOf edgeLine s)
 

@@ -50,7 +50,7 @@ module _ {A : Type 0} (file most : ℕ) (test : Before A → A → ℕ) where
 abbrev pub beforeBy : {A : Type 0} → ℕ → A → Before A
 beforeBy k last = cond (ltb 0 k) (after last) first
 
--- ---- the vertex file
+-- one vertex line more, read at the reader's place and tested after the identifier that it passed last
 unfoldable pub vertexStep : List ℕ → ℕ → Vertices → Step ℤ
 vertexStep s most c = stepBy vertexFile most vertexTest (c .lines) (beforeBy (c .lines) (c .last)) (vertexLine s (c .at .at))
 
@@ -68,7 +68,7 @@ abbrev pub idsLeft : Listed → List ℤ → Said (ℕ × List ℤ)
 idsLeft (Lines n) area = gives (n, area)
 idsLeft (Refused r) area = refuses r
 
--- ---- the edge file
+-- the edge that a reader passed last, by its two identifiers
 abbrev pub pairOf : Edges → ℤ × ℤ
 pairOf c = (c .first, c .second)
 
@@ -93,7 +93,7 @@ abbrev pub endsSays : Ends → Looked
 endsSays (EN.Known u v) = found (u, v)
 endsSays EN.Unknown = unknown
 
--- with the numbers of an edge's vertices
+-- an edge's step with the numbers of its vertices beside its identifiers
 abbrev pub withNumbers : (ℤ → Found) → Step (ℤ × ℤ) → Step ((ℤ × ℤ) × Arc)
 withNumbers place (more e next k) = more (e, numbered place e) next k
 withNumbers place (stop r) = stop r

@@ -29,7 +29,7 @@ use Rattle.matching.specs.Claim.{coefficientLines, idsOf, valuesOf}
 use Rattle.matching.specs.Verdict.{Verdict, Fraction, incompleteLine, verdictOf, says, judgedBy}
 use Rattle.matching.specs.Calls.{nearWithin, farWithin, fractionAt, fractions, coefficientsSays}
 use Rattle.matching.specs.Steps.{orElse, placeLine, coverStep, nearStep, endLine}
-use Rattle.matching.proofs.FirstLines.{bits-back, or-kept, Against, against-none, against-next, against-end}
+use Rattle.matching.proofs.FirstLines.{bits-back, Against, against-none, against-next, against-end}
 use Rattle.matching.proofs.Readings.{Passed, passed-none, passed-next, passed-end, passed-fault, passed-full, passed-over, ids-more, values-more}
 use Rattle.matching.proofs.NumberLines.{end-zero}
 
@@ -46,26 +46,6 @@ module _ (a b : ℕ) (s : Decimal) where
   pub near-within : a ≤ 4294967295 → b ≤ 4294967295 → (r : Bool) → r ≡ isClose a b s → r ≡ nearWithin (a, b) s
   unfolding nearWithin
   near-within h g r e = rw (lt-ltb a (2 ^ 32) (omega arith), lt-ltb b (2 ^ 32) (omega arith)) e
-
--- ---- one line: t is the answer of `near` for place k
-module _ (n : ℕ) (nums dens : List ℕ) (k : ℕ) (s : Decimal) (mismatch : ℕ) where
-  pub near-kept : (mismatch ≡ 0 → ⊥) → mismatch ≡ nearStep n nums dens k s mismatch
-  unfolding nearStep
-  near-kept h = or-kept mismatch _ h
-
-  module _ (e : mismatch ≡ 0) where
-    pub near-surplus : n ≤ k → k + 1 ≡ nearStep n nums dens k s mismatch
-    unfolding nearStep
-    near-surplus h = rw (e, le-ltb k n h)
-
-    module _ (l : k < n) (t : Bool) (q : t ≡ nearWithin (fractionAt nums dens k) s) where
-      pub near-yes : t ≡ true → 0 ≡ nearStep n nums dens k s mismatch
-      unfolding nearStep
-      near-yes h = rw (e, lt-ltb k n l, ← q, h)
-
-      pub near-no : t ≡ false → k + 1 ≡ nearStep n nums dens k s mismatch
-      unfolding nearStep
-      near-no h = rw (e, lt-ltb k n l, ← q, h)
 
 -- ---- the lines: k of them are done, up to a place
 pub record Decimals (most : ℕ) (ids : List ℤ) (nums dens : List ℕ) (s : List ℕ) (place k incomplete mismatch : ℕ) : Type 0 where
@@ -129,7 +109,6 @@ module _ (most : ℕ) (ids : List ℤ) (nums dens : List ℕ) (s : List ℕ) whe
       pub decimals-next : (id : ℤ) (d : Decimal) (c : Cursor) → x ≡ CL.Line id d c
           → {i : ℕ} → i ≡ coverStep ids k (toZ w64 (ofZ w64 id)) incomplete → {m : ℕ} → m ≡ nearStep (length ids) nums dens k d mismatch
           → Decimals most ids nums dens s (c .at) (k + 1) i m
-      unfolding coverStep nearStep
       decimals-next id d c q r r′ =
           record {
             done = h .done ++ ((id, d) ∷ []);

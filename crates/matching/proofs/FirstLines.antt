@@ -6,7 +6,7 @@ use Prim.Native.Nat.{ℕ, zero, suc, _+_, _-_, _^_, _≤_, _<_}
 use native.Mathlib.Numerals.{add-one}
 use native.Mathlib.Omega.{arith}
 use lib.Dec.{ltb, leb}
-use lib.IntN.{ℤ, pos}
+use lib.IntN.{ℤ}
 use lib.Signed.{mag}
 use lib.ListN.{length, getD, drop, set, drop-of-length-le}
 use lib.Seq.{drop-cons}
@@ -17,7 +17,7 @@ use mir.Facts.{toZ-ofZ}
 use Rattle.basis.specs.Order.{sameZ}
 use Rattle.basis.proofs.Tests.{bool-cases, held, and-first, and-second}
 use Rattle.matching.specs.Verdict.{firstLine, failingLine}
-use Rattle.matching.specs.Steps.{orElse, placeLine, coverStep, endLine}
+use Rattle.matching.specs.Steps.{orElse, placeLine, endLine}
 
 drop-one : {A : Type 0} (x : A) (l : List A) (i : ℕ) → i < length l → drop i l ≡ getD l i x ∷ drop (i + 1) l
 drop-one x l i h = drop-cons l i x h ∙ ap (λ (k : ℕ). getD l i x ∷ drop k l) (sym (add-one i))
@@ -96,28 +96,25 @@ pub or-kept : (k l : ℕ) → (k ≡ 0 → ⊥) → k ≡ orElse k l
 or-kept zero l h = absurd (h refl)
 or-kept (suc k) l h = refl
 
-module _ (ids : List ℤ) (k : ℕ) (id : ℤ) (incomplete : ℕ) where
-  pub cover-kept : (incomplete ≡ 0 → ⊥) → incomplete ≡ coverStep ids k id incomplete
-  unfolding coverStep
-  cover-kept h = or-kept incomplete _ h
+-- a first line that was found before the line after k others, or this line by the test t of its place; the code has the test as u
+module _ (n k found : ℕ) (t : Bool) where
+  pub step-kept : (found ≡ 0 → ⊥) → found ≡ orElse found (placeLine n k t)
+  step-kept h = or-kept found _ h
 
-  module _ (e : incomplete ≡ 0) where
-    pub cover-surplus : length ids ≤ k → k + 1 ≡ coverStep ids k id incomplete
-    unfolding coverStep
-    cover-surplus h = rw (e, le-ltb k (length ids) h)
+  module _ (e : found ≡ 0) where
+    pub step-surplus : n ≤ k → k + 1 ≡ orElse found (placeLine n k t)
+    step-surplus h = rw (e, le-ltb k n h)
 
-    -- the test t of the identifier at place k, as it was read, and this one
-    module _ (l : k < length ids) (x y : ℤ) (p : x ≡ getD ids k (pos 0)) (q : y ≡ id) (t : Bool) (s : t ≡ sameZ x y) where
-      named : t ≡ sameZ (getD ids k (pos 0)) id
-      named = s ∙ ap₂ sameZ p q
+    module _ (l : k < n) (u : Bool) (q : u ≡ t) where
+      pub step-passes : u ≡ true → 0 ≡ orElse found (placeLine n k t)
+      step-passes h = rw (e, lt-ltb k n l, ← q, h)
 
-      pub cover-same : t ≡ true → 0 ≡ coverStep ids k id incomplete
-      unfolding coverStep
-      cover-same h = rw (e, lt-ltb k (length ids) l, ← named, h)
+      pub step-fails : u ≡ false → k + 1 ≡ orElse found (placeLine n k t)
+      step-fails h = rw (e, lt-ltb k n l, ← q, h)
 
-      pub cover-other : t ≡ false → k + 1 ≡ coverStep ids k id incomplete
-      unfolding coverStep
-      cover-other h = rw (e, lt-ltb k (length ids) l, ← named, h)
+-- the test of two identifiers that went through the machine's bits
+pub same-named : {x y a b : ℤ} {u : Bool} → u ≡ sameZ x y → x ≡ a → y ≡ b → u ≡ sameZ a b
+same-named s p q = s ∙ ap₂ sameZ p q
 
 module _ (n k incomplete : ℕ) where
   pub end-kept : (incomplete ≡ 0 → ⊥) → incomplete ≡ endLine n k incomplete

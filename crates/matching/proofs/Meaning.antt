@@ -20,6 +20,7 @@ use Rattle.basis.proofs.Orders.{signed-order}
 use Rattle.text.specs.declared.decimal.Decimal.{Decimal}
 use Rattle.matching.specs.Claim.{idsOf, valuesOf}
 use Rattle.matching.specs.Verdict.{Verdict, matched, incompleteAt, mismatchAt, Fraction, near, firstLine, incompleteLine, unequalLine, sameKind, agrees, failingLine, unlikeLine, farLine, verdictOf, judgedBy}
+use Rattle.matching.proofs.Readings.{ids-length, values-length}
 
 abbrev pub accepted : Said Verdict
 accepted = gives matched
@@ -200,13 +201,9 @@ module _ (a b : List ℤ) where
     pub unlike-exactly : (unlikeLine a b ≡ 0) ↔ (TwoWay a b)
     unlike-exactly = (λ h. two-way (kinds-of h), λ w. kinds-all (one-way w))
 
-values-length : {A : Type 0} (l : List (ℤ × A)) → length (valuesOf l) ≡ length (idsOf l)
-values-length [] = refl
-values-length (x ∷ l) = ap suc (values-length l)
-
 pub equivalence-match : (ids reference : List ℤ) (l : List (ℤ × ℤ)) → length reference ≡ length ids → idsOf l ≡ ids
     → (judgedBy ids (unlikeLine reference) (gives l) ≡ accepted) ↔ (TwoWay reference (valuesOf l))
-equivalence-match ids reference l n c = by-match ids (unlikeLine reference) l (unlike-exactly reference (valuesOf l) (n ∙ ap length (sym c) ∙ sym (values-length l))) c
+equivalence-match ids reference l n c = by-match ids (unlikeLine reference) l (unlike-exactly reference (valuesOf l) (n ∙ ap length (sym c) ∙ ids-length l ∙ sym (values-length l))) c
 
 -- a reference output under a renaming that keeps labels apart
 map-at : (f : ℤ → ℤ) (l : List ℤ) (i : ℕ) → i < length l → getD (map f l) i (pos 0) ≡ f (getD l i (pos 0))

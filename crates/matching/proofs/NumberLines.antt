@@ -40,7 +40,6 @@ pub record Numbers (most : ℕ) (ids : List ℤ) (s : List ℕ) (size : ℕ) (cl
 
 -- what follows where a step or an end finds nothing incomplete
 cover-zero : (ids : List ℤ) (k : ℕ) (id : ℤ) (incomplete : ℕ) → coverStep ids k id incomplete ≡ 0 → (incomplete ≡ 0) × (k < length ids)
-unfolding coverStep
 cover-zero ids k id zero e =
     bool-cases (ltb k (length ids)) _ (λ l. (refl, ltb-true k (length ids) l)) (λ l. absurd (let f : k + 1 ≡ 0 = rw l at e in omega arith))
 cover-zero ids k id (suc i) e = absurd (omega arith)
@@ -96,7 +95,6 @@ module _ (most : ℕ) (ids : List ℤ) (s : List ℕ) where
       pub numbers-next : (id v : ℤ) (c : Cursor) → x ≡ EL.Line id v c → length ids ≤ size
           → {i : ℕ} → i ≡ coverStep ids k (toZ w64 (ofZ w64 id)) incomplete → {left : List ℤ} → left ≡ cond (ltb k (length ids)) (set claimed k (toZ w64 (ofZ w64 v))) claimed
           → Numbers most ids s size left (c .at) (k + 1) i
-      unfolding coverStep
       numbers-next id v c q room r r′ =
           record {
             done = h .done ++ ((id, v) ∷ []);

@@ -4,6 +4,7 @@ use mathlib.Core.List.{List, [], _∷_, _++_, append-assoc, append-nil}
 use Prim.Native.Nat.{ℕ, suc, _+_, _-_, _≤_, _<_}
 use native.Mathlib.Omega.{arith}
 use lib.IntN.{ℤ}
+use lib.ListN.{length}
 use borrow.Author.Tests.{le-leb, lt-leb}
 use Rattle.basis.specs.Refusal.{Said, gives, refuses, at, tooMany, claimFile, said}
 use Rattle.text.specs.Line.{LineSaid, line, none, fault}
@@ -28,6 +29,14 @@ ids-more (y ∷ l) x = ap (λ t. y .0 ∷ t) (ids-more l x)
 pub values-more : {A : Type 0} (l : List (ℤ × A)) (x : ℤ × A) → valuesOf (l ++ (x ∷ [])) ≡ valuesOf l ++ (x .1 ∷ [])
 values-more [] x = refl
 values-more (y ∷ l) x = ap (λ t. y .1 ∷ t) (values-more l x)
+
+pub ids-length : {A : Type 0} (l : List (ℤ × A)) → length (idsOf l) ≡ length l
+ids-length [] = refl
+ids-length (x ∷ l) = ap suc (ids-length l)
+
+pub values-length : {A : Type 0} (l : List (ℤ × A)) → length (valuesOf l) ≡ length l
+values-length [] = refl
+values-length (x ∷ l) = ap suc (values-length l)
 
 -- a claim of which k lines are done, up to a place
 pub record Passed {A : Type 0} (read : ℕ → LineSaid A) (size most : ℕ) (done : List A) (place k : ℕ) : Type 0 where

@@ -37,11 +37,11 @@ nearWithin r s = ltb (r .0) (2 ^ 32) && (ltb (r .1) (2 ^ 32) && near r s)
 abbrev pub farWithin : List Fraction → List Decimal → ℕ
 farWithin reference claimed = firstLine nearWithin 1 reference claimed
 
--- the fraction at a place of two areas, and the first n of them
+-- the fraction at a place of two areas, of numerators and of denominators
 abbrev pub fractionAt : List ℕ → List ℕ → ℕ → Fraction
 fractionAt nums dens i = (getD nums i 0, getD dens i 0)
 
--- the fractions at the first n places of two areas of numerators and denominators
+-- the fractions at the first n places of two such areas
 abbrev pub fractions : ℕ → List ℕ → List ℕ → List Fraction
 fractions n nums dens = column (fractionAt nums dens) 0 n
 

@@ -9,8 +9,9 @@ use Rattle.basis.specs.Refusal.{Said, gives, refuses, at, tooMany, claimFile, s
 use Rattle.text.specs.Line.{LineSaid, line, none, fault, claimLine, coefficientLine}
 use Rattle.text.specs.declared.decimal.Decimal.{Decimal}
 
--- the lines from a place on, the next being line k, of which so many more are allowed; the line after the last allowed one is refused whatever its form
+-- the lines of a claim of the given size, by a reader of one line
 module _ {A : Type 0} (read : ℕ → LineSaid A) (size : ℕ) where
+  -- "more than 65,536 lines is 1": the lines from a place on, the next being line k, with so many more allowed; the one after the last allowed is refused whatever its form
   unfoldable pub linesFrom : ℕ → ℕ → ℕ → Said (List A)
   linesFrom zero k place = cond (leb size place) (gives []) (refuses (at tooMany claimFile k))
   linesFrom (suc allowed) k place =
@@ -28,12 +29,12 @@ numberLines most s = linesFrom (claimLine s) (length s) most 1 0
 abbrev pub coefficientLines : ℕ → List ℕ → Said (List (ℤ × Decimal))
 coefficientLines most s = linesFrom (coefficientLine s) (length s) most 1 0
 
--- the identifiers and the values that a claim's lines name
+-- the identifiers that a claim's lines name, in their order
 abbrev pub idsOf : {A : Type 0} → List (ℤ × A) → List ℤ
 idsOf [] = []
 idsOf (x ∷ l) = x .0 ∷ idsOf l
 
--- the values alone, in the order of the lines
+-- the values that they claim, in the same order
 abbrev pub valuesOf : {A : Type 0} → List (ℤ × A) → List A
 valuesOf [] = []
 valuesOf (x ∷ l) = x .1 ∷ valuesOf l

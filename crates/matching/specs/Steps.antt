@@ -44,11 +44,11 @@ abbrev pub placeLine : ℕ → ℕ → Bool → ℕ
 placeLine n k t = cond (ltb k n) (cond t 0 (k + 1)) (k + 1)
 
 -- the first incomplete line once the line after k others has named id: one found before, or this where id isn't the graph's at that place or there is no such place
-unfoldable pub coverStep : List ℤ → ℕ → ℤ → ℕ → ℕ
+abbrev pub coverStep : List ℤ → ℕ → ℤ → ℕ → ℕ
 coverStep ids k id incomplete = orElse incomplete (placeLine (length ids) k (sameZ (getD ids k (pos 0)) id))
 
 -- the first mismatch once the line after k others, of n, has claimed s: one found before, or this where s is not near its fraction or the line is surplus
-unfoldable pub nearStep : ℕ → List ℕ → List ℕ → ℕ → Decimal → ℕ → ℕ
+abbrev pub nearStep : ℕ → List ℕ → List ℕ → ℕ → Decimal → ℕ → ℕ
 nearStep n nums dens k s mismatch = orElse mismatch (placeLine n k (nearWithin (fractionAt nums dens k) s))
 
 -- the end of a claim after k lines, of n

@@ -77,11 +77,11 @@ failingLine p (suc n) i = cond (p i) (failingLine p n (i + 1)) (i + 1)
 unfoldable pub unlikeLine : List ℤ → List ℤ → ℕ
 unlikeLine labels claims = failingLine (agrees labels claims) (length labels) 0
 
--- 000 "Epsilon match", of fractions
+-- "with r the exact fraction": its numerator and its denominator
 abbrev pub Fraction : Type 0
 Fraction = ℕ × ℕ
 
--- "10,000 times |r-s| at most r", with r as numerator and denominator
+-- 000 "Epsilon match", as 01 has it: "10,000 times |r-s| at most r"
 abbrev pub near : Fraction → Decimal → Bool
 near r s = isClose (r .0) (r .1) s
 

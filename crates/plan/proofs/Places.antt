@@ -1,5 +1,5 @@
 -- What callers stand on: the sections of a plan lie in the sheet, one after another, and so does each job line. Assumes nothing.
-use Prim.Native.Nat.{ℕ, zero, suc, _≤_, _<_}
+use Prim.Native.Nat.{ℕ, zero, suc, _≤_}
 use mathlib.Core.Path.{_≡_, refl}
 use mathlib.Core.Bool.{Bool, true, false}
 use mathlib.Core.List.{List}
@@ -9,10 +9,9 @@ use lib.Dec.{leb, ltb}
 use lib.ListN.{length}
 use Rattle.basis.specs.Refusal.{Said, gives, refuses, at}
 use Rattle.basis.proofs.Saids.{Either, either-cond, either-onward}
-use Rattle.basis.specs.declared.refusal.Refusal.{Refusal}
 use Rattle.text.specs.Word.{Word, countOf}
 use Rattle.text.specs.Line.{LineSaid, line, none, fault, lineBy}
-use Rattle.text.proofs.Places.{Moved, Placed, places}
+use Rattle.text.proofs.Places.{Moved, Placed, places, Any}
 use Rattle.plan.specs.Lines.{inSheet, sheetLine}
 use Rattle.plan.specs.Jobs.{jobOf}
 use Rattle.plan.specs.Sheet.{mostVertices, mostEdges, mostJobs, mostBytes, modeOf, limited, countLine, anyOf, nextOf, linePast, linesPast, block, linesOf, section, sections, ended, checked}
@@ -20,9 +19,6 @@ use Rattle.plan.specs.declared.sections.Block.{Block}
 use Rattle.plan.specs.declared.sections.Plan.{Plan}
 
 -- what is given has P
-abbrev Any : Refusal → Type 0
-Any r = Unit {0}
-
 abbrev pub Gives : {A : Type 0} → (A → Type 0) → Said A → Type 0
 Gives P x = Either P Any x
 
@@ -68,21 +64,20 @@ lines-in jobs (suc k) s place h = by (λ next g. lines-in jobs k s next g) (line
     by ih (gives next) e m = rw (linesPast, e) (after next m (linesPast jobs k s next) (ih next (m .inside)))
     by ih (refuses r) e m = rw (linesPast, e) tt
 
--- ---- a section, from the place of its count line on
-pub record Placed-block (s : List ℕ) (limit place : ℕ) (b : Block) : Type 0 where
-  pub after : place < b .from
+-- ---- a section
+pub record Placed-block (s : List ℕ) (limit : ℕ) (b : Block) : Type 0 where
   pub lines : Within s (b .from) (b .to)
   pub few : b .count ≤ limit
 
-pub section-in : (jobs : Bool) (limit : ℕ) (s : List ℕ) (place : ℕ) → Gives (Placed-block s limit place) (section jobs limit s place)
+pub section-in : (jobs : Bool) (limit : ℕ) (s : List ℕ) (place : ℕ) → Gives (Placed-block s limit) (section jobs limit s place)
 unfolding section countLine
 section-in jobs limit s place =
-    either-onward (λ c. Moved s place (c .1) × c .0 ≤ limit) (Placed-block s limit place) Any (countLine limit s place) (linesOf jobs s)
+    either-onward (λ c. Moved s place (c .1) × c .0 ≤ limit) (Placed-block s limit) Any (countLine limit s place) (linesOf jobs s)
     (either-onward (Past s place) (λ c. Moved s place (c .1) × c .0 ≤ limit) Any (sheetLine countOf s place) (limited limit s place) (sheet-line countOf s place)
     (λ c m. either-cond _ Any (leb (c .0) limit) (gives c) _ (λ e. (m, leb-true (c .0) limit e)) (λ e. tt)))
-    (λ c h. either-onward (Within s (c .1)) (Placed-block s limit place) Any (linesPast jobs (c .0) s (c .1)) (λ to. gives (block (c .0) (c .1) to))
+    (λ c h. either-onward (Within s (c .1)) (Placed-block s limit) Any (linesPast jobs (c .0) s (c .1)) (λ to. gives (block (c .0) (c .1) to))
     (lines-in jobs (c .0) s (c .1) (h .0 .inside))
-    (λ to w. record { after = h .0 .forward; lines = w; few = h .1 }))
+    (λ to w. record { lines = w; few = h .1 }))
 
 -- ---- a plan
 pub record Placed-plan (s : List ℕ) (p : Plan) : Type 0 where
@@ -95,9 +90,9 @@ sections-in : (s : List ℕ) → Gives (Placed-plan s) (sections s)
 unfolding sections
 sections-in s =
     either-onward (Past s 0) (Placed-plan s) Any (sheetLine modeOf s 0) _ (sheet-line modeOf s 0)
-    (λ mode m. either-onward (Placed-block s mostVertices (mode .1)) (Placed-plan s) Any (section false mostVertices s (mode .1)) _ (section-in false mostVertices s (mode .1))
-    (λ vertices v. either-onward (Placed-block s mostEdges (vertices .to)) (Placed-plan s) Any (section false mostEdges s (vertices .to)) _ (section-in false mostEdges s (vertices .to))
-    (λ edges e. either-onward (Placed-block s mostJobs (edges .to)) (Placed-plan s) Any (section true mostJobs s (edges .to)) _ (section-in true mostJobs s (edges .to))
+    (λ mode m. either-onward (Placed-block s mostVertices) (Placed-plan s) Any (section false mostVertices s (mode .1)) _ (section-in false mostVertices s (mode .1))
+    (λ vertices v. either-onward (Placed-block s mostEdges) (Placed-plan s) Any (section false mostEdges s (vertices .to)) _ (section-in false mostEdges s (vertices .to))
+    (λ edges e. either-onward (Placed-block s mostJobs) (Placed-plan s) Any (section true mostJobs s (edges .to)) _ (section-in true mostJobs s (edges .to))
     (λ jobs j. record { vertices = v .lines; edges = e .lines; jobs = j .lines; few = j .few }))))
 
 -- a sheet that is accepted

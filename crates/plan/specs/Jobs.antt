@@ -11,7 +11,7 @@ use Rattle.plan.specs.declared.job.Job.the-variants.{Bfs, Wcc, Cdlp, Lcc
 use Rattle.plan.specs.declared.job.JobLine.{JobLine}
 use Rattle.plan.specs.declared.job.JobLine.the-variants as JL
 
--- `bfs ` and `cdlp ` with their space; `wcc` and `lcc`
+-- `bfs `, four bytes with its space
 abbrev pub bfsWord : List ℕ
 bfsWord = 98 ∷ 102 ∷ 115 ∷ 32 ∷ []
 

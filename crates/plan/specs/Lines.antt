@@ -9,12 +9,12 @@ use Rattle.basis.specs.declared.refusal.Refusal.{Refusal}
 use Rattle.text.specs.Word.{Word}
 use Rattle.text.specs.Line.{LineSaid, line, none, fault, lf, lineBy}
 
--- "a line counted from 1": the line at a place has one number more than there are LFs before it
+-- how many LFs stand among the bytes
 unfoldable pub lfs : List ℕ → ℕ
 lfs [] = 0
 lfs (b ∷ l) = elim (eqb b lf) [ true ↦ suc (lfs l) | false ↦ lfs l ]
 
--- the number of the line in which a place of a sheet stands
+-- "a line counted from 1": the number of the line in which a place of a sheet stands
 abbrev pub lineNumber : List ℕ → ℕ → ℕ
 lineNumber s place = 1 + lfs (take place s)
 

@@ -21,7 +21,7 @@ use Rattle.plan.specs.declared.sections.Past.the-variants as P
 use Rattle.plan.specs.declared.sections.Section.{Section}
 use Rattle.plan.specs.declared.sections.Section.the-variants as S
 
--- "Desk limits: 1,024 vertices, 2,048 edges, 16 jobs, a sheet of 65,536 bytes."
+-- "Desk limits: 1,024 vertices"
 abbrev pub mostVertices : ℕ
 mostVertices = 1024
 
@@ -37,7 +37,7 @@ mostJobs = 16
 abbrev pub mostBytes : ℕ
 mostBytes = 65536
 
--- `directed` and `undirected`
+-- `directed`, a whole line without its LF
 abbrev pub directedWord : List ℕ
 directedWord = 100 ∷ 105 ∷ 114 ∷ 101 ∷ 99 ∷ 116 ∷ 101 ∷ 100 ∷ []
 
@@ -53,7 +53,7 @@ modeOf bs = cond (isWord directedWord bs) (value true) (cond (isWord undirectedW
 abbrev pub modeLine : List ℕ → Said (Bool × ℕ)
 modeLine s = sheetLine modeOf s 0
 
--- "any count above its limit is 1": the count at a place, with the place past its line
+-- "any count above its limit is 1": a count that was read at a place, with the place past its line
 abbrev pub limited : ℕ → List ℕ → ℕ → ℕ × ℕ → Said (ℕ × ℕ)
 limited limit s place c = cond (leb (c .0) limit) (gives c) (refuses (sheetFault s place tooMany))
 
@@ -65,7 +65,7 @@ countLine limit s place = onward (sheetLine countOf s place) (limited limit s pl
 abbrev pub anyOf : List ℕ → Word (Unit {0})
 anyOf bs = value tt
 
--- the place past a line of the jobs, or of another section
+-- the place past a line, whatever it says
 abbrev pub nextOf : {A : Type 0} → Said (A × ℕ) → Said ℕ
 nextOf x = said (λ v. v .1) x
 
@@ -83,7 +83,7 @@ linesPast jobs (suc more) s place = elim (linePast jobs s place) [ gives next �
 abbrev pub block : ℕ → ℕ → ℕ → Block
 block count from to = record { count = count; from = from; to = to }
 
--- a section: its count line, and then so many lines
+-- a section's lines behind its count line: as many as the count says
 abbrev pub linesOf : Bool → List ℕ → ℕ × ℕ → Said Block
 linesOf jobs s c = said (block (c .0) (c .1)) (linesPast jobs (c .0) s (c .1))
 

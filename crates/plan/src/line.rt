@@ -4,7 +4,6 @@ use basis::refusal::SHEET_FILE;
 use text::count::LF;
 use text::count::has;
 ghost use mathlib.Core.Path.{_≡_};
-ghost use Prim.Native.Nat.{_+_};
 ghost use lib.ListN.{drop};
 ghost use Rattle.plan.specs.Lines.{lineNumber, sheetFault, begins};
 

@@ -7,7 +7,7 @@ use native.Mathlib.Omega.{arith}
 use native.Mathlib.Nat.{div-le-self, mul-le-mul}
 use lib.Dec.{eqb, ltb}
 use lib.IntN.{ℤ, pos, natAbs}
-use lib.Signed.{mag, ltZ}
+use lib.Signed.{ltZ}
 use lib.ListN.{length, drop, length-append, length-drop}
 use lib.Seq.{length-take-le}
 use Rattle.basis.specs.Refusal.{Said, gives, refuses, plain}
@@ -37,15 +37,12 @@ use Rattle.plan.specs.Jobs.{jobOf, jobLine}
 use Rattle.plan.specs.declared.job.Job.{Job}
 use Rattle.plan.specs.declared.job.Job.the-variants as J
 use Rattle.plan.proofs.Places.{line-moved}
-use Rattle.text.proofs.Places.{Moved}
+use Rattle.text.proofs.Places.{Moved, Small}
 use Rattle.listing.specs.Listing.{slash, refusedWord, spacedText, numbersText, refusedText, headText, namedText, pairText, fractionText, ratioText, pairLines, ratioLines}
 use Rattle.sheet.specs.Jobs.{zeros, zerosZ, answered, bfsText, wccText, cdlpText, lccText, jobText, between, jobsText}
 use Rattle.sheet.proofs.Lists.{All, all-take, all-at, all-column, all-left}
 
 -- ---- an identifier has at most 20 bytes, a number of at most 7 digits 7
-abbrev pub Small : ℤ → Type 0
-Small z = mag z < 2 ^ 63
-
 abbrev Short : ℕ → Type 0
 Short n = n < 10 ^ 7
 

@@ -15,11 +15,11 @@ use Rattle.plan.specs.Sheet.{mostVertices, mostEdges, checked}
 use Rattle.listing.specs.Listing.{refusedText}
 use Rattle.sheet.specs.Jobs.{between, jobsText}
 
--- "Desk limits: 1,024 vertices, 2,048 edges": areas for as many vertices, with one offset more, and for two arcs of each edge
+-- "Desk limits: 1,024 vertices, 2,048 edges"
 abbrev pub deskLimits : Limits
 deskLimits = record { vertices = mostVertices; edges = mostEdges }
 
--- the places in those areas: 1,024 identifiers, then 1,025 offsets and 4,096 arcs outward, then as many inward
+-- areas for such a graph: 1,024 identifiers, then 1,025 offsets and 4,096 arcs outward, two for each edge, then as many inward
 abbrev pub deskRoom : Room
 deskRoom = roomOf 1024 1025 4096 1025 4096
 

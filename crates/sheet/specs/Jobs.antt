@@ -15,7 +15,7 @@ use Rattle.plan.specs.declared.job.Job.{Job}
 use Rattle.plan.specs.declared.job.Job.the-variants.{Bfs, Wcc, Cdlp, Lcc}
 use Rattle.listing.specs.Listing.{refusedText, headText, pairLines, ratioLines}
 
--- the areas that a kernel is lent: one place for each vertex that a desk graph may have
+-- an area that a kernel is lent: one place for each vertex that a desk graph may have
 abbrev pub zeros : List ℕ
 zeros = replicate mostVertices 0
 
@@ -28,7 +28,7 @@ abbrev pub answered : ℕ → List ℕ → Said (Unit {0}) → List ℕ → List
 answered n line (gives x) listing = headText line n ++ listing
 answered n line (refuses r) listing = refusedText r
 
--- `bfs ID`, `wcc`, `cdlp N`, `lcc`: the kernel's answer, and what it leaves in its result areas
+-- `bfs ID`, with ID its root: identifier and depth of each vertex
 unfoldable pub bfsText : Graph → ℤ → List ℕ → List ℕ
 bfsText g root line = let call = bfsCall g root zerosZ zeros in answered (g .vertices) line (call .said) (pairLines (g .ids) (call .depth))
 

@@ -1,6 +1,5 @@
 // A sheet's jobs: each runs its kernel on the loaded graph and prints its lines. `line` is the job's line with its LF, and `ids` has just the
-// graph's vertices; oo and ot are the outward offsets and targets, io and is the inward offsets and sources. Each kernel's areas are zeros
-// when it is called.
+// graph's vertices. Each kernel's areas are zeros when it is called.
 use bfs::bfs;
 use cdlp::cdlp;
 use graph::Size;
@@ -67,35 +66,45 @@ fn put_coefficients(
 fn bfs_job(
     size: Size,
     ids: &[i64],
-    oo: &[usize],
-    ot: &[usize],
-    io: &[usize],
-    is: &[usize],
+    out_offsets: &[usize],
+    out_targets: &[usize],
+    in_offsets: &[usize],
+    in_sources: &[usize],
     root: i64,
     line: &[u8],
     out: &mut [u8],
     at: usize,
 ) -> usize
-    ensures { λ r. ⌜ written (now (out .exit)) r ≡ putAt (now (out .entry)) at (bfsText (lent size (now (ids .entry)) (now (oo .entry)) (now (ot .entry)) (now (io .entry)) (now (is .entry))) root (now (line .entry))) ⌝ }
+    ensures { λ r. ⌜ written (now (out .exit)) r ≡ putAt (now (out .entry)) at (bfsText (lent size (now (ids .entry)) (now («out_offsets» .entry)) (now («out_targets» .entry)) (now («in_offsets» .entry)) (now («in_sources» .entry))) root (now (line .entry))) ⌝ }
 {
     let mut depth = [0i64; 1024];
     let mut queue = [0usize; 1024];
-    let x = bfs(size, ids, oo, ot, io, is, root, &mut depth, &mut queue);
+    let x = bfs(
+        size,
+        ids,
+        out_offsets,
+        out_targets,
+        in_offsets,
+        in_sources,
+        root,
+        &mut depth,
+        &mut queue,
+    );
     put_labels(x, size.vertices, ids, &depth, line, out, at)
 }
 
 fn wcc_job(
     size: Size,
     ids: &[i64],
-    oo: &[usize],
-    ot: &[usize],
-    io: &[usize],
-    is: &[usize],
+    out_offsets: &[usize],
+    out_targets: &[usize],
+    in_offsets: &[usize],
+    in_sources: &[usize],
     line: &[u8],
     out: &mut [u8],
     at: usize,
 ) -> usize
-    ensures { λ r. ⌜ written (now (out .exit)) r ≡ putAt (now (out .entry)) at (wccText (lent size (now (ids .entry)) (now (oo .entry)) (now (ot .entry)) (now (io .entry)) (now (is .entry))) (now (line .entry))) ⌝ }
+    ensures { λ r. ⌜ written (now (out .exit)) r ≡ putAt (now (out .entry)) at (wccText (lent size (now (ids .entry)) (now («out_offsets» .entry)) (now («out_targets» .entry)) (now («in_offsets» .entry)) (now («in_sources» .entry))) (now (line .entry))) ⌝ }
 {
     let mut result = [0i64; 1024];
     let mut parents = [0usize; 1024];
@@ -103,10 +112,10 @@ fn wcc_job(
     let x = wcc(
         size,
         ids,
-        oo,
-        ot,
-        io,
-        is,
+        out_offsets,
+        out_targets,
+        in_offsets,
+        in_sources,
         &mut result,
         &mut parents,
         &mut sizes,
@@ -117,16 +126,16 @@ fn wcc_job(
 fn cdlp_job(
     size: Size,
     ids: &[i64],
-    oo: &[usize],
-    ot: &[usize],
-    io: &[usize],
-    is: &[usize],
+    out_offsets: &[usize],
+    out_targets: &[usize],
+    in_offsets: &[usize],
+    in_sources: &[usize],
     iterations: i64,
     line: &[u8],
     out: &mut [u8],
     at: usize,
 ) -> usize
-    ensures { λ r. ⌜ written (now (out .exit)) r ≡ putAt (now (out .entry)) at (cdlpText (lent size (now (ids .entry)) (now (oo .entry)) (now (ot .entry)) (now (io .entry)) (now (is .entry))) iterations (now (line .entry))) ⌝ }
+    ensures { λ r. ⌜ written (now (out .exit)) r ≡ putAt (now (out .entry)) at (cdlpText (lent size (now (ids .entry)) (now («out_offsets» .entry)) (now («out_targets» .entry)) (now («in_offsets» .entry)) (now («in_sources» .entry))) iterations (now (line .entry))) ⌝ }
 {
     let mut result = [0i64; 1024];
     let mut labels = [0usize; 1024];
@@ -135,10 +144,10 @@ fn cdlp_job(
     let x = cdlp(
         size,
         ids,
-        oo,
-        ot,
-        io,
-        is,
+        out_offsets,
+        out_targets,
+        in_offsets,
+        in_sources,
         iterations,
         &mut result,
         &mut labels,
@@ -151,15 +160,15 @@ fn cdlp_job(
 fn lcc_job(
     size: Size,
     ids: &[i64],
-    oo: &[usize],
-    ot: &[usize],
-    io: &[usize],
-    is: &[usize],
+    out_offsets: &[usize],
+    out_targets: &[usize],
+    in_offsets: &[usize],
+    in_sources: &[usize],
     line: &[u8],
     out: &mut [u8],
     at: usize,
 ) -> usize
-    ensures { λ r. ⌜ written (now (out .exit)) r ≡ putAt (now (out .entry)) at (lccText (lent size (now (ids .entry)) (now (oo .entry)) (now (ot .entry)) (now (io .entry)) (now (is .entry))) (now (line .entry))) ⌝ }
+    ensures { λ r. ⌜ written (now (out .exit)) r ≡ putAt (now (out .entry)) at (lccText (lent size (now (ids .entry)) (now («out_offsets» .entry)) (now («out_targets» .entry)) (now («in_offsets» .entry)) (now («in_sources» .entry))) (now (line .entry))) ⌝ }
 {
     let mut numerators = [0usize; 1024];
     let mut denominators = [0usize; 1024];
@@ -167,10 +176,10 @@ fn lcc_job(
     let x = lcc(
         size,
         ids,
-        oo,
-        ot,
-        io,
-        is,
+        out_offsets,
+        out_targets,
+        in_offsets,
+        in_sources,
         &mut numerators,
         &mut denominators,
         &mut work,
@@ -190,22 +199,64 @@ fn lcc_job(
 fn run_job(
     size: Size,
     ids: &[i64],
-    oo: &[usize],
-    ot: &[usize],
-    io: &[usize],
-    is: &[usize],
+    out_offsets: &[usize],
+    out_targets: &[usize],
+    in_offsets: &[usize],
+    in_sources: &[usize],
     job: Job,
     line: &[u8],
     out: &mut [u8],
     at: usize,
 ) -> usize
-    ensures { λ r. ⌜ written (now (out .exit)) r ≡ putAt (now (out .entry)) at (jobText (lent size (now (ids .entry)) (now (oo .entry)) (now (ot .entry)) (now (io .entry)) (now (is .entry))) (now (line .entry)) job) ⌝ }
+    ensures { λ r. ⌜ written (now (out .exit)) r ≡ putAt (now (out .entry)) at (jobText (lent size (now (ids .entry)) (now («out_offsets» .entry)) (now («out_targets» .entry)) (now («in_offsets» .entry)) (now («in_sources» .entry))) (now (line .entry)) job) ⌝ }
 {
     match job {
-        Job::Bfs(root) => bfs_job(size, ids, oo, ot, io, is, root, line, out, at),
-        Job::Wcc => wcc_job(size, ids, oo, ot, io, is, line, out, at),
-        Job::Cdlp(iterations) => cdlp_job(size, ids, oo, ot, io, is, iterations, line, out, at),
-        Job::Lcc => lcc_job(size, ids, oo, ot, io, is, line, out, at),
+        Job::Bfs(root) => bfs_job(
+            size,
+            ids,
+            out_offsets,
+            out_targets,
+            in_offsets,
+            in_sources,
+            root,
+            line,
+            out,
+            at,
+        ),
+        Job::Wcc => wcc_job(
+            size,
+            ids,
+            out_offsets,
+            out_targets,
+            in_offsets,
+            in_sources,
+            line,
+            out,
+            at,
+        ),
+        Job::Cdlp(iterations) => cdlp_job(
+            size,
+            ids,
+            out_offsets,
+            out_targets,
+            in_offsets,
+            in_sources,
+            iterations,
+            line,
+            out,
+            at,
+        ),
+        Job::Lcc => lcc_job(
+            size,
+            ids,
+            out_offsets,
+            out_targets,
+            in_offsets,
+            in_sources,
+            line,
+            out,
+            at,
+        ),
     }
 }
 
@@ -213,17 +264,17 @@ fn run_job(
 pub fn run_jobs(
     size: Size,
     ids: &[i64],
-    oo: &[usize],
-    ot: &[usize],
-    io: &[usize],
-    is: &[usize],
+    out_offsets: &[usize],
+    out_targets: &[usize],
+    in_offsets: &[usize],
+    in_sources: &[usize],
     s: &[u8],
     count: usize,
     from: usize,
     out: &mut [u8],
     at: usize,
 ) -> usize
-    ensures { λ r. ⌜ written (now (out .exit)) r ≡ putAt (now (out .entry)) at (jobsText (lent size (now (ids .entry)) (now (oo .entry)) (now (ot .entry)) (now (io .entry)) (now (is .entry))) (now (s .entry)) count from) ⌝ }
+    ensures { λ r. ⌜ written (now (out .exit)) r ≡ putAt (now (out .entry)) at (jobsText (lent size (now (ids .entry)) (now («out_offsets» .entry)) (now («out_targets» .entry)) (now («in_offsets» .entry)) (now («in_sources» .entry))) (now (s .entry)) count from) ⌝ }
 {
     let mut next = at;
     let mut place = from;
@@ -235,7 +286,18 @@ pub fn run_jobs(
                 return next;
             }
             JobLine::Line(job, end) => {
-                next = run_job(size, ids, oo, ot, io, is, job, &s[place..end], out, next);
+                next = run_job(
+                    size,
+                    ids,
+                    out_offsets,
+                    out_targets,
+                    in_offsets,
+                    in_sources,
+                    job,
+                    &s[place..end],
+                    out,
+                    next,
+                );
                 place = end;
                 left -= 1;
             }

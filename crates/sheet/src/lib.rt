@@ -1,5 +1,4 @@
-// What the desk program prints for a sheet, into a lent area. oo and ot are a graph's outward offsets and targets, io and is its inward
-// offsets and sources.
+// What the desk program prints for a sheet, into a lent area.
 pub mod jobs;
 
 use crate::jobs::run_jobs;
@@ -30,13 +29,13 @@ fn load_sections(
     s: &[u8],
     plan: Plan,
     ids: &mut [i64],
-    oo: &mut [usize],
-    ot: &mut [usize],
-    io: &mut [usize],
-    is: &mut [usize],
+    out_offsets: &mut [usize],
+    out_targets: &mut [usize],
+    in_offsets: &mut [usize],
+    in_sources: &mut [usize],
 ) -> Loaded
     requires { ⌜ Placed (now s) plan ⌝ }
-    ensures { λ r. ⌜ outcome (says r) (now (ids .exit)) (now (oo .exit)) (now (ot .exit)) (now (io .exit)) (now (is .exit)) ≡ loadOf (now (s .entry)) plan (roomOf (length (now (ids .entry))) (length (now (oo .entry))) (length (now (ot .entry))) (length (now (io .entry))) (length (now (is .entry)))) ⌝ }
+    ensures { λ r. ⌜ outcome (says r) (now (ids .exit)) (now («out_offsets» .exit)) (now («out_targets» .exit)) (now («in_offsets» .exit)) (now («in_sources» .exit)) ≡ loadOf (now (s .entry)) plan (roomOf (length (now (ids .entry))) (length (now («out_offsets» .entry))) (length (now («out_targets» .entry))) (length (now («in_offsets» .entry))) (length (now («in_sources» .entry)))) ⌝ }
 {
     let vertices = plan.vertices;
     let edges = plan.edges;
@@ -53,10 +52,10 @@ fn load_sections(
         &s[vertices_from..vertices_to],
         &s[edges_from..edges_to],
         ids,
-        oo,
-        ot,
-        io,
-        is,
+        out_offsets,
+        out_targets,
+        in_offsets,
+        in_sources,
     )
 }
 
@@ -67,11 +66,19 @@ fn print_plan(s: &[u8], plan: Plan, out: &mut [u8]) -> usize
 {
     let jobs = plan.jobs;
     let mut ids = [0i64; 1024];
-    let mut oo = [0usize; 1025];
-    let mut ot = [0usize; 4096];
-    let mut io = [0usize; 1025];
-    let mut is = [0usize; 4096];
-    let x = load_sections(s, plan, &mut ids, &mut oo, &mut ot, &mut io, &mut is);
+    let mut out_offsets = [0usize; 1025];
+    let mut out_targets = [0usize; 4096];
+    let mut in_offsets = [0usize; 1025];
+    let mut in_sources = [0usize; 4096];
+    let x = load_sections(
+        s,
+        plan,
+        &mut ids,
+        &mut out_offsets,
+        &mut out_targets,
+        &mut in_offsets,
+        &mut in_sources,
+    );
     match x {
         Loaded::Refused(r) => put_refused(out, 0, r),
         Loaded::Graph(size) => {
@@ -79,10 +86,10 @@ fn print_plan(s: &[u8], plan: Plan, out: &mut [u8]) -> usize
             run_jobs(
                 size,
                 &ids[..n],
-                &oo,
-                &ot,
-                &io,
-                &is,
+                &out_offsets,
+                &out_targets,
+                &in_offsets,
+                &in_sources,
                 s,
                 jobs.count,
                 jobs.from,

@@ -15,7 +15,7 @@ use Rattle.basis.specs.Scan.{mem}
 use Rattle.basis.proofs.Tests.{clash, bool-cases}
 use Rattle.text.specs.Word.{Word, malformed, outside, value, rangedOf, countOf, signedOf, afterMinus, identOf}
 use Rattle.text.specs.Decimal.{decimalOf}
-use Rattle.text.specs.Line.{LineSaid, line, none, fault, lf, space, upTo, past, lineSays, lineBy, both, twoOf, vertexLine, edgeLine, coefficientLine}
+use Rattle.text.specs.Line.{LineSaid, line, none, fault, lf, space, upTo, past, lineSays, lineBy, both, twoOf, edgeLine, coefficientLine}
 use Rattle.text.specs.Scan.{Scanned, wellFormed, hasAt, identAt, closed, fieldAt, scanSays}
 use Rattle.text.specs.declared.decimal.Decimal.{Decimal}
 use Rattle.text.specs.declared.ident.Scan.{Scan}
@@ -96,12 +96,12 @@ module _ (s : List ℕ) (at c : ℕ) where
 
 -- ---- the numbers that are read
 -- a word's value, if it has one, has P
-abbrev Has : {A : Type 0} → (A → Type 0) → Word A → Type 0
+abbrev pub Has : {A : Type 0} → (A → Type 0) → Word A → Type 0
 Has P malformed = Unit {0}
 Has P outside = Unit {0}
 Has P (value v) = P v
 
-abbrev Small : ℤ → Type 0
+abbrev pub Small : ℤ → Type 0
 Small z = mag z < 2 ^ 63
 
 ranged-small : (negative : Bool) (n : ℕ) → Has Small (rangedOf negative n)
@@ -129,15 +129,15 @@ ident-small (b ∷ bs) = by (eqb b 45)
     by true = minus-small bs
     by false = signed-small false (countOf (b ∷ bs))
 
--- the values of a line
+-- a line's values have P; by itself a line has no other faults than those of form (2) and of range (3)
 abbrev pub LineHas : {A : Type 0} → (A → Type 0) → LineSaid A → Type 0
 LineHas P (line v q) = P v
 LineHas P (none k) = Unit {0}
-LineHas P (fault n k) = Unit {0}
+LineHas P (fault n k) = (2 ≤ n) × (n ≤ 3)
 
 says-has : {A : Type 0} (P : A → Type 0) (at q : ℕ) (w : Word A) → Has P w → LineHas P (lineSays at q w)
-says-has P at q malformed h = tt
-says-has P at q outside h = tt
+says-has P at q malformed h = (omega arith, omega arith)
+says-has P at q outside h = (omega arith, omega arith)
 says-has P at q (value v) h = h
 
 line-has : {A : Type 0} (P : A → Type 0) (word : List ℕ → Word A) (s : List ℕ) (at : ℕ) → ((bs : List ℕ) → Has P (word bs)) → LineHas P (lineBy word s at)
@@ -147,7 +147,7 @@ line-has {A} P word s at h = by (leb (length s) at) (mem lf (drop at s))
     by : (t u : Bool) → LineHas P (cond t (none at) (cond u (lineSays at (at + length (upTo lf (drop at s)) + 1) (word (upTo lf (drop at s)))) (fault badForm at)))
     by true u = tt
     by false true = says-has P at (at + length (upTo lf (drop at s)) + 1) (word (upTo lf (drop at s))) (h (upTo lf (drop at s)))
-    by false false = tt
+    by false false = (omega arith, omega arith)
 
 abbrev Pairs : {A B : Type 0} → (A → Type 0) → (B → Type 0) → A × B → Type 0
 Pairs P Q x = P (x .0) × Q (x .1)
@@ -169,19 +169,22 @@ two-has Q word h bs = by (mem space bs)
     by true = both-has Small Q (identOf (upTo space bs)) (word (past space bs)) (ident-small (upTo space bs)) (h (past space bs))
     by false = tt
 
-any-has : {A : Type 0} (w : Word A) → Has (λ _. Unit {0}) w
+abbrev pub Any : {A : Type 0} → A → Type 0
+Any x = Unit {0}
+
+any-has : {A : Type 0} (w : Word A) → Has Any w
 any-has malformed = tt
 any-has outside = tt
 any-has (value v) = tt
 
-module _ (s : List ℕ) (at : ℕ) where
-  pub vertex-range : (z : ℤ) (q : ℕ) → vertexLine s at ≡ line z q → mag z < 2 ^ 63
-  vertex-range z q e = rw e at (line-has Small identOf s at ident-small)
+pub line-any : {A : Type 0} (word : List ℕ → Word A) (s : List ℕ) (at : ℕ) → LineHas Any (lineBy word s at)
+line-any word s at = line-has Any word s at (λ bs. any-has (word bs))
 
+module _ (s : List ℕ) (at : ℕ) where
   pub edge-range : (u v : ℤ) (q : ℕ) → edgeLine s at ≡ line (u, v) q → (mag u < 2 ^ 63) × (mag v < 2 ^ 63)
   edge-range u v q e = rw e at (line-has (Pairs Small Small) (twoOf identOf identOf) s at (two-has Small identOf ident-small))
 
   pub coefficient-range : (u : ℤ) (d : Decimal) (q : ℕ) → coefficientLine s at ≡ line (u, d) q → mag u < 2 ^ 63
   coefficient-range u d q e =
-      let h : mag u < 2 ^ 63 × Unit {0} = rw e at (line-has (Pairs Small (λ _. Unit {0})) (twoOf identOf decimalOf) s at (two-has (λ _. Unit {0}) decimalOf (λ bs. any-has (decimalOf bs)))) in
+      let h : mag u < 2 ^ 63 × Unit {0} = rw e at (line-has (Pairs Small Any) (twoOf identOf decimalOf) s at (two-has Any decimalOf (λ bs. any-has (decimalOf bs)))) in
       h .0

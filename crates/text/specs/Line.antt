@@ -31,7 +31,7 @@ lf = 10
 abbrev pub space : ℕ
 space = 32
 
--- the bytes before the first c, and those after it
+-- the bytes before the first c; all of them where there is no c
 abbrev pub upTo : ℕ → List ℕ → List ℕ
 upTo c [] = []
 upTo c (b ∷ l) = elim (eqb c b) [ true ↦ [] | false ↦ b ∷ upTo c l ]

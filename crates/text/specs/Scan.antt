@@ -46,19 +46,19 @@ capped n = min n 9223372036854775809
 unfoldable pub runAt : List ℕ → ℕ → ℕ → Run
 runAt s at n = record { n = capped (runVal n (drop at s)); next = at + runLen (drop at s) }
 
--- a count
+-- "A count is `0`, or a digit 1 to 9 and more digits.": from a place on
 unfoldable pub countAt : List ℕ → ℕ → Scanned ℕ
 countAt s at =
     cond (hasAt s at 48) (scanned (value 0) (at + 1))
     (cond (within 49 57 (getD s at 0)) (scanned (value (runVal 0 (drop at s))) (at + runLen (drop at s))) (scanned malformed at))
 
--- a count, cut down
+-- a word's count as the code carries it
 abbrev pub cutWord : Word ℕ → Word ℕ
 cutWord malformed = malformed
 cutWord outside = outside
 cutWord (value n) = value (capped n)
 
--- a scanned count, cut down; its place stays
+-- the same of a scanned count; its place stays
 abbrev pub saturated : Scanned ℕ → Scanned ℕ
 saturated x = scanned (cutWord (x .said)) (x .next)
 
@@ -67,7 +67,7 @@ abbrev pub countSays : Counted → Scanned ℕ
 countSays (C.Bad p) = scanned malformed p
 countSays (C.Value n p) = scanned (value n) p
 
--- an identifier
+-- the number n, or -n, scanned up to a place: a value, or out of range
 abbrev pub rangedAt : Bool → ℕ → ℕ → Scanned ℤ
 rangedAt negative n next = scanned (rangedOf negative n) next
 
@@ -97,7 +97,7 @@ scanSays (S.Bad p) = scanned malformed p
 scanSays (S.Outside p) = scanned outside p
 scanSays (S.Value z p) = scanned (value z) p
 
--- the decimal from a place to the end of its line, and that it is ended by LF
+-- the bytes from a place to the end of its line
 abbrev pub lineFrom : List ℕ → ℕ → List ℕ
 lineFrom s at = upTo lf (drop at s)
 

@@ -40,7 +40,7 @@ partsStop s w p f =
 unfoldable pub fractionStop : List ℕ → ℕ → ℕ → ℕ
 fractionStop s w p = partsStop s w p (runLen (drop p s))
 
--- "the first byte that is not part of a good line so far": of the bytes up to the end of the line
+-- where the bytes up to the end of a line break off as a decimal
 unfoldable pub decimalStop : List ℕ → ℕ
 decimalStop s = fractionStop s (runLen s) (pastPoint s (runLen s))
 
@@ -51,7 +51,7 @@ digitsPower s at g =
     (signedPower g (digitOf (getD s at 0) * 10 + digitOf (getD s (at + 1) 0)))
     wrong
 
--- the code's answers: with the place at which it breaks off, where it is wrong
+-- the code's answer for a power: with the place at which it breaks off, where it is wrong
 abbrev pub powerWord : Exponent → ℕ → Power
 powerWord (up k) stop = P.Up k
 powerWord (down k) stop = P.Down k

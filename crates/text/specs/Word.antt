@@ -33,12 +33,12 @@ abbrev pub runVal : ℕ → List ℕ → ℕ
 runVal n [] = n
 runVal n (b ∷ bs) = elim (isDigit b) [ true ↦ runVal (stepped n b) bs | false ↦ n ]
 
--- "A count is `0`, or a digit 1 to 9 and more digits."
+-- what may follow a `0` at the front of a count: nothing, as `007` is malformed
 abbrev pub zeroOf : List ℕ → Word ℕ
 zeroOf [] = value 0
 zeroOf (b ∷ bs) = malformed
 
--- the same of a whole word; zeroOf is for what follows a `0` at its front
+-- "A count is `0`, or a digit 1 to 9 and more digits.": what a whole word says as one
 abbrev pub countOf : List ℕ → Word ℕ
 countOf [] = malformed
 countOf (b ∷ bs) = cond (eqb b 48) (zeroOf bs) (cond (within 49 57 b && each isDigit bs) (value (runVal 0 (b ∷ bs))) malformed)

@@ -16,12 +16,14 @@ use Rattle.basis.proofs.Areas.{column-length}
 use Rattle.text.specs.Word.{Word, identOf}
 use Rattle.text.specs.Decimal.{decimalOf}
 use Rattle.text.specs.Line.{LineSaid, line, none, fault, lineBy, twoOf}
+use Rattle.text.proofs.Places.{Any, LineHas, line-any}
 use Rattle.graph.specs.Sound.{Graph, names, soundGraph, outward}
 use Rattle.graph.proofs.Sounds.{sound-of}
 use Rattle.kernels.specs.Answer.{kernelSays, bfsNumber, wccNumber, cdlpNumber, lccNumber}
 use Rattle.wcc.specs.Component.{labelOf, wccOf}
 use Rattle.matching.specs.Claim.{linesFrom, numberLines, coefficientLines, idsOf, valuesOf}
 use Rattle.matching.specs.Verdict.{Verdict, near, firstLine, incompleteLine, agrees, failingLine, unlikeLine, verdictOf, judgedBy}
+use Rattle.matching.proofs.Readings.{ids-length, values-length}
 use Rattle.verdicts.specs.Reference.{Reference, coefficients, bfsReference, wccReference, cdlpReference, lccReference}
 use Rattle.verdicts.specs.Call as Call
 use Rattle.trace.specs.Code.{placed, hostCode, wide, narrow, Small, Readable}
@@ -29,7 +31,6 @@ use Rattle.trace.specs.Verdict.{threeOf, judgeTold, judgeTells}
 use Rattle.trace.specs.Host.{deskLines, isKernel, referenceFor, judgedAs}
 use Rattle.trace.specs.Steps.{deskJudged}
 use Rattle.trace.proofs.Codes.{readable-given, readable-refused}
-use Rattle.trace.proofs.Lines.{Faulty, line-faulty}
 
 -- ---- the lines of a claim
 
@@ -42,13 +43,13 @@ module _ {A : Type 0} (word : List ℕ → Word A) (s : List ℕ) (size room : �
       go : (t : Bool) → Readable {A = List A} room (cond t (gives []) (refuses (at tooMany claimFile k))) (λ l. k + length l)
       go true = readable-given [] (omega arith)
       go false = readable-refused (at tooMany claimFile k) (omega arith) (record { number = omega arith; file = omega arith; line = omega arith })
-  lines-readable (suc allowed) k place h = go (lineBy word s place) (line-faulty word s place) (λ next. lines-readable allowed (k + 1) next (omega arith))
+  lines-readable (suc allowed) k place h = go (lineBy word s place) (line-any word s place) (λ next. lines-readable allowed (k + 1) next (omega arith))
     where
       more : (v : A) (x : Said (List A)) → Readable room x (λ l. k + 1 + length l) → Readable room (said (λ l. v ∷ l) x) (λ l. k + length l)
       more v (gives l) f = readable-given (v ∷ l) (let t = f .values l refl in omega arith)
       more v (refuses r) f = let t = f .refusals r refl in readable-refused r (t .0) (t .1)
 
-      go : (x : LineSaid A) → Faulty x → ((next : ℕ) → Readable room (linesFrom (lineBy word s) size allowed (k + 1) next) (λ l. k + 1 + length l))
+      go : (x : LineSaid A) → LineHas Any x → ((next : ℕ) → Readable room (linesFrom (lineBy word s) size allowed (k + 1) next) (λ l. k + 1 + length l))
           → Readable {A = List A} room (elim x [
             | line v next ↦ said (λ l. v ∷ l) (linesFrom (lineBy word s) size allowed (k + 1) next)
             | none p ↦ gives []
@@ -56,7 +57,7 @@ module _ {A : Type 0} (word : List ℕ → Word A) (s : List ℕ) (size room : �
           ]) (λ l. k + length l)
       go (line v next) f ih = more v (linesFrom (lineBy word s) size allowed (k + 1) next) (ih next)
       go (none p) f ih = readable-given [] (omega arith)
-      go (fault n p) f ih = readable-refused (at n claimFile k) (f .0) (record { number = f .1; file = omega arith; line = omega arith })
+      go (fault n p) f ih = readable-refused (at n claimFile k) (omega (arith, f .0)) (record { number = omega (arith, f .1); file = omega arith; line = omega arith })
 
 -- ---- the line of a verdict
 
@@ -84,14 +85,6 @@ unlike-bound : (a b : List ℤ) → unlikeLine a b ≤ length a
 unfolding unlikeLine
 unlike-bound a b = let h = failing-bound (agrees a b) (length a) 0 in omega arith
 
-length-ids : {A : Type 0} (l : List (ℤ × A)) → length (idsOf l) ≡ length l
-length-ids [] = refl
-length-ids (x ∷ l) = ap suc (length-ids l)
-
-length-values : {A : Type 0} (l : List (ℤ × A)) → length (valuesOf l) ≡ length l
-length-values [] = refl
-length-values (x ∷ l) = ap suc (length-values l)
-
 -- ---- what is said of a claim
 module _ (room : ℕ) (some : 65537 < room) where
   verdict-small : (incomplete mismatch : ℕ) → incomplete < room → mismatch < room → Small room (threeOf (gives (verdictOf incomplete mismatch)))
@@ -104,7 +97,7 @@ module _ (room : ℕ) (some : 65537 < room) where
   unfolding judgedBy
   judged-small ids mismatch (gives l) h m =
       verdict-small (incompleteLine ids (idsOf l)) (mismatch (valuesOf l))
-      (let f = first-bound sameZ 1 ids (idsOf l) in let n = length-ids l in let k = h .values l refl in omega arith) (m l refl)
+      (let f = first-bound sameZ 1 ids (idsOf l) in let n = ids-length l in let k = h .values l refl in omega arith) (m l refl)
   judged-small ids mismatch (refuses r) h m = h .refusals r refl .1
 
   -- by the line at which two lists part
@@ -112,7 +105,7 @@ module _ (room : ℕ) (some : 65537 < room) where
       → Small room (threeOf (judgedBy ids (firstLine alike 1 reference) x))
   parted-small alike ids reference x h =
       judged-small ids (firstLine alike 1 reference) x h
-      (λ l e. let f = first-bound alike 1 reference (valuesOf l) in let n = length-values l in let k = h .values l e in omega arith)
+      (λ l e. let f = first-bound alike 1 reference (valuesOf l) in let n = values-length l in let k = h .values l e in omega arith)
 
   module _ (most : ℕ) (few : most ≤ 65536) (g : Graph) (s : List ℕ) (kernel : ℕ) (parameter : ℤ) where
     numbers-readable : Readable room (numberLines most s) (λ l. 1 + length l)

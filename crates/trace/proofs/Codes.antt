@@ -4,7 +4,8 @@ use mathlib.Core.Bool.{Bool, true, false, cond}
 use Prim.Native.Nat.{ℕ, _≤_, _<_}
 use native.Mathlib.Omega.{arith}
 use Rattle.basis.specs.declared.refusal.Refusal.{Refusal}
-use Rattle.basis.specs.Refusal.{Said, gives, refuses, at, plain, onward}
+use Rattle.basis.specs.Refusal.{Said, gives, refuses, at, plain, onward, said}
+use Rattle.basis.proofs.Saids.{refused-given}
 use Rattle.trace.specs.Code.{placed, coded, numberIn, fileIn, lineIn, wide, Small, Readable}
 
 -- ---- reading back
@@ -41,17 +42,14 @@ module _ {A : Type 0} (value : A → ℕ) (x : A) (h : value x < wide) where
 
 -- ---- which answers have a code
 
-given-refused {ℓ} : {X : Type ℓ} {A : Type 0} {x : A} {r : Refusal} → gives x ≡ refuses r → X
-given-refused e = let z : _≡_ {A = ℕ} 0 1 = cc in absurd (let o : ⊥ = omega arith in o)
-
 pub readable-given : {A : Type 0} {room : ℕ} {value : A → ℕ} (x : A) → value x < room → Readable room (gives x) value
 readable-given {room = room} {value = value} x h =
-    record { values = λ y e. let q : x ≡ y = cc in rw q at h; refusals = λ r e. given-refused e }
+    record { values = λ y e. let q : x ≡ y = cc in rw q at h; refusals = λ r e. refused-given (sym e) }
 
 pub readable-refused : {A : Type 0} {room : ℕ} {value : A → ℕ} (r : Refusal) → 0 < r .number → Small room r → Readable room (refuses r) value
 readable-refused {room = room} r p h =
     let both : (0 < r .number) × Small room r = (p, h) in
-    record { values = λ y e. given-refused (sym e); refusals = λ t e. let q : r ≡ t = cc in rw q at both }
+    record { values = λ y e. refused-given e; refusals = λ t e. let q : r ≡ t = cc in rw q at both }
 
 pub readable-by : {A : Type 0} {room : ℕ} {value : A → ℕ} {s t : Said A} → s ≡ t → Readable room t value → Readable room s value
 readable-by e h = rw e h
@@ -86,6 +84,9 @@ pub onward-readable : {A B : Type 0} {room : ℕ} {value : B → ℕ} (s : Said 
     → Readable room (onward s f) value
 onward-readable (gives x) h k = k x refl
 onward-readable (refuses r) h k = let t = h .refusals r refl in readable-refused r (t .0) (t .1)
+
+pub said-readable : {A B : Type 0} {room : ℕ} (f : A → B) (s : Said A) → 0 < room → Readable room s untold → Readable room (said f s) untold
+said-readable f s k h = onward-readable s h (λ x e. readable-silent _ k)
 
 -- ---- an answer by its cases
 module _ {A : Type 0} (value : A → ℕ) (s : Said A) where

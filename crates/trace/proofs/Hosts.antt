@@ -8,7 +8,7 @@ use lib.IntN.{ℤ, pos, natAbs}
 use lib.ListN.{length, replicate, length-replicate}
 use lib.Dec.{leb}
 use borrow.Author.Tests.{le-leb, lt-leb, lt-ltb}
-use Rattle.basis.proofs.Saids.{refused-given, given-one}
+use Rattle.basis.proofs.Saids.{refused-given, given-one, said-refuses}
 use Rattle.basis.specs.Refusal.{Said, gives, refuses, plain, unknownNumber, onward, said}
 use Rattle.graph.specs.Arcs.{Arc, arcs}
 use Rattle.graph.specs.declared.find.Found.{Found}
@@ -34,7 +34,7 @@ use Rattle.basis.specs.Area.{column}
 use Rattle.trace.specs.Host.{desk, deskLines, listsSaid, graphOf, isKernel, isKnown, referenceFor, judgedAs, hostSays, hostVerdict}
 use Rattle.trace.specs.Steps.{deskRoom, deskJudged}
 use Rattle.trace.proofs.Loads.{arcs-few, loaded-readable}
-use Rattle.trace.proofs.Lines.{said-readable}
+use Rattle.trace.proofs.Codes.{said-readable}
 use Rattle.trace.proofs.Stored.{areaGraph, same-names, same-outward, same-inward}
 use Rattle.trace.proofs.Claims.{call-small, call-judged}
 use Rattle.trace.specs.Code.{hostCode, hostNumberIn, hostFileIn, hostLineIn, narrow, Small}
@@ -184,11 +184,7 @@ module _ (vertices edges claim : List ℕ) (mode kernel : ℕ) (parameter : ℤ)
 
     pub host-refused : (r : Refusal) → a ≡ Refused r → (k : ℕ) → k ≡ hostCode r → k ≡ hostVerdict vertices edges claim mode kernel parameter
     unfolding hostVerdict
-    host-refused r q k f = rw (f, says-known vertices edges claim mode kernel parameter (held t (isKnown mode kernel) p h), refused-of (loaded desk mode deskRoom vertices edges) (sym answered ∙ ap says q))
-      where
-        refused-of : (x : Said Lists) → said sizeOf x ≡ refuses r → x ≡ refuses r
-        refused-of (gives g) e = refused-given (sym e)
-        refused-of (refuses o) e = let q : o ≡ r = cc in ap refuses q
+    host-refused r q k f = rw (f, says-known vertices edges claim mode kernel parameter (held t (isKnown mode kernel) p h), said-refuses sizeOf (loaded desk mode deskRoom vertices edges) r (ap says (sym q) ∙ answered))
 
     pub host-judged : (size : Size) → a ≡ Graph size → (z : ℤ) → z ≡ parameter → (k : ℕ) → k ≡ hostCode (threeOf (deskJudged (lent size ids oo ot io is) kernel z claim))
         → k ≡ hostVerdict vertices edges claim mode kernel parameter

@@ -1,23 +1,21 @@
 -- What a load says fits a number. Assumes nothing.
 use mathlib.Core.Path.{_≡_, sym, ap}
-use mathlib.Core.Bool.{Bool, true, false, cond, _&&_}
+use mathlib.Core.Bool.{Bool, true, false}
 use mathlib.Core.List.{List}
 use Prim.Native.Nat.{ℕ, _+_, _≤_, _<_}
 use native.Mathlib.Omega.{arith}
 use lib.IntN.{ℤ}
-use lib.Signed.{ltZ}
 use lib.ListN.{length}
 use lib.Dec.{leb}
-use Rattle.basis.specs.Refusal.{Said, noRoom, unknownNumber, notAbove, selfEdge, largerFirst, unknownVertex, vertexFile, edgeFile, said}
-use Rattle.basis.specs.Order.{sameZ}
+use Rattle.basis.specs.Refusal.{Said, gives, refuses, noRoom, unknownNumber, vertexFile, edgeFile, said}
+use Rattle.basis.proofs.Saids.{Either}
 use Rattle.graph.specs.declared.Size.{Size}
 use Rattle.graph.specs.Arcs.{arcs}
 use Rattle.graph.specs.Find.{placeIn}
-use Rattle.text.specs.Word.{identOf}
-use Rattle.text.specs.Line.{twoOf}
 use Rattle.load.specs.declared.Limits.{Limits}
-use Rattle.lists.specs.Lines.{Before, first, after}
-use Rattle.lists.specs.Files.{vertexTest, identifiers, isAbove, isThere, edgeTest, edgesOf, allNumbered}
+use Rattle.lists.specs.Files.{identifiers, edgesOf, allNumbered}
+use Rattle.text.proofs.Places.{Any}
+use Rattle.lists.proofs.Refused.{Met, vertices-met, edges-met}
 use Rattle.load.specs.Load.{Room, arcRoom, vertexRoom, withRoom, arcsRead, listsRead, loaded, isUndirected, sizeOf, outcome, outcomeOf, loadCall, library}
 use Rattle.store.specs.Spread.{arcCount}
 use Rattle.load.proofs.Accepts.{load-accepted}
@@ -25,30 +23,13 @@ use Rattle.load.proofs.Arranges.{length-numbered}
 use Rattle.store.proofs.Fits.{arc-count}
 use Rattle.trace.specs.Code.{coded, wide, Readable}
 use Rattle.trace.specs.Load.{loadValue, loadTold, loadTells}
-use Rattle.trace.proofs.Codes.{onward-readable, readable-by, readable-given, readable-check, readable-silent, untold}
-use Rattle.trace.proofs.Lines.{said-readable, file-readable}
-
-vertex-low : (before : Before ℤ) (z : ℤ) → vertexTest before z ≤ 21
-vertex-low first z = omega arith
-vertex-low (after y) z = go (ltZ y z)
-  where
-    go : (t : Bool) → cond t 0 notAbove ≤ 21
-    go true = omega arith
-    go false = omega arith
-
-edge-low : (both : Bool) (ids : List ℤ) (before : Before (ℤ × ℤ)) (e : ℤ × ℤ) → edgeTest both (placeIn ids) before e ≤ 21
-unfolding edgeTest
-edge-low both ids before e =
-    go (sameZ (e .0) (e .1)) (both && ltZ (e .1) (e .0)) (isAbove before e) (isThere (placeIn ids (e .0)) && isThere (placeIn ids (e .1)))
-  where
-    go : (a b c d : Bool) → cond a selfEdge (cond b largerFirst (cond c (cond d 0 unknownVertex) notAbove)) ≤ 21
-    go true b c d = omega arith
-    go false true c d = omega arith
-    go false false true true = omega arith
-    go false false true false = omega arith
-    go false false false d = omega arith
+use Rattle.trace.proofs.Codes.{onward-readable, readable-by, readable-given, readable-refused, readable-check, readable-silent, said-readable, untold}
 
 -- ---- what is refused
+met-readable : {A : Type 0} (file most room : ℕ) → file ≤ 4 → most + 1 < room → (s : Said A) → Either Any (Met file most) s → Readable room s untold
+met-readable file most room known enough (gives x) h = readable-silent x (omega arith)
+met-readable file most room known enough (refuses r) h =
+    readable-refused r (h .some) (record { number = omega (arith, h .low); file = omega (arith, h .inFile); line = omega (arith, h .inLines) })
 
 room-readable : {A : Type 0} {room : ℕ} (t : Bool) (x : A) → 0 < room → Readable room (withRoom t x) untold
 room-readable t x k = readable-check t noRoom k (omega arith) (omega arith) (λ e. readable-silent x k)
@@ -58,13 +39,13 @@ module _ (room : ℕ) (limits : Limits) (few : limits .vertices + 1 < room) (les
   unfolding arcsRead
   arcs-readable both ids s t t′ =
       onward-readable (edgesOf both (limits .edges) (placeIn ids) s)
-      (file-readable edgeFile (limits .edges) room (edgeTest both (placeIn ids)) (omega arith) (edge-low both ids) less (twoOf identOf identOf) s)
+      (met-readable edgeFile (limits .edges) room (omega arith) less (edgesOf both (limits .edges) (placeIn ids) s) (edges-met both (limits .edges) (placeIn ids) s))
       (λ es e. let l = arcs both (allNumbered (placeIn ids) es) in room-readable (arcRoom t t′ (length l)) l (omega arith))
 
   lists-readable : (both : Bool) (r : Room) (vertices edges : List ℕ) → Readable room (listsRead limits both r vertices edges) untold
   unfolding listsRead
   lists-readable both r vertices edges =
-      onward-readable (identifiers (limits .vertices) vertices) (file-readable vertexFile (limits .vertices) room vertexTest (omega arith) vertex-low few identOf vertices)
+      onward-readable (identifiers (limits .vertices) vertices) (met-readable vertexFile (limits .vertices) room (omega arith) few (identifiers (limits .vertices) vertices) (vertices-met (limits .vertices) vertices))
       (λ ids e. onward-readable _ (room-readable (vertexRoom (r .ids) (r .outOffsets) (r .inOffsets) (length ids)) ids (omega arith))
       (λ l f. said-readable (λ a. record { ids = l; arcs = a }) _ (omega arith) (arcs-readable both l edges (r .outTargets) (r .inSources))))
 

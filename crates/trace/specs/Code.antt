@@ -13,7 +13,7 @@ abbrev pub coded : {A : Type 0} → Said A → (A → ℕ) → ℕ
 coded (gives x) value = value x
 coded (refuses r) value = placed r
 
--- the three numbers as a host takes them out again; below 10^14 stands the line, or the values
+-- the number, as a host takes it out again: what stands above the last 15 digits; 0 where there are values
 abbrev pub numberIn : ℕ → ℕ
 numberIn code = code / 1000000000000000
 
@@ -55,7 +55,7 @@ pub record Small (room : ℕ) (r : Refusal) : Type 0 where
   pub file : r .file ≤ 4
   pub line : r .line < room
 
--- values have that room too, and a refusal has a number of its own
+-- what a call says can be taken out of its number again: values have that room too, and a refusal's number is not 0
 pub record Readable {A : Type 0} (room : ℕ) (s : Said A) (value : A → ℕ) : Type 0 where
   pub values : (x : A) → s ≡ gives x → value x < room
   pub refusals : (r : Refusal) → s ≡ refuses r → (0 < r .number) × Small room r

@@ -5,7 +5,7 @@ use mathlib.Core.List.{List}
 use lib.IntN.{ℤ}
 use lib.ListN.{length}
 use lib.Dec.{eqb, leb}
-use Rattle.basis.specs.Refusal.{Said, refuses, plain, unknownNumber, onward, said}
+use Rattle.basis.specs.Refusal.{Said, unknownNumber, onward, said, check}
 use Rattle.graph.specs.Arcs.{arcs, backward, parts, offsets}
 use Rattle.graph.specs.Sound.{Graph}
 use Rattle.load.specs.declared.Limits.{Limits}
@@ -46,15 +46,15 @@ graphOf l =
       inSources = parts (backward (l .arcs)) n;
     }
 
--- "a mode or kernel number is unknown": here neither is
+-- "kernel (1 BFS, 2 WCC, 3 CDLP, 4 LCC)": the number is one of them
 abbrev pub isKernel : ℕ → Bool
 isKernel kernel = leb 1 kernel && leb kernel 4
 
--- "mode (0 undirected, 1 directed)": both numbers are known
+-- "mode (0 undirected, 1 directed)": it and the kernel's number are known
 unfoldable pub isKnown : ℕ → ℕ → Bool
 isKnown mode kernel = leb mode 1 && isKernel kernel
 
--- "kernel (1 BFS, 2 WCC, 3 CDLP, 4 LCC)"
+-- what the kernel of a number brings to a verdict, with "parameter (root or iterations, else ignored)"
 unfoldable pub referenceFor : ℕ → Graph → List ℕ → ℕ → ℤ → Reference
 referenceFor most g claim kernel parameter =
     cond (eqb kernel bfsNumber) (bfsReference most g claim parameter)
@@ -63,14 +63,13 @@ referenceFor most g claim kernel parameter =
 
 -- "10 or 11, claim"
 abbrev pub judgedAs : Reference → Said Verdict
-judgedAs k = cond (k .given) (k .judged) (refuses (plain (k .number)))
+judgedAs k = check (k .given) (k .number) (k .judged)
 
 -- "Order: 12, load, 10 or 11, claim."
 unfoldable pub hostSays : List ℕ → List ℕ → List ℕ → ℕ → ℕ → ℤ → Said Verdict
 hostSays vertices edges claim mode kernel parameter =
-    cond (isKnown mode kernel)
+    check (isKnown mode kernel) unknownNumber
     (onward (listsSaid (isUndirected mode) vertices edges) (λ l. judgedAs (referenceFor deskLines (graphOf l) claim kernel parameter)))
-    (refuses (plain unknownNumber))
 
 -- "The answer is number × 1,000,000 + file × 100,000 + line."
 unfoldable pub hostVerdict : List ℕ → List ℕ → List ℕ → ℕ → ℕ → ℤ → ℕ

@@ -27,7 +27,7 @@ bfsTold answer depth queue = record { answer = answer; depth = depth; queue = qu
 unfoldable pub bfsTells : Bfs.Outcome → BfsTold
 bfsTells o = bfsTold (coded (o .said) nothing) (o .depth) (o .queue)
 
--- WCC
+-- WCC: the answer, the result area, and the two working areas of its book
 pub record WccTold : Type 0 where
   pub answer : ℕ
   pub result : List ℤ
@@ -38,11 +38,11 @@ pub record WccTold : Type 0 where
 abbrev pub wccTold : ℕ → List ℤ → List ℕ → List ℕ → WccTold
 wccTold answer result parents sizes = record { answer = answer; result = result; parents = parents; sizes = sizes }
 
--- what a WCC call tells by its outcome: 0 or its refusal, the result area, and the two working areas of its book
+-- what a WCC call tells by its outcome: 0 or its refusal as a number, and the areas as they stand
 unfoldable pub wccTells : Wcc.Outcome → WccTold
 wccTells o = wccTold (coded (o .said) nothing) (o .result) (o .parents) (o .sizes)
 
--- CDLP
+-- CDLP: the answer, the result area, and the three working areas
 pub record CdlpTold : Type 0 where
   pub answer : ℕ
   pub result : List ℤ
@@ -55,11 +55,11 @@ abbrev pub cdlpTold : ℕ → List ℤ → List ℕ → List ℕ → List ℕ �
 cdlpTold answer result labels next counts =
     record { answer = answer; result = result; labels = labels; next = next; counts = counts }
 
--- what a CDLP call tells by its outcome: 0 or its refusal, the result area, and the three working areas
+-- what a CDLP call tells by its outcome: 0 or its refusal as a number, and the areas as they stand
 unfoldable pub cdlpTells : Cdlp.Outcome → CdlpTold
 cdlpTells o = cdlpTold (coded (o .said) nothing) (o .result) (o .labels) (o .next) (o .counts)
 
--- LCC
+-- LCC: the answer, the two result areas, and the working area
 pub record LccTold : Type 0 where
   pub answer : ℕ
   pub numerators : List ℕ
@@ -71,6 +71,6 @@ abbrev pub lccTold : ℕ → List ℕ → List ℕ → List ℕ → LccTold
 lccTold answer numerators denominators work =
     record { answer = answer; numerators = numerators; denominators = denominators; work = work }
 
--- what an LCC call tells by its outcome: 0 or its refusal, the two result areas, and the working area
+-- what an LCC call tells by its outcome: 0 or its refusal as a number, and the areas as they stand
 unfoldable pub lccTells : Lcc.Outcome → LccTold
 lccTells o = lccTold (coded (o .said) nothing) (o .numerators) (o .denominators) (o .work)

@@ -2,7 +2,7 @@
 use mathlib.Core.Path.{_≡_, refl, sym, ap, ap₂, _∙_, subst}
 use mathlib.Core.Bool.{Bool, true, cond}
 use mathlib.Core.List.{List, [], _∷_}
-use Prim.Native.Nat.{ℕ, suc, _+_, _^_, _<_}
+use Prim.Native.Nat.{ℕ, suc, _+_, _^_, _≤_, _<_}
 use native.Mathlib.Omega.{arith}
 use lib.Dec.{leb}
 use lib.IntN.{ℤ}
@@ -10,7 +10,7 @@ use lib.ListN.{length, getD, take}
 use lib.Seq.{getD-take}
 use borrow.Author.Tests.{le-leb, leb-true, lt-ltb}
 use Rattle.basis.specs.Refusal.{Said, gives, refuses, noRoom, check}
-use Rattle.basis.specs.Area.{cleared}
+use Rattle.basis.specs.Area.{column, cleared, leaves}
 use Rattle.basis.proofs.Tests.{and-first, and-second, and-both}
 use Rattle.basis.proofs.Areas.{column-at, column-is, column-length}
 use Rattle.graph.specs.Sound.{Graph, outward, inward, soundGraph}
@@ -69,29 +69,28 @@ fractions-are g F S p q =
 
 -- ---- LCC
 module _ (g : Graph) (F S W : List ℕ) {a : Said (Unit {0})} {F′ S′ W′ : List ℕ} (e : lcc.outcome a F′ S′ W′ ≡ lcc.lccCall g F S W) where
-  upper-ran : Ran 0 true 0 (numerators g) (g .vertices) (length (g .ids)) (soundGraph g) (lcc.room (g .vertices) F S W) (length F) a F′
-  unfolding lcc.lccCall lcc.lccSays lcc.room
-  upper-ran =
-      let q = ap (λ (o : lcc.Outcome). o .said) e in
-      record {
-        said = q;
-        leaving = ap (λ (o : lcc.Outcome). o .numerators) e ∙ rw q;
-        whole = λ s t. column-length (numerator (g .vertices) (outward g) (inward g)) 0 (g .vertices);
-        known = λ s. sound-of g s .idsRoom;
-        ownRoom = λ o. leb-true (g .vertices) (length F) (and-first (leb (g .vertices) (length F)) (leb (g .vertices) (length S)) (and-first _ (leb (g .vertices) (length W)) o));
-      }
+  -- in one of the two result areas
+  abbrev RanIn : (ℕ → ℕ) → List ℕ → List ℕ → Type 0
+  RanIn f l l′ = Ran 0 true 0 (column f 0 (g .vertices)) (g .vertices) (length (g .ids)) (soundGraph g) (lcc.room (g .vertices) F S W) (length l) a l′
 
-  lower-ran : Ran 0 true 0 (denominators g) (g .vertices) (length (g .ids)) (soundGraph g) (lcc.room (g .vertices) F S W) (length S) a S′
-  unfolding lcc.lccCall lcc.lccSays lcc.room
-  lower-ran =
+  ran-in : (f : ℕ → ℕ) (l l′ : List ℕ) → l′ ≡ leaves (lcc.lccSays g F S W) 0 (length l) (column f 0 (g .vertices))
+      → (lcc.room (g .vertices) F S W ≡ true → g .vertices ≤ length l) → RanIn f l l′
+  unfolding lcc.lccCall lcc.lccSays
+  ran-in f l l′ p o =
       let q = ap (λ (o : lcc.Outcome). o .said) e in
-      record {
-        said = q;
-        leaving = ap (λ (o : lcc.Outcome). o .denominators) e ∙ rw q;
-        whole = λ s t. column-length (denominator (g .vertices) (outward g) (inward g)) 0 (g .vertices);
-        known = λ s. sound-of g s .idsRoom;
-        ownRoom = λ o. leb-true (g .vertices) (length S) (and-second (leb (g .vertices) (length F)) (leb (g .vertices) (length S)) (and-first _ (leb (g .vertices) (length W)) o));
-      }
+      record { said = q; leaving = p ∙ rw q; whole = λ s t. column-length f 0 (g .vertices); known = λ s. sound-of g s .idsRoom; ownRoom = o }
+
+  upper-ran : RanIn (numerator (g .vertices) (outward g) (inward g)) F F′
+  unfolding lcc.lccCall lcc.room
+  upper-ran =
+      ran-in _ F F′ (ap (λ (o : lcc.Outcome). o .numerators) e)
+      (λ o. leb-true (g .vertices) (length F) (and-first (leb (g .vertices) (length F)) (leb (g .vertices) (length S)) (and-first _ (leb (g .vertices) (length W)) o)))
+
+  lower-ran : RanIn (denominator (g .vertices) (outward g) (inward g)) S S′
+  unfolding lcc.lccCall lcc.room
+  lower-ran =
+      ran-in _ S S′ (ap (λ (o : lcc.Outcome). o .denominators) e)
+      (λ o. leb-true (g .vertices) (length S) (and-second (leb (g .vertices) (length F)) (leb (g .vertices) (length S)) (and-first _ (leb (g .vertices) (length W)) o)))
 
   pub lcc-known : Known a (g .vertices) (length (g .ids))
   lcc-known = ran-known upper-ran

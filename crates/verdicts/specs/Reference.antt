@@ -24,7 +24,7 @@ pub record Reference : Type 0 where
   pub denominators : List ℕ
   pub judged : Said Verdict
 
--- the coefficients of a graph's vertices
+-- the coefficient of a vertex, "in lowest terms"
 abbrev pub coefficientAt : Graph → ℕ → Fraction
 coefficientAt g v = (numerator (g .vertices) (outward g) (inward g) v, denominator (g .vertices) (outward g) (inward g) v)
 

@@ -59,7 +59,7 @@ numbersCall k sound room R C =
     let said = verdictSays k sound room in
     numbers said (leaves said (pos 0) (length R) (k .values)) (clearedZ C)
 
--- the same with a coefficient's two result areas
+-- what was said of a claim of coefficients, and their two result areas
 pub record Terms : Type 0 where
   pub said : Said Verdict
   pub first : List ℕ

@@ -12,7 +12,7 @@ ghost use mathlib.Core.Path.{_≡_};
 ghost use lib.ListN.{length};
 ghost use lib.IntN.{pos};
 ghost use Rattle.basis.specs.Refusal.{refuses};
-ghost use Rattle.basis.specs.Area.{cleared, clearedZ};
+ghost use Rattle.basis.specs.Area.{clearedZ};
 ghost use Rattle.kernels.specs.Answer.{says as answers};
 ghost use Rattle.matching.specs.Verdict.{says};
 ghost use Rattle.verdicts.specs.Steps.{isRefused, kept, numbers, numbersOn, terms, termsOn, Known, Roomy};
@@ -28,7 +28,7 @@ fn is_refused(judged: Judged) -> bool
     }
 }
 
-// The results stay after a verdict.
+// The results stay after a verdict and go after a refusal.
 fn settle_numbers(judged: Judged, result: &mut [i64]) -> Judged
     ensures { λ r. ⌜ (r ≡ judged) × (now (result .exit) ≡ kept (says judged) (pos 0) (now (result .entry))) ⌝ }
 {
@@ -39,6 +39,7 @@ fn settle_numbers(judged: Judged, result: &mut [i64]) -> Judged
     judged
 }
 
+// The same of a coefficient's two areas.
 fn settle_terms(judged: Judged, first: &mut [usize], second: &mut [usize]) -> Judged
     ensures { λ r. ⌜ terms (says r) (now (first .exit)) (now (second .exit)) ≡ terms (says judged) (kept (says judged) 0 (now (first .entry))) (kept (says judged) 0 (now (second .entry))) ⌝ }
 {
@@ -50,19 +51,12 @@ fn settle_terms(judged: Judged, first: &mut [usize], second: &mut [usize]) -> Ju
     judged
 }
 
+// A refusal before the claim is read: its working area is not cleared yet.
 fn refuse_numbers(r: Refusal, result: &mut [i64], claimed: &mut [i64]) -> Judged
     ensures { λ j. ⌜ numbers (says j) (now (result .exit)) (now (claimed .exit)) ≡ numbers (refuses r) (clearedZ (now (result .entry))) (clearedZ (now (claimed .entry))) ⌝ }
 {
     clear_signed(result);
     clear_signed(claimed);
-    Judged::Refused(r)
-}
-
-fn refuse_terms(r: Refusal, first: &mut [usize], second: &mut [usize]) -> Judged
-    ensures { λ j. ⌜ terms (says j) (now (first .exit)) (now (second .exit)) ≡ terms (refuses r) (cleared (now (first .entry))) (cleared (now (second .entry))) ⌝ }
-{
-    clear(first);
-    clear(second);
     Judged::Refused(r)
 }
 
@@ -110,10 +104,11 @@ pub(crate) fn terms_on(
     ensures { λ r. ⌜ terms (says r) (now (first .exit)) (now (second .exit)) ≡ termsOn (answers answer) room most n (now (ids .entry)) (now (claim .entry)) (now (first .entry)) (now (second .entry)) ⌝ }
 {
     match answer {
-        Answer::Refused(r) => refuse_terms(r, first, second),
+        Answer::Refused(r) => settle_terms(Judged::Refused(r), first, second),
         Answer::Done => {
             if !room {
-                return refuse_terms(Refusal::plain(NO_ROOM), first, second);
+                let refused = Judged::Refused(Refusal::plain(NO_ROOM));
+                return settle_terms(refused, first, second);
             }
             let judged = judge_coefficients(most, &ids[..n], first, second, claim);
             settle_terms(judged, first, second)

@@ -43,7 +43,9 @@ same-length-5 : tie.Need-same-length-5
 same-length-5 c = search needs
 
 returns : tie.Need-returns
-returns c = sections-loaded (c .before .before .before .before .before .before .before .before .before .before .before .before .before .before .before .before .before .before .before .before .before .before .before .before .before .args .s .now) (c .before .before .before .before .before .before .before .before .before .before .before .before .before .before .before .before .before .before .before .before .before .before .before .before .before .args .plan) _ _ _ (c .before .before .before .before .before .before .before .before .before .before .before .before .before .before .before .before .before .mode-number .ensures) (c .before .before .before .before .before .before .before .before .before .load-within .ensures)
+returns c =
+    let a = c .before .before .before .before .before .before .before .before .before .before .before .before .before .before .before .before .before .before .before .before .before .before .before .before .before in
+    sections-loaded (a .args .s .now) (a .args .plan) _ _ _ (c .before .before .before .before .before .before .before .before .before .before .before .before .before .before .before .before .before .mode-number .ensures) (c .before .before .before .before .before .before .before .before .before .load-within .ensures)
 
 pub load-sections-spec : {M : Type 1} → statement M
 load-sections-spec =

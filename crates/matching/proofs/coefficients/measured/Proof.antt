@@ -1,16 +1,16 @@
-use Rattle.matching.proofs.DecimalLines.{near-kept, near-surplus, near-yes, near-no}
+use Rattle.matching.proofs.FirstLines.{step-kept, step-surplus, step-passes, step-fails}
 use borrow.Author.Needs.{needs}
 use Rattle.matching.proofs.coefficients.measured.Statement.{statement}
 use Rattle.matching.proofs.coefficients.measured.Tie as tie
 
 returns : tie.Need-returns
-returns c = search near-kept
+returns c = search step-kept
 
 add-result : tie.Need-add-result
 add-result c = search needs
 
 returns-2 : tie.Need-returns-2
-returns-2 c = search near-surplus
+returns-2 c = search step-surplus
 
 mul-near : tie.Need-mul-near
 mul-near c = search needs
@@ -28,13 +28,13 @@ near-requires : tie.Need-near-requires
 near-requires c κs = search needs
 
 returns-3 : tie.Need-returns-3
-returns-3 c = search near-yes
+returns-3 c = search step-passes
 
 add-result-2 : tie.Need-add-result-2
 add-result-2 c = search needs
 
 returns-4 : tie.Need-returns-4
-returns-4 c = search near-no
+returns-4 c = search step-fails
 
 pub measured-spec : {M : Type 1} → statement M
 measured-spec =

@@ -58,7 +58,7 @@ loop-less : tie.Need-loop-less Inv-loop μ-loop
 loop-less c = search needs
 
 loop-again : tie.Need-loop-again Inv-loop μ-loop
-loop-again c = decimals-next _ _ _ _ _ (c .before .before .before .before .before .before .before .loop .inv) (search needs) (c .before .before .before .before .before .coefficient-claim .ensures) _ _ _ (c .before .before .before .line2 .given .1) (c .before .covered .ensures) (c .measured .ensures)
+loop-again c = search (decimals-next, needs)
 
 add-at-2 : tie.Need-add-at-2 Inv-loop μ-loop
 add-at-2 c = search needs

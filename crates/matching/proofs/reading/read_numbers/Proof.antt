@@ -60,7 +60,7 @@ loop-less : tie.Need-loop-less Inv-loop μ-loop
 loop-less c = search needs
 
 loop-again : tie.Need-loop-again Inv-loop μ-loop
-loop-again c = numbers-next _ _ _ (c .before .before .before .before .before .before .before .before .before .loop .inv) (search needs) (c .before .before .before .before .before .before .before .claim .ensures) _ _ _ (c .before .before .before .before .before .line2 .given .1) (c .before .before .before .before .before .before .before .before .before .before .before .pre) (c .before .before .before .covered .ensures) (c .before .keep .ensures)
+loop-again c = search (numbers-next, needs)
 
 add-at-2 : tie.Need-add-at-2 Inv-loop μ-loop
 add-at-2 c = search needs

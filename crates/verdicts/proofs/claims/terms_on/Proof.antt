@@ -8,8 +8,8 @@ use Rattle.verdicts.proofs.claims.terms_on.Tie as tie
 enum-known-answer : tie.Need-enum-known-answer
 enum-known-answer c = search needs
 
-refuse-terms-requires : tie.Need-refuse-terms-requires
-refuse-terms-requires c κs = search needs
+settle-terms-requires : tie.Need-settle-terms-requires
+settle-terms-requires c κs = search needs
 
 enum-told : tie.Need-enum-told
 enum-told c = search needs
@@ -17,8 +17,8 @@ enum-told c = search needs
 plain-requires : tie.Need-plain-requires
 plain-requires c κs = search needs
 
-refuse-terms-requires-2 : tie.Need-refuse-terms-requires-2
-refuse-terms-requires-2 c κs = search needs
+settle-terms-requires-2 : tie.Need-settle-terms-requires-2
+settle-terms-requires-2 c κs = search needs
 
 same-length : tie.Need-same-length
 same-length c = search needs
@@ -35,8 +35,8 @@ slice-aggregate-judge-coefficients c = sym (length-take-le _ _ (search known-ids
 judge-coefficients-requires : tie.Need-judge-coefficients-requires
 judge-coefficients-requires c κs = search needs
 
-settle-terms-requires : tie.Need-settle-terms-requires
-settle-terms-requires c κs = search needs
+settle-terms-requires-3 : tie.Need-settle-terms-requires-3
+settle-terms-requires-3 c κs = search needs
 
 same-length-3 : tie.Need-same-length-3
 same-length-3 c = search needs
@@ -61,16 +61,16 @@ terms-on-spec =
     tie.close
     (tie.spec
     enum-known-answer
-    refuse-terms-requires
+    settle-terms-requires
     enum-told
     plain-requires
-    refuse-terms-requires-2
+    settle-terms-requires-2
     same-length
     same-length-2
     returns
     slice-aggregate-judge-coefficients
     judge-coefficients-requires
-    settle-terms-requires
+    settle-terms-requires-3
     same-length-3
     same-length-4
     returns-2

@@ -1,20 +1,18 @@
-use denote.Ref.{now}
-use Rattle.graph.specs.Sound.{Graph, lent}
 use mir.Facts.{toZ-ofZ}
 use Rattle.verdicts.proofs.Kernels.{cdlp-known, cdlp-roomy, cdlp-cleared, cdlp-verdict}
 use borrow.Author.Needs.{needs}
 use Rattle.verdicts.proofs.each.on_cdlp.Statement.{statement}
 use Rattle.verdicts.proofs.each.on_cdlp.Tie as tie
 
-abbrev graphOf : tie.Start → Graph
-graphOf a = lent (a .args .size) (now (a .args .ids)) (now (a .args .out-offsets)) (now (a .args .out-targets)) (now (a .args .in-offsets)) (now (a .args .in-sources))
-
 cdlp-requires : tie.Need-cdlp-requires
 cdlp-requires c κs = search needs
 
 numbers-on-requires : tie.Need-numbers-on-requires
 numbers-on-requires c κs =
-    let a = c .before .before .before .before .before .before .before .before .before .before .before .before .before .before .before .before .before .before .before .before .before .before in let e = c .before .before .before .before .before .before .before .before .before .cdlp .ensures in let p = toZ-ofZ (a .fits .iterations) in (cdlp-known (graphOf a) (a .args .iterations) p (now (a .args .result)) (now (a .args .labels)) (now (a .args .next)) (now (a .args .counts)) e, (cdlp-roomy (graphOf a) (a .args .iterations) p (now (a .args .result)) (now (a .args .labels)) (now (a .args .next)) (now (a .args .counts)) e (a .pre .0 .0), a .pre .0 .1))
+    let a = c .before .before .before .before .before .before .before .before .before .before .before .before .before .before .before .before .before .before .before .before .before .before in
+    let e = c .before .before .before .before .before .before .before .before .before .cdlp .ensures in
+    let p = toZ-ofZ (a .fits .iterations) in
+    (cdlp-known _ _ p _ _ _ _ e, (cdlp-roomy _ _ p _ _ _ _ e (a .pre .0 .0), a .pre .0 .1))
 
 same-length : tie.Need-same-length
 same-length c = search needs
@@ -33,7 +31,10 @@ same-length-5 c = search needs
 
 returns : tie.Need-returns
 returns c =
-    let a = c .before .before .before .before .before .before .before .before .before .before .before .before .before .before .before .before .before .before .before .before .before .before .before .before .before in let e = c .before .before .before .before .before .before .before .before .before .before .before .before .cdlp .ensures in let p = toZ-ofZ (a .fits .iterations) in (cdlp-verdict (graphOf a) (a .args .iterations) p (now (a .args .result)) (now (a .args .labels)) (now (a .args .next)) (now (a .args .counts)) e (a .pre .0 .0) (a .pre .1) (a .args .most) (now (a .args .claim)) (now (a .args .claimed)) (c .before .before .numbers-on .ensures), cdlp-cleared (graphOf a) (a .args .iterations) p (now (a .args .result)) (now (a .args .labels)) (now (a .args .next)) (now (a .args .counts)) e)
+    let a = c .before .before .before .before .before .before .before .before .before .before .before .before .before .before .before .before .before .before .before .before .before .before .before .before .before in
+    let e = c .before .before .before .before .before .before .before .before .before .before .before .before .cdlp .ensures in
+    let p = toZ-ofZ (a .fits .iterations) in
+    (cdlp-verdict _ _ p _ _ _ _ e (a .pre .0 .0) (a .pre .1) _ _ _ (c .before .before .numbers-on .ensures), cdlp-cleared _ _ p _ _ _ _ e)
 
 pub on-cdlp-spec : {M : Type 1} → statement M
 on-cdlp-spec =

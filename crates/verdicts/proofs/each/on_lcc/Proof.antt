@@ -1,19 +1,16 @@
-use denote.Ref.{now}
-use Rattle.graph.specs.Sound.{Graph, lent}
 use Rattle.verdicts.proofs.Fractions.{lcc-known, lcc-roomy, lcc-cleared, lcc-verdict}
 use borrow.Author.Needs.{needs}
 use Rattle.verdicts.proofs.each.on_lcc.Statement.{statement}
 use Rattle.verdicts.proofs.each.on_lcc.Tie as tie
-
-abbrev graphOf : tie.Start → Graph
-graphOf a = lent (a .args .size) (now (a .args .ids)) (now (a .args .out-offsets)) (now (a .args .out-targets)) (now (a .args .in-offsets)) (now (a .args .in-sources))
 
 lcc-requires : tie.Need-lcc-requires
 lcc-requires c κs = search needs
 
 terms-on-requires : tie.Need-terms-on-requires
 terms-on-requires c κs =
-    let a = c .before .before .before .before .before .before .before .before .before .before .before .before .before .before .before .before .before .before .before .before in let e = c .before .before .before .before .before .before .before .before .lcc .ensures in (lcc-known (graphOf a) (now (a .args .numerators)) (now (a .args .denominators)) (now (a .args .work)) e, lcc-roomy (graphOf a) (now (a .args .numerators)) (now (a .args .denominators)) (now (a .args .work)) e (a .pre .0))
+    let a = c .before .before .before .before .before .before .before .before .before .before .before .before .before .before .before .before .before .before .before .before in
+    let e = c .before .before .before .before .before .before .before .before .lcc .ensures in
+    (lcc-known _ _ _ _ e, lcc-roomy _ _ _ _ e (a .pre .0))
 
 same-length : tie.Need-same-length
 same-length c = search needs

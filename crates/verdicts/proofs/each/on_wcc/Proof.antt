@@ -1,19 +1,16 @@
-use denote.Ref.{now}
-use Rattle.graph.specs.Sound.{Graph, lent}
 use Rattle.verdicts.proofs.Kernels.{wcc-known, wcc-roomy, wcc-cleared, wcc-cleared-too, wcc-verdict}
 use borrow.Author.Needs.{needs}
 use Rattle.verdicts.proofs.each.on_wcc.Statement.{statement}
 use Rattle.verdicts.proofs.each.on_wcc.Tie as tie
-
-abbrev graphOf : tie.Start → Graph
-graphOf a = lent (a .args .size) (now (a .args .ids)) (now (a .args .out-offsets)) (now (a .args .out-targets)) (now (a .args .in-offsets)) (now (a .args .in-sources))
 
 wcc-requires : tie.Need-wcc-requires
 wcc-requires c κs = search needs
 
 numbers-on-requires : tie.Need-numbers-on-requires
 numbers-on-requires c κs =
-    let a = c .before .before .before .before .before .before .before .before .before .before .before .before .before .before .before .before .before .before in let e = c .before .before .before .before .before .before .before .wcc .ensures in (wcc-known (graphOf a) (now (a .args .result)) (now (a .args .parents)) (now (a .args .sizes)) e, (wcc-roomy (graphOf a) (now (a .args .result)) (now (a .args .parents)) (now (a .args .sizes)) e (a .pre .0 .0), a .pre .0 .1))
+    let a = c .before .before .before .before .before .before .before .before .before .before .before .before .before .before .before .before .before .before in
+    let e = c .before .before .before .before .before .before .before .wcc .ensures in
+    (wcc-known _ _ _ _ e, (wcc-roomy _ _ _ _ e (a .pre .0 .0), a .pre .0 .1))
 
 same-length : tie.Need-same-length
 same-length c = search needs
