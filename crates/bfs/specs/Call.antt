@@ -1,6 +1,6 @@
 -- What a call of the BFS kernel answers, and what it leaves in the two areas lent for writing.
 use Prim.Native.Nat.{ℕ}
-use mathlib.Core.Bool.{Bool, true, false, _&&_}
+use mathlib.Core.Bool.{_&&_}
 use mathlib.Core.List.{List, []}
 use lib.IntN.{ℤ, pos}
 use lib.ListN.{length}
@@ -9,7 +9,7 @@ use Rattle.basis.specs.Refusal.{Said, notThere}
 use Rattle.basis.specs.Area.{leaves, cleared}
 use Rattle.graph.specs.declared.find.Found.{Found}
 use Rattle.graph.specs.declared.find.Found.the-variants.{At, Missing}
-use Rattle.graph.specs.Find.{placeIn}
+use Rattle.graph.specs.Find.{placeIn, isThere}
 use Rattle.graph.specs.Sound.{Graph, outward, names, soundGraph}
 use Rattle.kernels.specs.Answer.{kernelSays}
 use Rattle.bfs.specs.Depth.{depths}
@@ -23,11 +23,6 @@ pub record Outcome : Type 0 where
 -- the same, by its fields in order
 abbrev pub outcome : Said (Unit {0}) → List ℤ → List ℕ → Outcome
 outcome said depth queue = record { said = said; depth = depth; queue = queue }
-
--- "a BFS root .. isn't there"
-abbrev pub isThere : Found → Bool
-isThere (At root) = true
-isThere Missing = false
 
 -- "Kernels check 9, then 10 .., then 8: each result or working area needs n places"
 unfoldable pub bfsSays : Graph → Found → List ℤ → List ℕ → Said (Unit {0})

@@ -21,9 +21,9 @@ use Rattle.graph.specs.declared.Size.{Size}
 use Rattle.graph.specs.declared.find.Found.{Found}
 use Rattle.graph.specs.declared.find.Found.the-variants.{At, Missing}
 use Rattle.graph.specs.Part.{partOf}
-use Rattle.graph.specs.Find.{bisectBy}
+use Rattle.graph.specs.Find.{bisectBy, isThere}
 use Rattle.graph.specs.Sound.{Graph, outward, inward, lent, idsRise, soundIds, other, neverFall, soundOffsets, soundPart, soundParts, soundSide, mirrored, bothWays, soundSides, soundGraph}
-use Rattle.graph.specs.Steps.{located, bisectFinds, answered}
+use Rattle.graph.specs.Steps.{bisectFinds, answered}
 use Rattle.graph.specs.Walk.{Ways}
 use Rattle.graph.proofs.Parts.{part-far}
 use Rattle.graph.proofs.Sounds.{part-rises}
@@ -171,16 +171,16 @@ module _ (n m : ℕ) (off tgt : List ℕ) where
 -- ---- "the inward arcs are exactly the outward ones reversed"
 module _ (l : List ℕ) (x low high : ℕ) (h : Halving ltb 0 l x low high) where
   pub found-here : low < high → ltb (getD l (low + (high - low) / 2) 0) x ≡ false → ltb x (getD l (low + (high - low) / 2) 0) ≡ false → true ≡ bisectFinds l x
-  found-here g t u = ap located (halving-here h g (getD l (low + (high - low) / 2) 0) refl t u)
+  found-here g t u = ap isThere (halving-here h g (getD l (low + (high - low) / 2) 0) refl t u)
 
   pub found-none : high ≤ low → false ≡ bisectFinds l x
-  found-none g = ap located (halving-end h g)
+  found-none g = ap isThere (halving-end h g)
 
 -- a part that rises has a member exactly where a bisection finds it
 finds-member : (l : List ℕ) (x : ℕ) → rising l ≡ true → bisectFinds l x ≡ mem x l
 finds-member l x r = by (bisectBy ltb 0 l x) (bisect-finds number-order 0 l r x)
   where
-    by : (f : Found) → Right 0 l x f → located f ≡ mem x l
+    by : (f : Found) → Right 0 l x f → isThere f ≡ mem x l
     by (At i) (a, b) = sym (mem-index x l i a b)
     by Missing h = sym (mem-none x l h)
 

@@ -19,6 +19,11 @@ placeFrom i (x ∷ l) id = elim (sameZ x id) [ true ↦ At i | false ↦ placeFr
 abbrev pub placeIn : List ℤ → ℤ → Found
 placeIn l id = placeFrom 0 l id
 
+-- "isn't there", the other way round: an identifier was found
+abbrev pub isThere : Found → Bool
+isThere (At i) = true
+isThere Missing = false
+
 -- a bisection for x of the places from low up to high, of at most so many turns: the middle, or the half that is left of it
 module _ {A : Type 0} (less : A → A → Bool) (z : A) (l : List A) (x : A) where
   unfoldable pub bisect : ℕ → ℕ → ℕ → Found

@@ -1,22 +1,15 @@
 -- What the steps of the soundness check answer, piece by piece of `soundGraph`.
 use Prim.Native.Nat.{ℕ}
-use mathlib.Core.Bool.{Bool, true, false}
+use mathlib.Core.Bool.{Bool}
 use mathlib.Core.List.{List}
 use lib.Dec.{ltb}
 use Rattle.basis.specs.Scan.{each, mem}
-use Rattle.graph.specs.declared.find.Found.{Found}
-use Rattle.graph.specs.declared.find.Found.the-variants.{At, Missing}
 use Rattle.graph.specs.Part.{partOf}
-use Rattle.graph.specs.Find.{bisectBy}
-
--- x is found in a list by bisection
-abbrev pub located : Found → Bool
-located (At i) = true
-located Missing = false
+use Rattle.graph.specs.Find.{bisectBy, isThere}
 
 -- whether the bisection of a list l for x, as whole numbers, ends at a place
 abbrev pub bisectFinds : List ℕ → ℕ → Bool
-bisectFinds l x = located (bisectBy ltb 0 l x)
+bisectFinds l x = isThere (bisectBy ltb 0 l x)
 
 -- each arc from u to a member of a list stands at its other end
 abbrev pub answered : ℕ → List ℕ → List ℕ → ℕ → List ℕ → Bool

@@ -18,7 +18,7 @@ use Rattle.text.specs.declared.line.VertexLine.{VertexLine}
 use Rattle.text.specs.declared.line.VertexLine.the-variants as VL
 use Rattle.text.specs.declared.line.EdgeLine.{EdgeLine}
 use Rattle.text.specs.declared.line.EdgeLine.the-variants as EL
-use Rattle.graph.specs.Find.{bisected}
+use Rattle.graph.specs.Find.{bisected, isThere}
 use Rattle.graph.specs.declared.find.Found.{Found}
 use Rattle.graph.specs.declared.find.Found.the-variants.{At, Missing}
 use Rattle.lists.specs.declared.vertices.Vertices.{Vertices}
@@ -26,7 +26,7 @@ use Rattle.lists.specs.declared.edges.Edges.{Edges}
 use Rattle.lists.specs.declared.edges.Ends.{Ends}
 use Rattle.lists.specs.declared.edges.Ends.the-variants as EN
 use Rattle.lists.specs.Lines.{good, Before, faultOf}
-use Rattle.lists.specs.Files.{vertexTest, isAbove, isThere, numberOf, edgeTest, numbered}
+use Rattle.lists.specs.Files.{vertexTest, isAbove, numberOf, edgeTest, numbered}
 use Rattle.lists.specs.Steps.{Step, more, stop, byFault, stepBy, beforeBy, vertexStep, orderFault, Looked, found, unknown, lookedBy, endsSays, pairOf, withNumbers, edgeStep}
 
 -- ---- too many lines come before any other fault

@@ -14,11 +14,12 @@ use Rattle.basis.specs.Refusal.{Said, gives, refuses, tooMany, vertexFile, edge
 use Rattle.basis.specs.Order.{sameZ}
 use Rattle.basis.proofs.Saids.{Either}
 use Rattle.graph.specs.declared.find.Found.{Found}
+use Rattle.graph.specs.Find.{isThere}
 use Rattle.text.specs.Word.{Word, identOf}
 use Rattle.text.specs.Line.{LineSaid, line, none, fault, lineBy, twoOf}
 use Rattle.text.proofs.Places.{Any, LineHas, line-any}
 use Rattle.lists.specs.Lines.{Line, good, bad, linesFrom, linesOf, Before, first, after, unless, faultOf, valuesFrom, valuesOf}
-use Rattle.lists.specs.Files.{vertexTest, identifiers, isAbove, isThere, edgeTest, edgesOf}
+use Rattle.lists.specs.Files.{vertexTest, identifiers, isAbove, edgeTest, edgesOf}
 use Rattle.lists.proofs.Reading.{limit-none}
 
 pub record Met (file most : ℕ) (r : Refusal) : Type 0 where

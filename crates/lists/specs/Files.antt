@@ -1,6 +1,6 @@
 -- 01 "Lists": the identifiers that a vertex file lists, and the edges that an edge file lists.
 use Prim.Native.Nat.{ℕ}
-use mathlib.Core.Bool.{Bool, true, false, cond, _&&_, _||_}
+use mathlib.Core.Bool.{Bool, true, cond, _&&_, _||_}
 use mathlib.Core.List.{List, [], _∷_}
 use lib.IntN.{ℤ}
 use lib.Signed.{ltZ}
@@ -10,6 +10,7 @@ use Rattle.text.specs.Line.{vertexLine, edgeLine}
 use Rattle.graph.specs.Arcs.{Arc}
 use Rattle.graph.specs.declared.find.Found.{Found}
 use Rattle.graph.specs.declared.find.Found.the-variants.{At, Missing}
+use Rattle.graph.specs.Find.{isThere}
 use Rattle.lists.specs.Lines.{linesOf, Before, first, after, valuesOf}
 
 -- "Vertex lines strictly rise as signed numbers."
@@ -29,11 +30,6 @@ abovePair e f = ltZ (e .0) (f .0) || (sameZ (e .0) (f .0) && ltZ (e .1) (f .1))
 abbrev pub isAbove : Before (ℤ × ℤ) → ℤ × ℤ → Bool
 isAbove first e = true
 isAbove (after d) e = abovePair d e
-
--- an identifier was found in the vertex file
-abbrev pub isThere : Found → Bool
-isThere (At k) = true
-isThere Missing = false
 
 -- the number of a vertex that was found; 0 where it is missing, and then its edge is refused
 abbrev pub numberOf : Found → ℕ

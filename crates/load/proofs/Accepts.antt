@@ -20,10 +20,10 @@ use Rattle.text.specs.Word.{Word, malformed, outside, value, identOf}
 use Rattle.text.specs.Line.{LineSaid, line, none, fault, lf, upTo, past, lineSays, lineBy, twoOf, vertexLine, edgeLine}
 use Rattle.text.proofs.Bytes.{cut-at, upTo-none, mem-cut, upTo-cut, drop-past}
 use Rattle.graph.specs.Arcs.{Arc, arcs}
-use Rattle.graph.specs.Find.{placeIn}
+use Rattle.graph.specs.Find.{placeIn, isThere}
 use Rattle.load.specs.declared.Limits.{Limits}
 use Rattle.lists.specs.Lines.{good, bad, linesFrom, linesOf, Before, first, after}
-use Rattle.lists.specs.Files.{vertexTest, identifiers, abovePair, isAbove, isThere, edgeTest, edgesOf, allNumbered}
+use Rattle.lists.specs.Files.{vertexTest, identifiers, abovePair, isAbove, edgeTest, edgesOf, allNumbered}
 use Rattle.load.specs.Load.{Lists, Room, isUndirected, vertexRoom, arcRoom, withRoom, arcsRead, listsRead, loaded}
 use Rattle.load.specs.Good.{joined, Says, FileSays, allGood, Passes, GoodVertices, GoodEdges, GoodLoad}
 use Rattle.load.proofs.Values.{values-accepted, accepted-values}

@@ -21,14 +21,14 @@ use Rattle.basis.proofs.Orders.{signed-order, same-places}
 use Rattle.text.specs.Word.{Word, malformed, outside, value, identOf}
 use Rattle.text.specs.Line.{LineSaid, line, none, fault, lf, upTo, lineSays, lineBy, twoOf, vertexLine, edgeLine}
 use Rattle.graph.specs.Arcs.{Arc, arcs}
-use Rattle.graph.specs.Find.{placeIn}
+use Rattle.graph.specs.Find.{placeIn, isThere}
 use Rattle.graph.specs.Sound.{Graph, outward, inward, soundIds, soundGraph}
 use Rattle.store.proofs.Fits.{arc-count}
 use Rattle.store.proofs.Order.{Valid}
 use Rattle.store.proofs.Meaning.{hasArc, storedGraph, stored-sound, stored-outward, stored-inward}
 use Rattle.load.specs.declared.Limits.{Limits}
 use Rattle.lists.specs.Lines.{good, bad, linesFrom, linesOf, first}
-use Rattle.lists.specs.Files.{vertexTest, identifiers, isThere, numberOf, edgeTest, edgesOf, numbered, allNumbered}
+use Rattle.lists.specs.Files.{vertexTest, identifiers, numberOf, edgeTest, edgesOf, numbered, allNumbered}
 use Rattle.load.specs.Load.{Lists, Room, isUndirected, sizeOf, loaded, Outcome, outcomeOf, loadCall}
 use Rattle.store.specs.Spread.{arcCount}
 use Rattle.load.specs.Good.{GoodEdges, GoodLoad, hasEdge, listsArc, graphLeft, FirstFault}

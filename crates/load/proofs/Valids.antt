@@ -13,13 +13,13 @@ use Rattle.basis.specs.Order.{sameZ, risingZ}
 use Rattle.basis.proofs.Tests.{clash}
 use Rattle.basis.proofs.Orders.{signed-order, less-places, same-places}
 use Rattle.graph.specs.Arcs.{Arc}
-use Rattle.graph.specs.Find.{placeIn}
+use Rattle.graph.specs.Find.{placeIn, isThere}
 use Rattle.graph.specs.declared.find.Found.{Found}
 use Rattle.graph.specs.declared.find.Found.the-variants.{At, Missing}
 use Rattle.graph.proofs.Finds.{place-at}
 use Rattle.store.proofs.Order.{Fine, Smaller, Lex, Valid, lex-cons}
 use Rattle.lists.specs.Lines.{Before, after}
-use Rattle.lists.specs.Files.{isAbove, isThere, numberOf, edgeTest, numbered, allNumbered}
+use Rattle.lists.specs.Files.{isAbove, numberOf, edgeTest, numbered, allNumbered}
 use Rattle.load.specs.Good.{Passes}
 
 -- ---- what the test of an edge says

@@ -15,10 +15,10 @@ use Rattle.text.specs.Line.{lf, twoOf}
 use Rattle.graph.specs.declared.Size.{Size}
 use Rattle.graph.specs.Arcs.{arcs}
 use Rattle.graph.specs.Sound.{Graph, lent}
-use Rattle.graph.specs.Find.{placeIn}
+use Rattle.graph.specs.Find.{placeIn, isThere}
 use Rattle.load.specs.declared.Limits.{Limits}
 use Rattle.lists.specs.Lines.{Line, good, Before, after, faultOf}
-use Rattle.lists.specs.Files.{abovePair, isThere, allNumbered}
+use Rattle.lists.specs.Files.{abovePair, allNumbered}
 use Rattle.load.specs.Load.{Lists, Room, isUndirected, Outcome}
 
 -- "A line is ended by one LF": the bytes of a file with the given lines

@@ -104,3 +104,11 @@ loadCall limits mode room vertices edges = outcomeOf room (loaded limits mode ro
 -- "Library limits: 65,536 vertices, 1,048,576 edges"
 abbrev pub library : Limits
 library = record { vertices = 65536; edges = 1048576 }
+
+-- "Desk limits: 1,024 vertices, 2,048 edges"
+abbrev pub desk : Limits
+desk = record { vertices = 1024; edges = 2048 }
+
+-- areas for a graph within them: 1,024 identifiers, then 1,025 offsets and 4,096 arcs outward, two for each edge, then as many inward
+abbrev pub deskRoom : Room
+deskRoom = roomOf 1024 1025 4096 1025 4096

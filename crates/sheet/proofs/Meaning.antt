@@ -27,12 +27,12 @@ use Rattle.cdlp.specs.Promise as C
 use Rattle.lcc.specs.Lcc.{numerators, denominators}
 use Rattle.lcc.specs.Promise as L
 use Rattle.load.specs.Good.{graphLeft}
-use Rattle.load.specs.Load.{Lists, sizeOf, outcomeOf, loaded, loadCall}
+use Rattle.load.specs.Load.{Lists, sizeOf, outcomeOf, loaded, loadCall, desk, deskRoom}
 use Rattle.load.proofs.Meaning.{load-answer, load-sound}
 use Rattle.plan.specs.declared.sections.Plan.{Plan}
 use Rattle.listing.specs.Listing.{refusedText, headText, pairText, ratioText, pairLines, ratioLines}
 use Rattle.sheet.specs.Jobs.{bfsText, wccText, cdlpText, lccText, jobsText}
-use Rattle.sheet.specs.Desk.{deskLimits, deskRoom, modeNumber, linesIn, loadOf, graphIn, loadText, planText}
+use Rattle.sheet.specs.Desk.{modeNumber, linesIn, loadOf, graphIn, loadText, planText}
 
 -- ---- the zeros behind a list's end are not printed
 pairs-pad : (ids vs z : List ℤ) → length vs ≡ length ids → pairLines ids (vs ++ z) ≡ pairLines ids vs
@@ -109,7 +109,7 @@ unfolding soundSides soundGraph
 cut-sound g h = rw (cut-ids g (sound-ids g h)) (rw (sound-ids g h) at h)
 
 module _ (s : List ℕ) (p : Plan) (l : Lists)
-    (h : loaded deskLimits (modeNumber (p .directed)) deskRoom (linesIn (p .vertices) s) (linesIn (p .edges) s) ≡ gives l) where
+    (h : loaded desk (modeNumber (p .directed)) deskRoom (linesIn (p .vertices) s) (linesIn (p .edges) s) ≡ gives l) where
   abbrev pub deskGraph : Graph
   deskGraph =
       let o = loadOf s p deskRoom in graphIn (sizeOf l) (o .ids) (o .outOffsets) (o .outTargets) (o .inOffsets) (o .inSources)
@@ -118,12 +118,12 @@ module _ (s : List ℕ) (p : Plan) (l : Lists)
   pub load-prints : planText s p ≡ jobsText deskGraph s (p .jobs .count) (p .jobs .from)
   unfolding planText
   load-prints =
-      ap (loadText s p (loadOf s p deskRoom)) (load-answer deskLimits (modeNumber (p .directed)) deskRoom (linesIn (p .vertices) s) (linesIn (p .edges) s) l h)
+      ap (loadText s p (loadOf s p deskRoom)) (load-answer desk (modeNumber (p .directed)) deskRoom (linesIn (p .vertices) s) (linesIn (p .edges) s) l h)
 
   pub desk-sound : soundGraph deskGraph ≡ true
   desk-sound =
       cut-sound (graphLeft (sizeOf l) (loadOf s p deskRoom))
-      (load-sound deskLimits (modeNumber (p .directed)) deskRoom (linesIn (p .vertices) s) (linesIn (p .edges) s) l h (omega arith) (omega arith))
+      (load-sound desk (modeNumber (p .directed)) deskRoom (linesIn (p .vertices) s) (linesIn (p .edges) s) l h (omega arith) (omega arith))
 
   pub desk-names : deskGraph .ids ≡ l .ids
   unfolding loadCall outcomeOf

@@ -17,7 +17,7 @@ use Rattle.text.specs.Line.{LineSaid, line, none, fault, lf, lineBy}
 use Rattle.text.proofs.Places.{Small, ident-small, Any, LineHas, line-any}
 use Rattle.lists.specs.Files.{identifiers, edgesOf, allNumbered}
 use Rattle.lists.proofs.Refused.{Met, vertices-met, edges-met}
-use Rattle.load.specs.Load.{Lists, isUndirected, vertexRoom, arcRoom, withRoom, arcsRead, listsRead, loaded, sizeOf, outcomeOf, loadCall}
+use Rattle.load.specs.Load.{Lists, isUndirected, vertexRoom, arcRoom, withRoom, arcsRead, listsRead, loaded, sizeOf, outcomeOf, loadCall, desk, deskRoom}
 use Rattle.load.specs.Good.{Says}
 use Rattle.graph.specs.Find.{placeIn}
 use Rattle.plan.specs.Lines.{lfs, sheetFault, inSheet, sheetLine}
@@ -27,7 +27,7 @@ use Rattle.plan.specs.declared.sections.Plan.{Plan}
 use Rattle.plan.proofs.Places.{Accepted, accepted}
 use Rattle.write.specs.Put.{written, putAt}
 use Rattle.write.proofs.Puts.{wrote-whole}
-use Rattle.sheet.specs.Desk.{deskLimits, deskRoom, modeNumber, linesIn, graphIn, loadText, planText, checkedText, deskOutput}
+use Rattle.sheet.specs.Desk.{modeNumber, linesIn, graphIn, loadText, planText, checkedText, deskOutput}
 use Rattle.sheet.proofs.Whole.{listsIn, lists-good}
 use Rattle.sheet.proofs.Lists.{All, all-take, all-pad}
 use Rattle.sheet.proofs.Lengths.{Brief, refused-most, jobs-most}
@@ -44,7 +44,7 @@ room-brief : {A : Type 0} (enough : Bool) (x : A) → Either Any Brief (withRoom
 room-brief true x = tt
 room-brief false x = record { number = omega arith; file = omega arith; line = omega arith }
 
-load-brief : (mode : ℕ) (v e : List ℕ) → Either Any Brief (loaded deskLimits mode deskRoom v e)
+load-brief : (mode : ℕ) (v e : List ℕ) → Either Any Brief (loaded desk mode deskRoom v e)
 unfolding loaded listsRead arcsRead
 load-brief mode v e =
     let both = isUndirected mode in

@@ -11,7 +11,7 @@ use Rattle.basis.proofs.Saids.{said-gives}
 use Rattle.graph.specs.declared.Size.{Size}
 use Rattle.load.specs.declared.Loaded.{Loaded}
 use Rattle.load.specs.declared.Loaded.the-variants as LD
-use Rattle.load.specs.Load.{says, Lists, Room, Outcome, outcome, loaded, sizeOf, outcomeOf, loadCall}
+use Rattle.load.specs.Load.{says, Lists, Room, Outcome, outcome, loaded, sizeOf, outcomeOf, loadCall, desk, deskRoom}
 use Rattle.load.specs.Good.{GoodLoad}
 use Rattle.load.proofs.Accepts.{load-accepted}
 use Rattle.write.specs.Put.{written, putAt}
@@ -23,16 +23,16 @@ use Rattle.plan.specs.Sheet.{checked, checkedSays}
 use Rattle.plan.proofs.Places.{accepted}
 use Rattle.listing.specs.Listing.{refusedText}
 use Rattle.sheet.specs.Jobs.{jobsText}
-use Rattle.sheet.specs.Desk.{deskLimits, deskRoom, modeNumber, linesIn, loadOf, graphIn, loadText, planText, checkedText, deskOutput}
+use Rattle.sheet.specs.Desk.{modeNumber, linesIn, loadOf, graphIn, loadText, planText, checkedText, deskOutput}
 use Rattle.sheet.specs.Steps.{Placed}
 
 -- ---- what the vertex and edge sections of a plan say
 module _ (s : List ℕ) (p : Plan) where
   abbrev pub listsIn : Said Lists
-  listsIn = loaded deskLimits (modeNumber (p .directed)) deskRoom (linesIn (p .vertices) s) (linesIn (p .edges) s)
+  listsIn = loaded desk (modeNumber (p .directed)) deskRoom (linesIn (p .vertices) s) (linesIn (p .edges) s)
 
-  pub lists-good : (l : Lists) → listsIn ≡ gives l → GoodLoad deskLimits (modeNumber (p .directed)) deskRoom (linesIn (p .vertices) s) (linesIn (p .edges) s) l
-  lists-good l e = load-accepted deskLimits (modeNumber (p .directed)) deskRoom (linesIn (p .vertices) s) (linesIn (p .edges) s) l .0 e
+  pub lists-good : (l : Lists) → listsIn ≡ gives l → GoodLoad desk (modeNumber (p .directed)) deskRoom (linesIn (p .vertices) s) (linesIn (p .edges) s) l
+  lists-good l e = load-accepted desk (modeNumber (p .directed)) deskRoom (linesIn (p .vertices) s) (linesIn (p .edges) s) l .0 e
 
 -- a graph that was loaded has no more vertices than the area of identifiers has places
 pub few-vertices : (s : List ℕ) (p : Plan) (x : Loaded) {ids : List ℤ} {oo ot io is : List ℕ} (size : Size) → outcome (says x) ids oo ot io is ≡ loadOf s p deskRoom
@@ -45,8 +45,8 @@ few-vertices s p x size u e =
 
 -- ---- the load of the sections
 pub sections-loaded : (s : List ℕ) (p : Plan) (room : Room) (m : ℕ) (o : Outcome) → m ≡ modeNumber (p .directed)
-    → o ≡ loadCall deskLimits m room (linesIn (p .vertices) s) (linesIn (p .edges) s) → o ≡ loadOf s p room
-sections-loaded s p room m o e u = u ∙ ap (λ k. loadCall deskLimits k room (linesIn (p .vertices) s) (linesIn (p .edges) s)) e
+    → o ≡ loadCall desk m room (linesIn (p .vertices) s) (linesIn (p .edges) s) → o ≡ loadOf s p room
+sections-loaded s p room m o e u = u ∙ ap (λ k. loadCall desk k room (linesIn (p .vertices) s) (linesIn (p .edges) s)) e
 
 -- ---- a load's answers
 module _ (s : List ℕ) (p : Plan) (x : Loaded) (ids : List ℤ) (oo ot io is : List ℕ) (u : outcome (says x) ids oo ot io is ≡ loadOf s p deskRoom)

@@ -7,21 +7,12 @@ use lib.ListN.{take}
 use Rattle.basis.specs.Refusal.{Said, gives, refuses}
 use Rattle.graph.specs.declared.Size.{Size}
 use Rattle.graph.specs.Sound.{Graph, lent}
-use Rattle.load.specs.declared.Limits.{Limits}
-use Rattle.load.specs.Load.{Room, roomOf, Outcome, loadCall}
+use Rattle.load.specs.Load.{Room, Outcome, loadCall, desk, deskRoom}
 use Rattle.plan.specs.declared.sections.Block.{Block}
 use Rattle.plan.specs.declared.sections.Plan.{Plan}
-use Rattle.plan.specs.Sheet.{mostVertices, mostEdges, checked}
+use Rattle.plan.specs.Sheet.{checked}
 use Rattle.listing.specs.Listing.{refusedText}
 use Rattle.sheet.specs.Jobs.{between, jobsText}
-
--- "Desk limits: 1,024 vertices, 2,048 edges"
-abbrev pub deskLimits : Limits
-deskLimits = record { vertices = mostVertices; edges = mostEdges }
-
--- areas for such a graph: 1,024 identifiers, then 1,025 offsets and 4,096 arcs outward, two for each edge, then as many inward
-abbrev pub deskRoom : Room
-deskRoom = roomOf 1024 1025 4096 1025 4096
 
 -- "mode (0 undirected, 1 directed)"
 abbrev pub modeNumber : Bool → ℕ
@@ -33,7 +24,7 @@ linesIn b s = between (b .from) (b .to) s
 
 -- "Then the load reads the vertex and edge sections as files 1 and 2, lines counted within the section."
 abbrev pub loadOf : List ℕ → Plan → Room → Outcome
-loadOf s p room = loadCall deskLimits (modeNumber (p .directed)) room (linesIn (p .vertices) s) (linesIn (p .edges) s)
+loadOf s p room = loadCall desk (modeNumber (p .directed)) room (linesIn (p .vertices) s) (linesIn (p .edges) s)
 
 -- the graph that a load left in the areas, with the identifiers of its vertices alone
 abbrev pub graphIn : Size → List ℤ → List ℕ → List ℕ → List ℕ → List ℕ → Graph

@@ -3,13 +3,13 @@ pub mod jobs;
 
 use crate::jobs::run_jobs;
 use listing::put_refused;
+use load::DESK_EDGES;
+use load::DESK_VERTICES;
 use load::Limits;
 use load::Loaded;
 use load::load_within;
 use plan::check;
 use plan::sections::Checked;
-use plan::sections::MOST_EDGES;
-use plan::sections::MOST_VERTICES;
 use plan::sections::Plan;
 ghost use mathlib.Core.Path.{_≡_};
 ghost use lib.ListN.{length};
@@ -45,8 +45,8 @@ fn load_sections(
     let edges_to = edges.to;
     load_within(
         Limits {
-            vertices: MOST_VERTICES,
-            edges: MOST_EDGES,
+            vertices: DESK_VERTICES,
+            edges: DESK_EDGES,
         },
         mode_number(plan.directed),
         &s[vertices_from..vertices_to],

@@ -20,7 +20,7 @@ use Rattle.graph.specs.declared.Size.{Size}
 use Rattle.lists.specs.Files.{identifiers, edgesOf, allNumbered}
 use Rattle.load.specs.declared.Loaded.{Loaded}
 use Rattle.load.specs.declared.Loaded.the-variants.{Graph, Refused}
-use Rattle.load.specs.Load.{says, Lists, arcRoom, vertexRoom, withRoom, arcsRead, listsRead, loaded, isUndirected, sizeOf, outcome, outcomeOf, loadCall}
+use Rattle.load.specs.Load.{says, Lists, arcRoom, vertexRoom, withRoom, arcsRead, listsRead, loaded, isUndirected, sizeOf, outcome, outcomeOf, loadCall, desk, deskRoom}
 use Rattle.load.specs.Good.{GoodLoad, graphLeft}
 use Rattle.load.proofs.Accepts.{vertices-accepted, edges-accepted, load-accepted}
 use Rattle.load.proofs.Meaning.{load-sound}
@@ -31,8 +31,8 @@ use Rattle.verdicts.specs.Reference.{coefficients, bfsReference, wccReference, 
 use Rattle.matching.specs.Verdict.{Fraction}
 use Rattle.lcc.specs.Lcc.{numerator, denominator, numerators, denominators}
 use Rattle.basis.specs.Area.{column}
-use Rattle.trace.specs.Host.{desk, deskLines, listsSaid, graphOf, isKernel, isKnown, referenceFor, judgedAs, hostSays, hostVerdict}
-use Rattle.trace.specs.Steps.{deskRoom, deskJudged}
+use Rattle.trace.specs.Host.{deskLines, listsSaid, graphOf, isKernel, isKnown, referenceFor, judgedAs, hostSays, hostVerdict}
+use Rattle.trace.specs.Steps.{deskJudged}
 use Rattle.trace.proofs.Loads.{arcs-few, loaded-readable}
 use Rattle.trace.proofs.Codes.{said-readable}
 use Rattle.trace.proofs.Stored.{areaGraph, same-names, same-outward, same-inward}

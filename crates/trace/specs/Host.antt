@@ -8,21 +8,16 @@ use lib.Dec.{eqb, leb}
 use Rattle.basis.specs.Refusal.{Said, unknownNumber, onward, said, check}
 use Rattle.graph.specs.Arcs.{arcs, backward, parts, offsets}
 use Rattle.graph.specs.Sound.{Graph}
-use Rattle.load.specs.declared.Limits.{Limits}
 use Rattle.graph.specs.Find.{placeIn}
 use Rattle.lists.specs.Files.{identifiers, edgesOf, allNumbered}
-use Rattle.load.specs.Load.{Lists, isUndirected}
+use Rattle.load.specs.Load.{Lists, isUndirected, desk}
 use Rattle.kernels.specs.Answer.{bfsNumber, wccNumber, cdlpNumber}
 use Rattle.matching.specs.Verdict.{Verdict}
 use Rattle.verdicts.specs.Reference.{Reference, bfsReference, wccReference, cdlpReference, lccReference}
 use Rattle.trace.specs.Code.{hostCode}
 use Rattle.trace.specs.Verdict.{threeOf}
 
--- "Desk limits apply to all three files: 1,024, 2,048 and 1,024 lines."
-abbrev pub desk : Limits
-desk = record { vertices = 1024; edges = 2048 }
-
--- the last of these three: how many lines a claim may have
+-- "Desk limits apply to all three files: 1,024, 2,048 and 1,024 lines.": the last of these, how many lines a claim may have
 abbrev pub deskLines : ℕ
 deskLines = 1024
 

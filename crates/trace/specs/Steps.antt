@@ -5,14 +5,9 @@ use lib.IntN.{ℤ, pos}
 use lib.ListN.{replicate}
 use Rattle.basis.specs.Refusal.{Said}
 use Rattle.graph.specs.Sound.{Graph}
-use Rattle.load.specs.Load.{Room, roomOf}
 use Rattle.matching.specs.Verdict.{Verdict}
 use Rattle.verdicts.specs.Call.{verdictCall}
 use Rattle.trace.specs.Host.{deskLines}
-
--- 1,024 identifiers, 1,025 offsets and 4,096 arcs each way
-abbrev pub deskRoom : Room
-deskRoom = roomOf 1024 1025 4096 1025 4096
 
 -- what is said of a claim on a graph by a kernel and its parameter, where five areas of 1,024 zeros are lent, two of them for signed numbers
 unfoldable pub deskJudged : Graph → ℕ → ℤ → List ℕ → Said Verdict

@@ -5,6 +5,8 @@ use crate::code::three_of;
 use basis::Refusal;
 use basis::refusal::UNKNOWN_NUMBER;
 use graph::Size;
+use load::DESK_EDGES;
+use load::DESK_VERTICES;
 use load::Limits;
 use load::Loaded;
 use load::load_within;
@@ -18,10 +20,6 @@ ghost use Rattle.trace.specs.Kernels.{sized};
 ghost use Rattle.trace.specs.Verdict.{threeOf, judgeTold, judgeTells};
 ghost use Rattle.trace.specs.Host.{isKnown, hostVerdict};
 ghost use Rattle.trace.specs.Steps.{deskJudged};
-
-const DESK_VERTICES: usize = 1024;
-
-const DESK_EDGES: usize = 2048;
 
 const DESK_LINES: usize = 1024;
 

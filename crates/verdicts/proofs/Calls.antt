@@ -1,42 +1,31 @@
 -- Laws of the public verdict: room in five areas, and one law for each kernel. Assumes nothing.
 use mathlib.Core.Path.{_≡_, refl, sym, ap, _∙_}
-use mathlib.Core.Bool.{Bool, true, false, _&&_}
+use mathlib.Core.Bool.{Bool, true, _&&_}
 use mathlib.Core.List.{List, []}
-use Prim.Native.Nat.{ℕ, _≤_, _<_}
+use Prim.Native.Nat.{ℕ, min}
 use native.Mathlib.Nat.{sub-zero}
 use lib.Dec.{leb}
 use lib.IntN.{ℤ, pos}
 use lib.ListN.{length, replicate}
-use borrow.Author.Tests.{le-leb, lt-leb, leb-true, ne-eqb}
+use borrow.Author.Tests.{leb-true, ne-eqb}
 use Rattle.basis.specs.Refusal.{Said, gives, refuses, plain, unknownNumber}
 use Rattle.basis.specs.declared.refusal.Refusal.{Refusal}
 use Rattle.basis.specs.Area.{leaves, cleared, clearedZ}
 use Rattle.basis.proofs.Tests.{and-first, and-second}
+use Rattle.basis.proofs.Orders.{leb-min}
 use Rattle.graph.specs.Sound.{Graph, soundGraph}
 use Rattle.matching.specs.Verdict.{Verdict}
 use Rattle.verdicts.specs.Reference.{Reference, bfsReference, wccReference, cdlpReference, lccReference}
 use Rattle.verdicts.specs.Call.{Outcome, outcome, roomFor, verdictSays, leftBy, callOn, unknownCall, verdictCall}
 use Rattle.verdicts.specs.Steps.{Roomy, Numbers, numbers, numbersCall, Terms, terms, termsCall}
 
--- ---- room in areas of five lengths: where it lacks first
+-- ---- room in areas of five lengths
 module _ (n a b c d e : ℕ) where
-  pub lacks-first : a < n → false ≡ (leb n a && (leb n b && (leb n c && (leb n d && leb n e))))
-  lacks-first h = rw (lt-leb n a h)
-
-  module _ (f : n ≤ a) where
-    pub lacks-second : b < n → false ≡ (leb n a && (leb n b && (leb n c && (leb n d && leb n e))))
-    lacks-second h = rw (le-leb n a f, lt-leb n b h)
-
-    module _ (g : n ≤ b) where
-      pub lacks-third : c < n → false ≡ (leb n a && (leb n b && (leb n c && (leb n d && leb n e))))
-      lacks-third h = rw (le-leb n a f, le-leb n b g, lt-leb n c h)
-
-      module _ (i : n ≤ c) where
-        pub lacks-fourth : d < n → false ≡ (leb n a && (leb n b && (leb n c && (leb n d && leb n e))))
-        lacks-fourth h = rw (le-leb n a f, le-leb n b g, le-leb n c i, lt-leb n d h)
-
-        pub lacks-last : n ≤ d → leb n e ≡ (leb n a && (leb n b && (leb n c && (leb n d && leb n e))))
-        lacks-last h = rw (le-leb n a f, le-leb n b g, le-leb n c i, le-leb n d h)
+  -- in the shortest
+  pub room-all : {x y z w : ℕ} → x ≡ min d e → y ≡ min c x → z ≡ min b y → w ≡ min a z → leb n w ≡ (leb n a && (leb n b && (leb n c && (leb n d && leb n e))))
+  room-all p q r s =
+      let x = min d e in
+      rw (s, r, q, p, leb-min n a (min b (min c x)), leb-min n b (min c x), leb-min n c x, leb-min n d e) refl
 
   -- what the answer says of each
   module _ {room : Bool} (p : room ≡ (leb n a && (leb n b && (leb n c && (leb n d && leb n e))))) where

@@ -13,7 +13,7 @@ use Rattle.basis.proofs.Tests.{clash, and-first, and-both}
 use Rattle.basis.proofs.Areas.{column-length}
 use Rattle.graph.specs.declared.find.Found.{Found}
 use Rattle.graph.specs.declared.find.Found.the-variants.{At, Missing}
-use Rattle.graph.specs.Find.{placeIn}
+use Rattle.graph.specs.Find.{placeIn, isThere}
 use Rattle.graph.specs.Sound.{Graph, outward, names, soundGraph}
 use Rattle.graph.proofs.Sounds.{sound-of}
 use Rattle.bfs.specs.Depth.{depthOf}
@@ -30,12 +30,12 @@ use Rattle.verdicts.specs.Steps.{Known, Roomy, Numbers, numbersOn, numbe
 use Rattle.verdicts.proofs.Running.{Ran, ran-known, ran-roomy, numbers-verdict}
 
 -- ---- BFS
-pub bfs-length : (g : Graph) (p : Found) → bfs.isThere p ≡ true → length (bfs.depthsFrom g p) ≡ g .vertices
+pub bfs-length : (g : Graph) (p : Found) → isThere p ≡ true → length (bfs.depthsFrom g p) ≡ g .vertices
 bfs-length g (At root) e = column-length (depthOf (g .vertices) (outward g) root) 0 (g .vertices)
 bfs-length g Missing e = clash e refl
 
 module _ (g : Graph) (root : ℤ) {root′ : ℤ} (p : root′ ≡ root) (R : List ℤ) (F : List ℕ) {a : Said (Unit {0})} {R′ : List ℤ} {F′ : List ℕ} (e : bfs.outcome a R′ F′ ≡ bfs.bfsCall g root′ R F) where
-  bfs-ran : Ran (pos 0) (bfs.isThere (placeIn (names g) root)) 10 (bfs.depthsFrom g (placeIn (names g) root)) (g .vertices) (length (g .ids)) (soundGraph g) (leb (g .vertices) (length R) && leb (g .vertices) (length F)) (length R) a R′
+  bfs-ran : Ran (pos 0) (isThere (placeIn (names g) root)) 10 (bfs.depthsFrom g (placeIn (names g) root)) (g .vertices) (length (g .ids)) (soundGraph g) (leb (g .vertices) (length R) && leb (g .vertices) (length F)) (length R) a R′
   unfolding bfs.bfsCall bfs.bfsSays
   bfs-ran =
       let f : bfs.outcome a R′ F′ ≡ bfs.bfsCall g root R F = e ∙ ap (λ (z : ℤ). bfs.bfsCall g z R F) p in

@@ -10,11 +10,11 @@ use lib.ListN.{length}
 use Rattle.basis.specs.Refusal.{gives}
 use Rattle.text.specs.Decimal.{decimalOf}
 use Rattle.text.specs.declared.decimal.Decimal.{Decimal}
-use Rattle.graph.specs.Find.{placeIn}
+use Rattle.graph.specs.Find.{placeIn, isThere}
 use Rattle.graph.specs.Sound.{Graph, names, soundGraph}
 use Rattle.graph.proofs.Sounds.{Sound, names-length}
 use Rattle.kernels.specs.Answer.{kernelSays}
-use Rattle.bfs.specs.Call.{isThere, depthsFrom}
+use Rattle.bfs.specs.Call.{depthsFrom}
 use Rattle.wcc.specs.Component.{wccOf}
 use Rattle.wcc.proofs.Meaning.{wcc-length}
 use Rattle.cdlp.specs.Promise.{goodRounds}

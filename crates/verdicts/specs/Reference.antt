@@ -5,9 +5,9 @@ use mathlib.Core.List.{List, []}
 use lib.IntN.{ℤ, natAbs}
 use Rattle.basis.specs.Refusal.{Said, notThere, badRounds}
 use Rattle.basis.specs.Area.{column}
-use Rattle.graph.specs.Find.{placeIn}
+use Rattle.graph.specs.Find.{placeIn, isThere}
 use Rattle.graph.specs.Sound.{Graph, outward, inward, names}
-use Rattle.bfs.specs.Call.{isThere, depthsFrom}
+use Rattle.bfs.specs.Call.{depthsFrom}
 use Rattle.wcc.specs.Component.{wccOf}
 use Rattle.cdlp.specs.Promise.{goodRounds}
 use Rattle.cdlp.specs.Rounds.{cdlpOf}

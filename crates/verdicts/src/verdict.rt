@@ -6,6 +6,7 @@ use crate::each::on_wcc;
 use basis::Refusal;
 use basis::area::clear;
 use basis::area::clear_signed;
+use basis::order::lesser;
 use basis::refusal::UNKNOWN_NUMBER;
 use graph::Size;
 use matching::Judged;
@@ -38,19 +39,8 @@ fn has_room(
 ) -> bool
     ensures { λ r. ⌜ r ≡ (leb n result && (leb n claimed && (leb n first && (leb n second && leb n third)))) ⌝ }
 {
-    if result < n {
-        return false;
-    }
-    if claimed < n {
-        return false;
-    }
-    if first < n {
-        return false;
-    }
-    if second < n {
-        return false;
-    }
-    n <= third
+    let work = lesser(first, lesser(second, third));
+    n <= lesser(result, lesser(claimed, work))
 }
 
 fn refuse_unknown(
