@@ -11,7 +11,7 @@ use Rattle.basis.proofs.Saids.{said-gives}
 use Rattle.graph.specs.declared.Size.{Size}
 use Rattle.load.specs.declared.Loaded.{Loaded}
 use Rattle.load.specs.declared.Loaded.the-variants as LD
-use Rattle.load.specs.Load.{says, Lists, Room, Outcome, outcome, loaded, sizeOf, outcomeOf, loadCall, desk, deskRoom}
+use Rattle.load.specs.Load.{says, Lists, Outcome, outcome, loaded, sizeOf, outcomeOf, loadCall, desk, deskRoom}
 use Rattle.load.specs.Good.{GoodLoad}
 use Rattle.load.proofs.Accepts.{load-accepted}
 use Rattle.write.specs.Put.{written, putAt}
@@ -42,11 +42,6 @@ few-vertices s p x size u e =
     let g = said-gives sizeOf (listsIn s p) size (sym (ap says e) ∙ ap (λ (o : Outcome). o .answer) u) in
     let q : size .vertices ≡ length (g .0 .ids) = ap (λ (z : Size). z .vertices) (g .2) in
     omega (arith, lists-good s p (g .0) (g .1) .idsFit)
-
--- ---- the load of the sections
-pub sections-loaded : (s : List ℕ) (p : Plan) (room : Room) (m : ℕ) (o : Outcome) → m ≡ modeNumber (p .directed)
-    → o ≡ loadCall desk m room (linesIn (p .vertices) s) (linesIn (p .edges) s) → o ≡ loadOf s p room
-sections-loaded s p room m o e u = u ∙ ap (λ k. loadCall desk k room (linesIn (p .vertices) s) (linesIn (p .edges) s)) e
 
 -- ---- a load's answers
 module _ (s : List ℕ) (p : Plan) (x : Loaded) (ids : List ℤ) (oo ot io is : List ℕ) (u : outcome (says x) ids oo ot io is ≡ loadOf s p deskRoom)

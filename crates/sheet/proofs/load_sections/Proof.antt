@@ -1,4 +1,3 @@
-use Rattle.sheet.proofs.Whole.{sections-loaded}
 use borrow.Author.Needs.{needs}
 use Rattle.sheet.proofs.load_sections.Statement.{statement}
 use Rattle.sheet.proofs.load_sections.Tie as tie
@@ -43,9 +42,7 @@ same-length-5 : tie.Need-same-length-5
 same-length-5 c = search needs
 
 returns : tie.Need-returns
-returns c =
-    let a = c .before .before .before .before .before .before .before .before .before .before .before .before .before .before .before .before .before .before .before .before .before .before .before .before .before in
-    sections-loaded (a .args .s .now) (a .args .plan) _ _ _ (c .before .before .before .before .before .before .before .before .before .before .before .before .before .before .before .before .before .mode-number .ensures) (c .before .before .before .before .before .before .before .before .before .load-within .ensures)
+returns c = rw (c .before .before .before .before .before .before .before .before .before .before .before .before .before .before .before .before .before .mode-number .ensures) at (c .before .before .before .before .before .before .before .before .before .load-within .ensures)
 
 pub load-sections-spec : {M : Type 1} → statement M
 load-sections-spec =
