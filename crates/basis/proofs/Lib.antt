@@ -5,3 +5,4 @@ pub mod Scans
 pub mod Orders
 pub mod Sets
 pub mod Areas
+pub mod Alls

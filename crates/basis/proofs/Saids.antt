@@ -49,6 +49,14 @@ abbrev pub Either : {A : Type 0} → (A → Type 0) → (Refusal → Type 0) →
 Either P R (gives x) = P x
 Either P R (refuses r) = R r
 
+-- nothing more is known of what is given
+abbrev pub Any : {A : Type 0} → A → Type 0
+Any x = Unit {0}
+
+pub either-refused : {A : Type 0} (P : A → Type 0) {R S : Refusal → Type 0} → ((r : Refusal) → R r → S r) → (x : Said A) → Either P R x → Either P S x
+either-refused P f (gives x) h = h
+either-refused P f (refuses r) h = f r h
+
 pub either-cond : {A : Type 0} (P : A → Type 0) (R : Refusal → Type 0) (t : Bool) (x y : Said A) → (t ≡ true → Either P R x) → (t ≡ false → Either P R y)
     → Either P R (cond t x y)
 either-cond P R true x y h g = h refl
@@ -58,3 +66,6 @@ pub either-onward : {A B : Type 0} (P : A → Type 0) (Q : B → Type 0) (R : Re
     → Either P R x → ((a : A) → P a → Either Q R (f a)) → Either Q R (onward x f)
 either-onward P Q R (gives a) f h g = g a h
 either-onward P Q R (refuses r) f h g = h
+
+pub refused-onward : {A B : Type 0} (R : Refusal → Type 0) (x : Said A) (f : A → Said B) → Either Any R x → ((a : A) → Either Any R (f a)) → Either Any R (onward x f)
+refused-onward R x f h g = either-onward Any Any R x f h (λ a t. g a)

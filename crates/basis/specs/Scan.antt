@@ -22,3 +22,8 @@ allBelow n l = each (λ x. ltb x n) l
 unfoldable pub mem : ℕ → List ℕ → Bool
 mem x [] = false
 mem x (y ∷ l) = eqb x y || mem x l
+
+-- the first of two that is not 0: a line or a fault that is found already, or else another
+abbrev pub orElse : ℕ → ℕ → ℕ
+orElse zero y = y
+orElse (suc n) y = suc n

@@ -12,6 +12,7 @@ use Rattle.basis.specs.Refusal.{gives, refuses, at, tooMany, notAbove, vertexFi
 use Rattle.basis.specs.Order.{sameZ}
 use Rattle.basis.specs.declared.refusal.Refusal.{Refusal}
 use Rattle.basis.proofs.Tests.{no-case}
+use Rattle.basis.specs.Scan.{orElse}
 use Rattle.text.specs.Line.{LineSaid, line, fault, vertexLine, vertexSays, edgeLine, edgeSays}
 use Rattle.text.specs.declared.line.Cursor.{Cursor}
 use Rattle.text.specs.declared.line.VertexLine.{VertexLine}
@@ -173,10 +174,6 @@ module _ (s : List ℕ) (most : ℕ) (c : Vertices) (x : VertexLine) (e : vertex
     vertex-more o = rw a (by-more vertexFile most vertexTest (c .lines) (beforeBy (c .lines) (c .last)) z (p .at) f faulted o ∙ by (VL.Line z p) q)
 
 -- ---- the test of an edge: its order, then its vertices
-abbrev orElse : ℕ → ℕ → ℕ
-orElse zero y = y
-orElse (suc n) y = suc n
-
 abbrev lookFault : Looked → ℕ
 lookFault (found e) = 0
 lookFault unknown = 7

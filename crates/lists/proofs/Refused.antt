@@ -12,12 +12,12 @@ use lib.ListN.{length}
 use Rattle.basis.specs.declared.refusal.Refusal.{Refusal}
 use Rattle.basis.specs.Refusal.{Said, gives, refuses, tooMany, vertexFile, edgeFile, said}
 use Rattle.basis.specs.Order.{sameZ}
-use Rattle.basis.proofs.Saids.{Either}
+use Rattle.basis.proofs.Saids.{Either, Any}
 use Rattle.graph.specs.declared.find.Found.{Found}
 use Rattle.graph.specs.Find.{isThere}
 use Rattle.text.specs.Word.{Word, identOf}
 use Rattle.text.specs.Line.{LineSaid, line, none, fault, lineBy, twoOf}
-use Rattle.text.proofs.Places.{Any, LineHas, line-any}
+use Rattle.text.proofs.Places.{LineHas, line-any}
 use Rattle.lists.specs.Lines.{Line, good, bad, linesFrom, linesOf, Before, first, after, unless, faultOf, valuesFrom, valuesOf}
 use Rattle.lists.specs.Files.{vertexTest, identifiers, isAbove, edgeTest, edgesOf}
 use Rattle.lists.proofs.Reading.{limit-none}

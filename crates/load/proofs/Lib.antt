@@ -5,6 +5,7 @@ pub mod Lookups
 pub mod Arranges
 pub mod Fills
 pub mod Loads
+pub mod Refused
 pub mod Accepts
 pub mod Meaning
 pub mod Examples

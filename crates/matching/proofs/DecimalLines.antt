@@ -15,6 +15,7 @@ use Rattle.basis.specs.declared.refusal.Refusal.{Refusal}
 use Rattle.basis.specs.Order.{sameZ}
 use Rattle.basis.proofs.Tests.{bool-cases, failed, held, and-off}
 use Rattle.basis.proofs.Areas.{column-at, column-length}
+use Rattle.basis.specs.Scan.{orElse}
 use Rattle.text.specs.Word.{identOf}
 use Rattle.text.specs.Decimal.{decimalOf}
 use Rattle.text.specs.Line.{line, twoOf, coefficientLine, coefficientSays}
@@ -28,7 +29,7 @@ use Rattle.matching.specs.Close.{isClose}
 use Rattle.matching.specs.Claim.{coefficientLines, idsOf, valuesOf}
 use Rattle.matching.specs.Verdict.{Verdict, Fraction, incompleteLine, verdictOf, says, judgedBy}
 use Rattle.matching.specs.Calls.{nearWithin, farWithin, fractionAt, fractions, coefficientsSays}
-use Rattle.matching.specs.Steps.{orElse, placeLine, coverStep, nearStep, endLine}
+use Rattle.matching.specs.Steps.{placeLine, coverStep, nearStep, endLine}
 use Rattle.matching.proofs.FirstLines.{bits-back, Against, against-none, against-next, against-end}
 use Rattle.matching.proofs.Readings.{Passed, passed-none, passed-next, passed-end, passed-fault, passed-full, passed-over, ids-more, values-more}
 use Rattle.matching.proofs.NumberLines.{end-zero}

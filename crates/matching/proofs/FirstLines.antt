@@ -16,8 +16,9 @@ use mir.Val.{toZ, ofZ, hbits}
 use mir.Facts.{toZ-ofZ}
 use Rattle.basis.specs.Order.{sameZ}
 use Rattle.basis.proofs.Tests.{bool-cases, held, and-first, and-second}
+use Rattle.basis.specs.Scan.{orElse}
 use Rattle.matching.specs.Verdict.{firstLine, failingLine}
-use Rattle.matching.specs.Steps.{orElse, placeLine, endLine}
+use Rattle.matching.specs.Steps.{placeLine, endLine}
 
 drop-one : {A : Type 0} (x : A) (l : List A) (i : ℕ) → i < length l → drop i l ≡ getD l i x ∷ drop (i + 1) l
 drop-one x l i h = drop-cons l i x h ∙ ap (λ (k : ℕ). getD l i x ∷ drop k l) (sym (add-one i))

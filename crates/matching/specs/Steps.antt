@@ -1,5 +1,5 @@
 -- What private functions say of their work: the order of two products, the lines of a claim one by one.
-use Prim.Native.Nat.{ℕ, zero, suc, _+_}
+use Prim.Native.Nat.{ℕ, _+_}
 use mathlib.Core.Path.{_≡_}
 use mathlib.Core.Bool.{Bool, true, false, cond}
 use mathlib.Core.List.{List}
@@ -8,6 +8,7 @@ use lib.ListN.{length, getD, take}
 use lib.Dec.{ltb, eqb}
 use Rattle.basis.specs.Refusal.{Said, gives, refuses}
 use Rattle.basis.specs.Order.{sameZ}
+use Rattle.basis.specs.Scan.{orElse}
 use Rattle.matching.specs.declared.close.Order.{Order}
 use Rattle.matching.specs.declared.close.Order.the-variants.{Less, Equal, Greater}
 use Rattle.matching.specs.declared.reading.Read.{Read}
@@ -33,11 +34,6 @@ abbrev pub isGreater : Order → Bool
 isGreater Less = false
 isGreater Equal = false
 isGreater Greater = true
-
--- a first line that is found already, or else another
-abbrev pub orElse : ℕ → ℕ → ℕ
-orElse zero l = l
-orElse (suc k) l = suc k
 
 -- what the line after k others adds to a first line found before it, where place k of a list of the given length passes the test t
 abbrev pub placeLine : ℕ → ℕ → Bool → ℕ

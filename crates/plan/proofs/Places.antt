@@ -8,10 +8,10 @@ use borrow.Author.Tests.{leb-true, ltb-false}
 use lib.Dec.{leb, ltb}
 use lib.ListN.{length}
 use Rattle.basis.specs.Refusal.{Said, gives, refuses, at}
-use Rattle.basis.proofs.Saids.{Either, either-cond, either-onward}
+use Rattle.basis.proofs.Saids.{Either, either-cond, either-onward, Any}
 use Rattle.text.specs.Word.{Word, countOf}
 use Rattle.text.specs.Line.{LineSaid, line, none, fault, lineBy}
-use Rattle.text.proofs.Places.{Moved, Placed, places, Any}
+use Rattle.text.proofs.Places.{Moved, Placed, places}
 use Rattle.plan.specs.Lines.{inSheet, sheetLine}
 use Rattle.plan.specs.Jobs.{jobOf}
 use Rattle.plan.specs.Sheet.{mostVertices, mostEdges, mostJobs, mostBytes, modeOf, limited, countLine, anyOf, nextOf, linePast, linesPast, block, linesOf, section, sections, ended, checked}

@@ -13,6 +13,7 @@ use lib.Seq.{length-take-le}
 use Rattle.basis.specs.Refusal.{Said, gives, refuses, plain}
 use Rattle.basis.specs.declared.refusal.Refusal.{Refusal}
 use Rattle.basis.specs.Order.{sameZ}
+use Rattle.basis.proofs.Alls.{All, all-take, all-at, all-column, all-left}
 use Rattle.graph.specs.Sound.{Graph, outward, inward, names, soundGraph}
 use Rattle.graph.specs.Find.{placeIn}
 use Rattle.graph.specs.declared.find.Found.{Found}
@@ -40,7 +41,6 @@ use Rattle.plan.proofs.Places.{line-moved}
 use Rattle.text.proofs.Places.{Moved, Small}
 use Rattle.listing.specs.Listing.{slash, refusedWord, spacedText, numbersText, refusedText, headText, namedText, pairText, fractionText, ratioText, pairLines, ratioLines}
 use Rattle.sheet.specs.Jobs.{zeros, zerosZ, answered, bfsText, wccText, cdlpText, lccText, jobText, between, jobsText}
-use Rattle.sheet.proofs.Lists.{All, all-take, all-at, all-column, all-left}
 
 -- ---- an identifier has at most 20 bytes, a number of at most 7 digits 7
 abbrev Short : ℕ → Type 0

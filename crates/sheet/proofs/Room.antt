@@ -8,18 +8,16 @@ use borrow.Author.Tests.{ltb-false}
 use lib.Dec.{eqb, leb, ltb}
 use lib.IntN.{ℤ, pos}
 use lib.ListN.{length, take, length-take}
-use Rattle.basis.proofs.Saids.{Either, either-cond, either-onward}
-use Rattle.basis.specs.Refusal.{Said, gives, refuses, vertexFile, edgeFile, onward}
+use Rattle.basis.proofs.Saids.{Either, either-cond, Any, either-refused, refused-onward}
+use Rattle.basis.specs.Refusal.{Said, gives, refuses}
 use Rattle.basis.specs.Area.{padWith}
-use Rattle.graph.specs.Arcs.{arcs}
+use Rattle.basis.proofs.Alls.{All, all-take, all-pad}
 use Rattle.text.specs.Word.{Word, identOf, countOf}
 use Rattle.text.specs.Line.{LineSaid, line, none, fault, lf, lineBy}
-use Rattle.text.proofs.Places.{Small, ident-small, Any, LineHas, line-any}
-use Rattle.lists.specs.Files.{identifiers, edgesOf, allNumbered}
-use Rattle.lists.proofs.Refused.{Met, vertices-met, edges-met}
-use Rattle.load.specs.Load.{Lists, isUndirected, vertexRoom, arcRoom, withRoom, arcsRead, listsRead, loaded, sizeOf, outcomeOf, loadCall, desk, deskRoom}
+use Rattle.text.proofs.Places.{Small, ident-small, LineHas, line-any}
+use Rattle.load.specs.Load.{Lists, loaded, sizeOf, outcomeOf, loadCall, desk, deskRoom}
 use Rattle.load.specs.Good.{Says}
-use Rattle.graph.specs.Find.{placeIn}
+use Rattle.load.proofs.Refused.{load-turned}
 use Rattle.plan.specs.Lines.{lfs, sheetFault, inSheet, sheetLine}
 use Rattle.plan.specs.Jobs.{jobOf}
 use Rattle.plan.specs.Sheet.{mostBytes, mostVertices, mostEdges, mostJobs, modeOf, limited, countLine, anyOf, nextOf, linePast, linesPast, linesOf as blockLines, section, sections, ended, checked}
@@ -29,35 +27,13 @@ use Rattle.write.specs.Put.{written, putAt}
 use Rattle.write.proofs.Puts.{wrote-whole}
 use Rattle.sheet.specs.Desk.{modeNumber, linesIn, graphIn, loadText, planText, checkedText, deskOutput}
 use Rattle.sheet.proofs.Whole.{listsIn, lists-good}
-use Rattle.sheet.proofs.Lists.{All, all-take, all-pad}
 use Rattle.sheet.proofs.Lengths.{Brief, refused-most, jobs-most}
 
-chain : {A B : Type 0} (x : Said A) (f : A → Said B) → Either Any Brief x → ((a : A) → Either Any Brief (f a)) → Either Any Brief (onward x f)
-chain x f h g = either-onward Any Any Brief x f h (λ a t. g a)
-
 -- ---- a load: its refusal is brief
-met-brief : {A : Type 0} (file most : ℕ) → file < 10 ^ 1 → most + 1 < 10 ^ 5 → (x : Said A) → Either Any (Met file most) x → Either Any Brief x
-met-brief file most k l (gives v) h = tt
-met-brief file most k l (refuses r) h = record { number = omega (arith, h .low); file = omega (arith, h .inFile); line = omega (arith, h .inLines) }
-
-room-brief : {A : Type 0} (enough : Bool) (x : A) → Either Any Brief (withRoom enough x)
-room-brief true x = tt
-room-brief false x = record { number = omega arith; file = omega arith; line = omega arith }
-
 load-brief : (mode : ℕ) (v e : List ℕ) → Either Any Brief (loaded desk mode deskRoom v e)
-unfolding loaded listsRead arcsRead
 load-brief mode v e =
-    let both = isUndirected mode in
-    let ids = identifiers mostVertices v in
-    either-cond Any Brief (leb mode 1) _ _
-    (λ _. chain ids _ (met-brief vertexFile mostVertices (omega arith) (omega arith) ids (vertices-met mostVertices v))
-    (λ i. chain (withRoom (vertexRoom 1024 1025 1025 (length i)) i) _ (room-brief (vertexRoom 1024 1025 1025 (length i)) i)
-    (λ i. let es = edgesOf both mostEdges (placeIn i) e in
-    chain (arcsRead both mostEdges i e 4096 4096) _
-    (chain es _ (met-brief edgeFile mostEdges (omega arith) (omega arith) es (edges-met both mostEdges (placeIn i) e))
-    (λ es. let l = arcs both (allNumbered (placeIn i) es) in room-brief (arcRoom 4096 4096 (length l)) l))
-    (λ l. tt))))
-    (λ _. record { number = omega arith; file = omega arith; line = omega arith })
+    either-refused Any (λ r t. record { number = omega (arith, t .low); file = omega (arith, t .inFile); line = omega (arith, t .inLines) })
+    (loaded desk mode deskRoom v e) (load-turned desk mode deskRoom v e)
 
 -- ---- an accepted load: its identifiers are in range
 ids-small : (ws : List (List ℕ)) (ids : List ℤ) → Says identOf ws ids → All Small ids
@@ -138,25 +114,25 @@ module _ (s : List ℕ) (short : length s ≤ mostBytes) where
   section-brief : (jobs : Bool) (limit place : ℕ) → Either Any Brief (section jobs limit s place)
   unfolding section countLine
   section-brief jobs limit place =
-      chain (countLine limit s place) (blockLines jobs s)
-      (chain (sheetLine countOf s place) (limited limit s place) (line-brief countOf place)
+      refused-onward Brief (countLine limit s place) (blockLines jobs s)
+      (refused-onward Brief (sheetLine countOf s place) (limited limit s place) (line-brief countOf place)
       (λ c. either-cond Any Brief (leb (c .0) limit) _ _ (λ _. tt) (λ _. fault-brief place 1 (omega arith))))
-      (λ c. chain (linesPast jobs (c .0) s (c .1)) _ (lines-brief jobs (c .0) (c .1)) (λ to. tt))
+      (λ c. refused-onward Brief (linesPast jobs (c .0) s (c .1)) _ (lines-brief jobs (c .0) (c .1)) (λ to. tt))
 
   sections-brief : Either Any Brief (sections s)
   unfolding sections
   sections-brief =
-      chain (sheetLine modeOf s 0) _ (line-brief modeOf 0)
-      (λ mode. chain (section false mostVertices s (mode .1)) _ (section-brief false mostVertices (mode .1))
-      (λ vertices. chain (section false mostEdges s (vertices .to)) _ (section-brief false mostEdges (vertices .to))
-      (λ edges. chain (section true mostJobs s (edges .to)) _ (section-brief true mostJobs (edges .to)) (λ jobs. tt))))
+      refused-onward Brief (sheetLine modeOf s 0) _ (line-brief modeOf 0)
+      (λ mode. refused-onward Brief (section false mostVertices s (mode .1)) _ (section-brief false mostVertices (mode .1))
+      (λ vertices. refused-onward Brief (section false mostEdges s (vertices .to)) _ (section-brief false mostEdges (vertices .to))
+      (λ edges. refused-onward Brief (section true mostJobs s (edges .to)) _ (section-brief true mostJobs (edges .to)) (λ jobs. tt))))
 
 checked-brief : (s : List ℕ) → Either Any Brief (checked s)
 unfolding checked
 checked-brief s =
     either-cond Any Brief (ltb mostBytes (length s)) _ _ (λ _. record { number = omega arith; file = omega arith; line = omega arith })
     (λ t. let short : length s ≤ mostBytes = ltb-false mostBytes (length s) t in
-    chain (sections s) (ended s) (sections-brief s short)
+    refused-onward Brief (sections s) (ended s) (sections-brief s short)
     (λ p. either-cond Any Brief (ltb (p .jobs .to) (length s)) _ _ (λ _. fault-brief s short (p .jobs .to) 2 (omega arith)) (λ _. tt)))
 
 -- ---- the theorem

@@ -15,13 +15,14 @@ use Rattle.basis.specs.Scan.{each, mem}
 use Rattle.basis.proofs.Tests.{clash, and-both, and-swap, eqb-swap}
 use Rattle.basis.proofs.Scans.{every-of, each-of, mem-index}
 use Rattle.basis.proofs.Areas.{pad-length}
+use Rattle.basis.proofs.Alls.{All}
 use Rattle.graph.specs.Arcs.{Arc, arcs, targetsOf, parts, start, offsets, backward}
 use Rattle.graph.specs.Part.{partOf}
 use Rattle.graph.specs.Sound.{Graph, outward, inward, soundIds, soundOffsets, other, soundPart, soundSide, mirrored, soundSides, soundGraph}
 use Rattle.store.specs.Steps.{Below}
 use Rattle.store.proofs.Arcs.{start-suc, start-length}
 use Rattle.store.proofs.Passes.{length-backward}
-use Rattle.store.proofs.Order.{All, Fine, Valid, Ordered, rising-part, ordered-out, ordered-in, arcs-join, join-backward}
+use Rattle.store.proofs.Order.{Fine, Valid, Ordered, rising-part, ordered-out, ordered-in, arcs-join, join-backward}
 use Rattle.store.proofs.Built.{offset-at, offsets-length, part-built}
 
 each-member : (p : ℕ → Bool) (l : List ℕ) → ((x : ℕ) → mem x l ≡ true → p x ≡ true) → each p l ≡ true

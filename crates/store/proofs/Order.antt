@@ -10,22 +10,15 @@ use borrow.Author.Tests.{eq-eqb, ne-eqb, lt-ltb}
 use lib.Dec.{ltb}
 use Rattle.basis.specs.Order.{aboveBy, rising}
 use Rattle.basis.proofs.Tests.{and-both}
+use Rattle.basis.proofs.Alls.{All, all-map}
 use Rattle.graph.specs.Arcs.{Arc, edgeArcs, arcs, targetsOf, backward}
 use Rattle.store.specs.Held.{Ends}
 use Rattle.store.proofs.Passes.{backward-append}
 
--- ---- lists of edges, by each and by pairs
-abbrev pub All : (Arc → Type 0) → List Arc → Type 0
-All P [] = Unit {0}
-All P (e ∷ l) = P e × All P l
-
+-- ---- lists of edges, by pairs
 abbrev pub Pairs : (Arc → Arc → Type 0) → List Arc → Type 0
 Pairs R [] = Unit {0}
 Pairs R (e ∷ l) = All (R e) l × Pairs R l
-
-pub all-map : {P Q : Arc → Type 0} → ((e : Arc) → P e → Q e) → (l : List Arc) → All P l → All Q l
-all-map f [] h = tt
-all-map f (e ∷ l) h = (f e (h .0), all-map f l (h .1))
 
 pub pairs-map : {R S : Arc → Arc → Type 0} → ((e f : Arc) → R e f → S e f) → (l : List Arc) → Pairs R l → Pairs S l
 pairs-map m [] h = tt

@@ -13,6 +13,7 @@ use lib.ListN.{length, drop, length-drop, length-append}
 use Rattle.basis.specs.Refusal.{badForm}
 use Rattle.basis.specs.Scan.{mem}
 use Rattle.basis.proofs.Tests.{clash, bool-cases}
+use Rattle.basis.proofs.Saids.{Any}
 use Rattle.text.specs.Word.{Word, malformed, outside, value, rangedOf, countOf, signedOf, afterMinus, identOf}
 use Rattle.text.specs.Decimal.{decimalOf}
 use Rattle.text.specs.Line.{LineSaid, line, none, fault, lf, space, upTo, past, lineSays, lineBy, both, twoOf, edgeLine, coefficientLine}
@@ -168,9 +169,6 @@ two-has Q word h bs = by (mem space bs)
     by : (t : Bool) → Has (Pairs Small Q) (cond t (both (identOf (upTo space bs)) (word (past space bs))) malformed)
     by true = both-has Small Q (identOf (upTo space bs)) (word (past space bs)) (ident-small (upTo space bs)) (h (past space bs))
     by false = tt
-
-abbrev pub Any : {A : Type 0} → A → Type 0
-Any x = Unit {0}
 
 any-has : {A : Type 0} (w : Word A) → Has Any w
 any-has malformed = tt

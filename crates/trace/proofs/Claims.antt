@@ -13,10 +13,11 @@ use Rattle.basis.specs.Refusal.{Said, gives, refuses, at, plain, tooMany, noRoo
 use Rattle.basis.specs.Order.{sameZ}
 use Rattle.basis.proofs.Tests.{and-first, and-second, and-both}
 use Rattle.basis.proofs.Areas.{column-length}
+use Rattle.basis.proofs.Saids.{Any}
 use Rattle.text.specs.Word.{Word, identOf}
 use Rattle.text.specs.Decimal.{decimalOf}
 use Rattle.text.specs.Line.{LineSaid, line, none, fault, lineBy, twoOf}
-use Rattle.text.proofs.Places.{Any, LineHas, line-any}
+use Rattle.text.proofs.Places.{LineHas, line-any}
 use Rattle.graph.specs.Sound.{Graph, names, soundGraph, outward}
 use Rattle.graph.proofs.Sounds.{sound-of}
 use Rattle.kernels.specs.Answer.{kernelSays, bfsNumber, wccNumber, cdlpNumber, lccNumber}

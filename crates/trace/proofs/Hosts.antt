@@ -179,7 +179,7 @@ module _ (vertices edges claim : List ℕ) (mode kernel : ℕ) (parameter : ℤ)
 
     pub host-refused-small : (r : Refusal) → a ≡ Refused r → Small narrow r
     host-refused-small r q =
-        said-readable sizeOf (loaded desk mode deskRoom vertices edges) (omega arith) (loaded-readable narrow desk (omega arith) (omega arith) mode deskRoom vertices edges) .refusals r
+        said-readable sizeOf (loaded desk mode deskRoom vertices edges) (omega arith) (loaded-readable narrow desk (omega arith) mode deskRoom vertices edges) .refusals r
         (sym answered ∙ ap says q) .1
 
     pub host-refused : (r : Refusal) → a ≡ Refused r → (k : ℕ) → k ≡ hostCode r → k ≡ hostVerdict vertices edges claim mode kernel parameter
@@ -212,7 +212,7 @@ module _ (vertices edges claim : List ℕ) (mode kernel : ℕ) (parameter : ℤ)
           rw (host-given vertices edges claim mode kernel parameter known g e)
           (call-small deskLines (graphLeft (sizeOf g) (loadCall desk mode deskRoom vertices edges)) kernel parameter claim _ _ _ _ _ narrow (omega arith) (omega arith))
       by-load known (refuses r) e =
-          rw (says-known vertices edges claim mode kernel parameter known, e) (loaded-readable narrow desk (omega arith) (omega arith) mode deskRoom vertices edges .refusals r e .1)
+          rw (says-known vertices edges claim mode kernel parameter known, e) (loaded-readable narrow desk (omega arith) mode deskRoom vertices edges .refusals r e .1)
 
       by-number : (t : Bool) → isKnown mode kernel ≡ t → Small narrow (threeOf (hostSays vertices edges claim mode kernel parameter))
       by-number true h = by-load h (loaded desk mode deskRoom vertices edges) refl

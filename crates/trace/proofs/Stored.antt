@@ -9,11 +9,12 @@ use lib.Seq.{take-at, take-all}
 use Rattle.basis.specs.Refusal.{edgeFile}
 use Rattle.basis.specs.Area.{pad, padZ}
 use Rattle.basis.proofs.Areas.{pad-full}
+use Rattle.basis.proofs.Alls.{All}
 use Rattle.graph.specs.Arcs.{Arc, backward, parts, offsets, targetsOf}
 use Rattle.graph.specs.Part.{partOf}
 use Rattle.graph.specs.Sound.{Graph, outward, inward, names}
 use Rattle.graph.proofs.Parts.{part-far}
-use Rattle.store.proofs.Order.{All, Fine, Valid, arcs-join, join-backward}
+use Rattle.store.proofs.Order.{Fine, Valid, arcs-join, join-backward}
 use Rattle.store.proofs.Passes.{length-backward}
 use Rattle.store.proofs.Built.{offsets-length}
 use Rattle.store.proofs.Meaning.{start-all, part-stored, storedGraph}

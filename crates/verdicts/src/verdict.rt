@@ -9,6 +9,10 @@ use basis::area::clear_signed;
 use basis::order::lesser;
 use basis::refusal::UNKNOWN_NUMBER;
 use graph::Size;
+use kernels::BFS;
+use kernels::CDLP;
+use kernels::LCC;
+use kernels::WCC;
 use matching::Judged;
 ghost use mathlib.Core.Path.{_≡_};
 ghost use mathlib.Core.Bool.{_&&_};
@@ -16,14 +20,6 @@ ghost use lib.Dec.{leb};
 ghost use Rattle.graph.specs.Sound.{lent};
 ghost use Rattle.matching.specs.Verdict.{says};
 ghost use Rattle.verdicts.specs.Call.{mostLines, outcome, unknownCall, verdictCall};
-
-const BFS: usize = 1;
-
-const WCC: usize = 2;
-
-const CDLP: usize = 3;
-
-const LCC: usize = 4;
 
 // How many lines a claim may have.
 pub const MOST_LINES: usize = 65536;

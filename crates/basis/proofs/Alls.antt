@@ -2,13 +2,17 @@
 use Prim.Native.Nat.{ℕ, zero, suc, _-_}
 use mathlib.Core.List.{List, [], _∷_, _++_}
 use lib.ListN.{length, getD, take, replicate}
 use Rattle.basis.specs.Refusal.{Said, gives, refuses}
 use Rattle.basis.specs.Area.{column, padWith, leaves}
 
 -- each member has P
 abbrev pub All : {A : Type 0} → (A → Type 0) → List A → Type 0
 All P [] = Unit {0}
 All P (x ∷ l) = P x × All P l
+
+pub all-map : {A : Type 0} {P Q : A → Type 0} → ((x : A) → P x → Q x) → (l : List A) → All P l → All Q l
+all-map f [] h = tt
+all-map f (x ∷ l) h = (f x (h .0), all-map f l (h .1))
 
 module _ {A : Type 0} (P : A → Type 0) where
   pub all-append : (a b : List A) → All P a → All P b → All P (a ++ b)

@@ -1,0 +1,46 @@
+-- The refusal of a load: its number is from 1 to 12, its file none or one of the two, and its line within their limits or the one after. Assumes nothing.
+use Prim.Native.Nat.{ℕ, _+_, _≤_, _<_}
+use mathlib.Core.Bool.{Bool, true, false}
+use mathlib.Core.List.{List}
+use native.Mathlib.Omega.{arith}
+use lib.Dec.{leb}
+use lib.ListN.{length}
+use Rattle.basis.specs.declared.refusal.Refusal.{Refusal}
+use Rattle.basis.specs.Refusal.{Said, vertexFile, edgeFile}
+use Rattle.basis.proofs.Saids.{Either, Any, either-refused, either-cond, refused-onward}
+use Rattle.graph.specs.Arcs.{arcs}
+use Rattle.graph.specs.Find.{placeIn}
+use Rattle.lists.specs.Files.{identifiers, edgesOf, allNumbered}
+use Rattle.lists.proofs.Refused.{Met, vertices-met, edges-met}
+use Rattle.load.specs.declared.Limits.{Limits}
+use Rattle.load.specs.Load.{Room, isUndirected, vertexRoom, arcRoom, withRoom, arcsRead, listsRead, loaded}
+
+pub record Turned (limits : Limits) (r : Refusal) : Type 0 where
+  pub some : 0 < r .number
+  pub low : r .number ≤ 12
+  pub inFile : r .file ≤ 2
+  pub inLines : r .line ≤ limits .vertices + limits .edges + 1
+
+module _ (limits : Limits) where
+  of-file : {A : Type 0} (file most : ℕ) → file ≤ 2 → most ≤ limits .vertices + limits .edges → (x : Said A) → Either Any (Met file most) x → Either Any (Turned limits) x
+  of-file file most k l x h =
+      either-refused Any (λ r m. record { some = m .some; low = omega (arith, m .low); inFile = omega (arith, m .inFile); inLines = omega (arith, m .inLines) }) x h
+
+  of-room : {A : Type 0} (enough : Bool) (x : A) → Either Any (Turned limits) (withRoom enough x)
+  of-room true x = tt
+  of-room false x = record { some = omega arith; low = omega arith; inFile = omega arith; inLines = omega arith }
+
+  pub load-turned : (mode : ℕ) (room : Room) (v e : List ℕ) → Either Any (Turned limits) (loaded limits mode room v e)
+  unfolding loaded listsRead arcsRead
+  load-turned mode room v e =
+      let both = isUndirected mode in
+      let ids = identifiers (limits .vertices) v in
+      either-cond Any (Turned limits) (leb mode 1) _ _
+      (λ _. refused-onward (Turned limits) ids _ (of-file vertexFile (limits .vertices) (omega arith) (omega arith) ids (vertices-met (limits .vertices) v))
+      (λ i. refused-onward (Turned limits) (withRoom (vertexRoom (room .ids) (room .outOffsets) (room .inOffsets) (length i)) i) _ (of-room (vertexRoom (room .ids) (room .outOffsets) (room .inOffsets) (length i)) i)
+      (λ i. let es = edgesOf both (limits .edges) (placeIn i) e in
+      refused-onward (Turned limits) (arcsRead both (limits .edges) i e (room .outTargets) (room .inSources)) _
+      (refused-onward (Turned limits) es _ (of-file edgeFile (limits .edges) (omega arith) (omega arith) es (edges-met both (limits .edges) (placeIn i) e))
+      (λ es. let l = arcs both (allNumbered (placeIn i) es) in of-room (arcRoom (room .outTargets) (room .inSources) (length l)) l))
+      (λ l. tt))))
+      (λ _. record { some = omega arith; low = omega arith; inFile = omega arith; inLines = omega arith })
