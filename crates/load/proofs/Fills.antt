@@ -116,10 +116,7 @@ pad-front : (xs ys : List ℕ) (a b k : ℕ) → length xs ≡ k → length ys �
 pad-front xs ys a b k e h =
     let j : length ys + (k - length ys) ≡ k = omega arith in
     let m : b - length ys - (k - length ys) ≡ b - length xs = omega arith in
-    rw (take-at xs (replicate (a - length xs) 0) k e)
-    (ap (λ (r : List ℕ). xs ++ r)
-    (ap (λ (n : ℕ). drop n (ys ++ replicate (b - length ys) 0)) (sym j) ∙ drop-append-add ys (replicate (b - length ys) 0) (k - length ys) ∙ drop-replicate 0 (k - length ys) (b - length ys)
-    ∙ ap (λ (n : ℕ). replicate {A = ℕ} n 0) m))
+    rw (take-at xs (replicate (a - length xs) 0) k e, ← j, drop-append-add ys (replicate (b - length ys) 0) (k - length ys), drop-replicate {A = ℕ} 0 (k - length ys) (b - length ys), m) refl
 
 copy-pad : (xs ys : List ℕ) (a b k : ℕ) → length xs ≡ k → length ys ≤ k → k ≤ b → copied k (pad a xs) (pad b ys) ≡ pad b xs
 copy-pad xs ys a b k e h room =
