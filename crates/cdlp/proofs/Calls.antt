@@ -14,7 +14,7 @@ use mir.Val.{Fits}
 use borrow.Author.Tests.{leb-true, ltb-false, not-true}
 use Rattle.basis.specs.Refusal.{Said, gives, refuses, plain}
 use Rattle.basis.specs.Area.{cleared, clearedZ, padWith}
-use Rattle.basis.proofs.Tests.{clash, and-first, and-second, failed, held}
+use Rattle.basis.proofs.Tests.{clash, and-first, and-second, held}
 use Rattle.basis.proofs.Orders.{leb-min}
 use Rattle.basis.proofs.Areas.{pad-lent}
 use Rattle.graph.specs.declared.Size.{Size}
@@ -22,7 +22,7 @@ use Rattle.graph.specs.Sound.{Graph, lent, soundGraph}
 use Rattle.graph.specs.Walk.{checked}
 use Rattle.graph.proofs.Walks.{check-told, check-area}
 use Rattle.graph.proofs.Sounds.{Sound, sound-of}
-use Rattle.kernels.specs.Answer.{kernelSays}
+use Rattle.kernels.proofs.Ends.{ends-unsound, ends-refused, ends-short, ends-done}
 use Rattle.cdlp.specs.Rounds.{cdlpOf}
 use Rattle.cdlp.specs.Promise.{goodRounds, roomFor, Outcome, outcome, leftBy, cdlpCall}
 use Rattle.cdlp.specs.Steps.{Ready, Worked, worked}
@@ -141,57 +141,50 @@ module _ (size : Size) (ids : List ℤ) (oo ot io is : List ℕ) (k : ℕ) (R R�
       (ap (λ (t : Worked). t .next) w ∙ front-cleared (size .vertices) N N₂ n)
       (ap (λ (t : Worked). t .counts) w ∙ front-cleared (size .vertices) C C₂ c)
 
--- ---- the call: how it ends, by its tests in their order; z′ is z as it is handed on
-module _ (size : Size) (ids : List ℤ) (oo ot io is : List ℕ) (z : ℤ) (R : List ℤ) (L N C : List ℕ) (o : Outcome)
-    (s : Bool) (e : s ≡ soundGraph (lent size ids oo ot io is)) where
-  abbrev g : Graph
-  g = lent size ids oo ot io is
-
-  ends-unsound : not s ≡ true → o ≡ leftBy (refuses (plain 9)) [] R L N C → o ≡ cdlpCall g z R L N C
-  unfolding cdlpCall kernelSays leftBy
-  ends-unsound h q = q ∙ rw (failed s (soundGraph g) e h)
-
-  module _ (h : not s ≡ false) (z′ : ℤ) (same : z′ ≡ z) (a : Bool) (f : a ≡ goodRounds z′) where
-    ends-outside : not a ≡ true → o ≡ leftBy (refuses (plain 11)) [] R L N C → o ≡ cdlpCall g z R L N C
-    unfolding cdlpCall kernelSays leftBy
-    ends-outside k q = q ∙ rw (held s (soundGraph g) e h, ← same, failed a (goodRounds z′) f k)
-
-    module _ (k : not a ≡ false) (r : Bool) (i : r ≡ roomFor (size .vertices) R L N C) where
-      ends-short : not r ≡ true → o ≡ leftBy (refuses (plain 8)) [] R L N C → o ≡ cdlpCall g z R L N C
-      unfolding cdlpCall kernelSays leftBy
-      ends-short l q = q ∙ rw (held s (soundGraph g) e h, ← same, held a (goodRounds z′) f k, failed r (roomFor (size .vertices) R L N C) i l)
-
-      ends-done : not r ≡ false → o ≡ leftBy (gives tt) (cdlpOf g (natAbs z′)) R L N C → o ≡ cdlpCall g z R L N C
-      unfolding cdlpCall kernelSays leftBy
-      ends-done l q = q ∙ rw (held s (soundGraph g) e h, ← same, held a (goodRounds z′) f k, held r (roomFor (size .vertices) R L N C) i l)
-
+-- ---- the call: how it ends, by its tests in their order
 -- the check of the graph left zeros in the counts
 call-over : (g : Graph) (z : ℤ) (R : List ℤ) (L N C C₁ : List ℕ) → C₁ ≡ cleared C → cdlpCall g z R L N C₁ ≡ cdlpCall g z R L N C
 unfolding cdlpCall leftBy roomFor
 call-over g z R L N C C₁ q = rw (q, length-replicate {A = ℕ} (length C) 0)
 
--- the same with C₁, the counts that the check of the graph left
+-- C₁ are the counts that it left; z′ is z as it is handed on
 module _ (size : Size) (ids : List ℤ) (oo ot io is : List ℕ) (z : ℤ) (R : List ℤ) (L N C C₁ : List ℕ) (o : Outcome)
     (s : Bool) (e : checked s C₁ ≡ checked (soundGraph (lent size ids oo ot io is)) (cleared C)) where
   abbrev graph : Graph
   graph = lent size ids oo ot io is
 
+  abbrev roomy : Bool
+  roomy = roomFor (size .vertices) R L N C₁
+
+  -- what the call leaves by what it says
+  abbrev left : Said (Unit {0}) → Outcome
+  left said = leftBy said (cdlpOf graph (natAbs z)) R L N C₁
+
   over : cdlpCall graph z R L N C₁ ≡ cdlpCall graph z R L N C
   over = call-over graph z R L N C C₁ (check-area e)
 
   pub call-unsound : not s ≡ true → o ≡ leftBy (refuses (plain 9)) [] R L N C₁ → o ≡ cdlpCall graph z R L N C
-  call-unsound h q = ends-unsound size ids oo ot io is z R L N C₁ o s (check-told e) h q ∙ over
+  unfolding cdlpCall leftBy
+  call-unsound h q = ends-unsound left o (soundGraph graph) (goodRounds z) 11 roomy s (check-told e) h q ∙ over
 
   module _ (h : not s ≡ false) (z′ : ℤ) (same : z′ ≡ z) (a : Bool) (f : a ≡ goodRounds z′) where
+    good : a ≡ goodRounds z
+    good = f ∙ ap goodRounds same
+
     pub call-outside : not a ≡ true → o ≡ leftBy (refuses (plain 11)) [] R L N C₁ → o ≡ cdlpCall graph z R L N C
-    call-outside k q = ends-outside size ids oo ot io is z R L N C₁ o s (check-told e) h z′ same a f k q ∙ over
+    unfolding cdlpCall leftBy
+    call-outside k q = ends-refused left o (soundGraph graph) (goodRounds z) 11 roomy s (check-told e) h a good k q ∙ over
 
     module _ (k : not a ≡ false) (r : Bool) (i : r ≡ roomFor (size .vertices) R L N C₁) where
       pub call-short : not r ≡ true → o ≡ leftBy (refuses (plain 8)) [] R L N C₁ → o ≡ cdlpCall graph z R L N C
-      call-short l q = ends-short size ids oo ot io is z R L N C₁ o s (check-told e) h z′ same a f k r i l q ∙ over
+      unfolding cdlpCall leftBy
+      call-short l q = ends-short left o (soundGraph graph) (goodRounds z) 11 roomy s (check-told e) h a good k r i l q ∙ over
 
       pub call-done : not r ≡ false → o ≡ leftBy (gives tt) (cdlpOf graph (natAbs z′)) R L N C₁ → o ≡ cdlpCall graph z R L N C
-      call-done l q = ends-done size ids oo ot io is z R L N C₁ o s (check-told e) h z′ same a f k r i l q ∙ over
+      unfolding cdlpCall
+      call-done l q =
+          ends-done left o (soundGraph graph) (goodRounds z) 11 roomy s (check-told e) h a good k r i l
+          (q ∙ ap (λ (y : ℤ). leftBy (gives tt) (cdlpOf graph (natAbs y)) R L N C₁) same) ∙ over
 
 -- a number of rounds within the limit is a number
 pub rounds-cast : (z : ℤ) (a : Bool) → a ≡ goodRounds z → not a ≡ false → T (nonNeg z) × Fits w64 (natAbs z)

@@ -10,8 +10,8 @@ use lib.Seq.{length-take-le, length-front}
 use lib.Dec.{leb}
 use borrow.Author.Tests.{leb-true}
 use Rattle.basis.specs.Refusal.{Said, gives, refuses, plain}
-use Rattle.basis.specs.Area.{cleared, clearedZ, leaves}
-use Rattle.basis.proofs.Tests.{and-first, and-second, failed, held}
+use Rattle.basis.specs.Area.{cleared, clearedZ}
+use Rattle.basis.proofs.Tests.{and-first, and-second}
 use Rattle.basis.proofs.Orders.{leb-min}
 use Rattle.basis.proofs.Areas.{column-length, pad-lent}
 use Rattle.graph.specs.declared.Size.{Size}
@@ -20,7 +20,7 @@ use Rattle.graph.specs.Sound.{Graph, outward, names, lent, soundGraph}
 use Rattle.graph.specs.Walk.{checked}
 use Rattle.graph.proofs.Walks.{check-told, check-area}
 use Rattle.graph.proofs.Sounds.{sound-of, outward-below, names-length}
-use Rattle.kernels.specs.Answer.{kernelSays}
+use Rattle.kernels.proofs.Ends.{ends-unsound, ends-short, ends-done}
 use Rattle.wcc.specs.Component.{labelOf, wccOf}
 use Rattle.wcc.specs.Promise.{roomFor, Outcome, outcome, leftBy, wccCall}
 use Rattle.wcc.specs.Steps.{Exact}
@@ -98,15 +98,6 @@ module _ (size : Size) (ids : List ℤ) (oo ot io is : List ℕ) (s : soundGraph
       (d ∙ ap (λ (k : ℕ). replicate k 0) (length-front S S₂ (size .vertices) t))
 
 -- ---- the call: how it ends, by its tests in their order
-module _ (g : Graph) (R : List ℤ) (P S : List ℕ) where
-  call-refused : (k : ℕ) → kernelSays (soundGraph g) true 0 (roomFor (g .vertices) R P S) ≡ refuses (plain k) → leftBy (refuses (plain k)) [] R P S ≡ wccCall g R P S
-  unfolding wccCall leftBy
-  call-refused k h = ap (λ (s : Said (Unit {0})). outcome s (leaves s (pos 0) (length R) (wccOf g)) (cleared P) (cleared S)) (sym h)
-
-  call-given : kernelSays (soundGraph g) true 0 (roomFor (g .vertices) R P S) ≡ gives tt → leftBy (gives tt) (wccOf g) R P S ≡ wccCall g R P S
-  unfolding wccCall
-  call-given h = ap (λ (s : Said (Unit {0})). leftBy s (wccOf g) R P S) (sym h)
-
 -- the check of the graph left zeros in the parents
 call-over : (g : Graph) (R : List ℤ) (P P₁ S : List ℕ) → P₁ ≡ cleared P → wccCall g R P₁ S ≡ wccCall g R P S
 unfolding wccCall leftBy roomFor
@@ -117,18 +108,22 @@ module _ (size : Size) (ids : List ℤ) (oo ot io is : List ℕ) (R : List ℤ) 
   abbrev graph : Graph
   graph = lent size ids oo ot io is
 
+  -- what the call leaves by what it says
+  abbrev left : Said (Unit {0}) → Outcome
+  left said = leftBy said (wccOf graph) R P₁ S
+
+  over : wccCall graph R P₁ S ≡ wccCall graph R P S
+  over = call-over graph R P P₁ S (check-area e)
+
   pub call-unsound : not s ≡ true → o ≡ leftBy (refuses (plain 9)) [] R P₁ S → o ≡ wccCall graph R P S
-  call-unsound h q = q ∙ call-refused graph R P₁ S 9 (unfold kernelSays in rw (failed s (soundGraph graph) (check-told e) h)) ∙ call-over graph R P P₁ S (check-area e)
+  unfolding wccCall leftBy
+  call-unsound h q = ends-unsound left o (soundGraph graph) true 0 (roomFor (size .vertices) R P₁ S) s (check-told e) h q ∙ over
 
   module _ (h : not s ≡ false) (r : Bool) (i : r ≡ roomFor (size .vertices) R P₁ S) where
     pub call-short : not r ≡ true → o ≡ leftBy (refuses (plain 8)) [] R P₁ S → o ≡ wccCall graph R P S
-    call-short l q =
-        q
-        ∙ call-refused graph R P₁ S 8 (unfold kernelSays in rw (held s (soundGraph graph) (check-told e) h, failed r (roomFor (size .vertices) R P₁ S) i l))
-        ∙ call-over graph R P P₁ S (check-area e)
+    unfolding wccCall leftBy
+    call-short l q = ends-short left o (soundGraph graph) true 0 (roomFor (size .vertices) R P₁ S) s (check-told e) h true refl refl r i l q ∙ over
 
     pub call-done : not r ≡ false → o ≡ leftBy (gives tt) (wccOf graph) R P₁ S → o ≡ wccCall graph R P S
-    call-done l q =
-        q
-        ∙ call-given graph R P₁ S (unfold kernelSays in rw (held s (soundGraph graph) (check-told e) h, held r (roomFor (size .vertices) R P₁ S) i l))
-        ∙ call-over graph R P P₁ S (check-area e)
+    unfolding wccCall leftBy
+    call-done l q = ends-done left o (soundGraph graph) true 0 (roomFor (size .vertices) R P₁ S) s (check-told e) h true refl refl r i l q ∙ over

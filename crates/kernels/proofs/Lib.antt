@@ -1,0 +1,2 @@
+-- Laws that the four kernels share.
+pub mod Ends
