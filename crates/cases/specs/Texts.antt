@@ -13,11 +13,12 @@ abbrev pub bytes : String → List ℕ
 bytes end = []
 bytes (c then s) = code c ∷ bytes s
 
--- the graph that a load leaves in its areas
+-- the size that a load gives; none where it is refused
 abbrev sizeOf : Said Size → Size
 sizeOf (gives size) = size
 sizeOf (refuses r) = record { vertices = 0; arcs = 0 }
 
+-- the graph that a load leaves in its areas
 abbrev graphOf : Outcome → Graph
 graphOf o = lent (sizeOf (o .answer)) (o .ids) (o .outOffsets) (o .outTargets) (o .inOffsets) (o .inSources)
 

@@ -24,8 +24,8 @@ abbrev pub isThere : Found → Bool
 isThere (At i) = true
 isThere Missing = false
 
--- a bisection for x of the places from low up to high, of at most so many turns: the middle, or the half that is left of it
 module _ {A : Type 0} (less : A → A → Bool) (z : A) (l : List A) (x : A) where
+  -- a bisection for x of the places from low up to high, of at most so many turns: the middle, or the half that is left of it
   unfoldable pub bisect : ℕ → ℕ → ℕ → Found
   bisect zero low high = Missing
   bisect (suc turns) low high =

@@ -54,7 +54,7 @@ pub record Blank (ids : List ℤ) (o b : List ℕ) : Type 0 where
   pub places : length ids < length o
   pub backPlaces : length ids < length b
 
--- ---- a graph's four areas, and its size
+-- a graph's size and the four areas of its arcs
 pub record Filled : Type 0 where
   pub size : Size
   pub outOffsets : List ℕ
@@ -76,7 +76,7 @@ abbrev pub filledLeft : Loaded → List ℕ → List ℕ → List ℕ → List �
 filledLeft (L.Graph size) oo ot io is = gives (filled size oo ot io is)
 filledLeft (L.Refused r) oo ot io is = refuses r
 
--- ---- all five areas
+-- a load's outcome where it gives a graph, in areas of these lengths
 abbrev pub outcomeBy : Room → Lists → Outcome
 outcomeBy room g = outcomeOf room (gives g)
 
