@@ -9,8 +9,6 @@ use native.Mathlib.Omega.{arith}
 use borrow.Author.Needs.{needs}
 use Rattle.graph.proofs.walk.all_walked.Statement.{statement}
 use Rattle.graph.proofs.walk.all_walked.Tie as tie
-use Rattle.graph.proofs.part.part.Reads as part-reads
-use Rattle.graph.proofs.walk.arcs_walked.Reads as arcs-walked-reads
 
 abbrev Inv-loop : tie.InvT-loop
 Inv-loop out-targets out-offsets in-sources n cursors₀ u₀ cursors u = (u ≤ n) × (length cursors ≡ length cursors₀) × (walked in-sources (partOf n out-offsets out-targets) u cursors₀ ≡ checked true cursors)
