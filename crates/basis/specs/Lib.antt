@@ -3,3 +3,4 @@ pub mod Refusal
 pub mod Order
 pub mod Scan
 pub mod Area
+pub mod Limits

@@ -7,9 +7,11 @@ use lib.ListN.{length}
 use lib.Dec.{eqb, leb, ltb}
 use Rattle.basis.specs.Refusal.{Said, gives, refuses, noRoom, unknownNumber, onward, said, check}
 use Rattle.basis.specs.Area.{areaOf}
+use Rattle.basis.specs.Limits.{deskVertices, deskEdges}
 use Rattle.graph.specs.declared.Size.{Size}
 use Rattle.graph.specs.Find.{placeIn}
 use Rattle.graph.specs.Arcs.{Arc, arcs, backward, parts, offsets}
+use Rattle.graph.specs.Sound.{mostVertices}
 use Rattle.load.specs.declared.Limits.{Limits}
 use Rattle.load.specs.declared.Loaded.{Loaded}
 use Rattle.load.specs.declared.Loaded.the-variants as L
@@ -103,11 +105,11 @@ loadCall limits mode room vertices edges = outcomeOf room (loaded limits mode ro
 
 -- "Library limits: 65,536 vertices, 1,048,576 edges"
 abbrev pub library : Limits
-library = record { vertices = 65536; edges = 1048576 }
+library = record { vertices = mostVertices; edges = 1048576 }
 
 -- "Desk limits: 1,024 vertices, 2,048 edges"
 abbrev pub desk : Limits
-desk = record { vertices = 1024; edges = 2048 }
+desk = record { vertices = deskVertices; edges = deskEdges }
 
 -- areas for a graph within them: 1,024 identifiers, then 1,025 offsets and 4,096 arcs outward, two for each edge, then as many inward
 abbrev pub deskRoom : Room

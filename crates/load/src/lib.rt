@@ -16,11 +16,6 @@ ghost use Rattle.load.specs.Steps.{Emptied};
 // The library's limit of edge lines; the one of vertex lines is the graph's of vertices.
 pub const MOST_EDGES: usize = 1048576;
 
-// The desk's limits of both, which the desk program and the host call keep.
-pub const DESK_VERTICES: usize = 1024;
-
-pub const DESK_EDGES: usize = 2048;
-
 // How many lines a vertex file and an edge file may have.
 pub struct Limits {
     pub vertices: usize,

@@ -12,6 +12,7 @@ use Rattle.basis.specs.Refusal.{Said, gives, refuses, at, tooMany, badForm, she
 use Rattle.basis.specs.declared.refusal.Refusal.{Refusal}
 use Rattle.basis.specs.Scan.{mem}
 use Rattle.basis.proofs.Tests.{clash, bool-cases, failed, held, no-case}
+use Rattle.basis.specs.Limits.{deskVertices, deskEdges}
 use Rattle.text.specs.Word.{Word, malformed, outside, value, within, countOf}
 use Rattle.text.specs.Line.{lf, upTo}
 use Rattle.text.specs.Scan.{Scanned, scanned, hasAt, capped, cutWord, countAt, countSays, closed, lineOf}
@@ -21,7 +22,7 @@ use Rattle.text.proofs.Bytes.{upTo-cut}
 use Rattle.text.proofs.Words.{word-has, no-end, count-reads}
 use Rattle.plan.specs.Lines.{sheetFault, inSheet, begins}
 use Rattle.plan.specs.Jobs.{jobLine, jobSays}
-use Rattle.plan.specs.Sheet.{mostVertices, mostEdges, mostJobs, mostBytes, directedWord, undirectedWord, modeOf, modeLine, limited, countLine, anyOf, nextOf, linePast, linesPast, block, linesOf, section, plan, sections, ended, checked, checkedSays, modeSays, countLineSays, pastSays, sectionSays}
+use Rattle.plan.specs.Sheet.{mostJobs, mostBytes, directedWord, undirectedWord, modeOf, modeLine, limited, countLine, anyOf, nextOf, linePast, linesPast, block, linesOf, section, plan, sections, ended, checked, checkedSays, modeSays, countLineSays, pastSays, sectionSays}
 use Rattle.plan.specs.declared.job.Job.{Job}
 use Rattle.plan.specs.declared.job.JobLine.{JobLine}
 use Rattle.plan.specs.declared.job.JobLine.the-variants as JL
@@ -202,12 +203,12 @@ module _ (s : List ℕ) (x : Mode) (u : modeSays x ≡ modeLine s) where
   unfolding sections
   mode-refused r e = rw (sym u ∙ ap modeSays e)
 
-  module _ (d : Bool) (p : ℕ) (e : x ≡ M.Directed d p) (y : Section) (v : sectionSays y ≡ section false mostVertices s p) where
+  module _ (d : Bool) (p : ℕ) (e : x ≡ M.Directed d p) (y : Section) (v : sectionSays y ≡ section false deskVertices s p) where
     pub vertices-refused : (r : Refusal) → y ≡ S.Refused r → refuses r ≡ sections s
     unfolding sections
     vertices-refused r f = rw (sym u ∙ ap modeSays e, sym v ∙ ap sectionSays f)
 
-    module _ (b : Block) (f : y ≡ S.Lines b) (z : Section) (w : sectionSays z ≡ section false mostEdges s (b .to)) where
+    module _ (b : Block) (f : y ≡ S.Lines b) (z : Section) (w : sectionSays z ≡ section false deskEdges s (b .to)) where
       pub edges-refused : (r : Refusal) → z ≡ S.Refused r → refuses r ≡ sections s
       unfolding sections
       edges-refused r g = rw (sym u ∙ ap modeSays e, sym v ∙ ap sectionSays f, sym w ∙ ap sectionSays g)

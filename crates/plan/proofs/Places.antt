@@ -9,12 +9,13 @@ use lib.Dec.{leb, ltb}
 use lib.ListN.{length}
 use Rattle.basis.specs.Refusal.{Said, gives, refuses, at}
 use Rattle.basis.proofs.Saids.{Either, either-cond, either-onward, Any}
+use Rattle.basis.specs.Limits.{deskVertices, deskEdges}
 use Rattle.text.specs.Word.{Word, countOf}
 use Rattle.text.specs.Line.{LineSaid, line, none, fault, lineBy}
 use Rattle.text.proofs.Places.{Moved, Placed, places}
 use Rattle.plan.specs.Lines.{inSheet, sheetLine}
 use Rattle.plan.specs.Jobs.{jobOf}
-use Rattle.plan.specs.Sheet.{mostVertices, mostEdges, mostJobs, mostBytes, modeOf, limited, countLine, anyOf, nextOf, linePast, linesPast, block, linesOf, section, sections, ended, checked}
+use Rattle.plan.specs.Sheet.{mostJobs, mostBytes, modeOf, limited, countLine, anyOf, nextOf, linePast, linesPast, block, linesOf, section, sections, ended, checked}
 use Rattle.plan.specs.declared.sections.Block.{Block}
 use Rattle.plan.specs.declared.sections.Plan.{Plan}
 
@@ -90,8 +91,8 @@ sections-in : (s : List ℕ) → Gives (Placed-plan s) (sections s)
 unfolding sections
 sections-in s =
     either-onward (Past s 0) (Placed-plan s) Any (sheetLine modeOf s 0) _ (sheet-line modeOf s 0)
-    (λ mode m. either-onward (Placed-block s mostVertices) (Placed-plan s) Any (section false mostVertices s (mode .1)) _ (section-in false mostVertices s (mode .1))
-    (λ vertices v. either-onward (Placed-block s mostEdges) (Placed-plan s) Any (section false mostEdges s (vertices .to)) _ (section-in false mostEdges s (vertices .to))
+    (λ mode m. either-onward (Placed-block s deskVertices) (Placed-plan s) Any (section false deskVertices s (mode .1)) _ (section-in false deskVertices s (mode .1))
+    (λ vertices v. either-onward (Placed-block s deskEdges) (Placed-plan s) Any (section false deskEdges s (vertices .to)) _ (section-in false deskEdges s (vertices .to))
     (λ edges e. either-onward (Placed-block s mostJobs) (Placed-plan s) Any (section true mostJobs s (edges .to)) _ (section-in true mostJobs s (edges .to))
     (λ jobs j. record { vertices = v .lines; edges = e .lines; jobs = j .lines; few = j .few }))))
 

@@ -5,6 +5,7 @@ use mathlib.Core.List.{List, [], _∷_}
 use lib.ListN.{length}
 use lib.Dec.{leb, ltb}
 use Rattle.basis.specs.Refusal.{Said, gives, refuses, at, tooMany, badForm, sheetFile, onward, said}
+use Rattle.basis.specs.Limits.{deskVertices, deskEdges}
 use Rattle.text.specs.Word.{Word, malformed, value, countOf}
 use Rattle.plan.specs.Lines.{sheetFault, sheetLine, isWord}
 use Rattle.plan.specs.Jobs.{jobOf}
@@ -21,15 +22,7 @@ use Rattle.plan.specs.declared.sections.Past.the-variants as P
 use Rattle.plan.specs.declared.sections.Section.{Section}
 use Rattle.plan.specs.declared.sections.Section.the-variants as S
 
--- "Desk limits: 1,024 vertices"
-abbrev pub mostVertices : ℕ
-mostVertices = 1024
-
--- "2,048 edges"
-abbrev pub mostEdges : ℕ
-mostEdges = 2048
-
--- "16 jobs"
+-- "Desk limits: .. 16 jobs"
 abbrev pub mostJobs : ℕ
 mostJobs = 16
 
@@ -99,8 +92,8 @@ plan directed vertices edges jobs = record { directed = directed; vertices = ver
 unfoldable pub sections : List ℕ → Said Plan
 sections s =
     onward (modeLine s)
-    (λ mode. onward (section false mostVertices s (mode .1))
-    (λ vertices. onward (section false mostEdges s (vertices .to))
+    (λ mode. onward (section false deskVertices s (mode .1))
+    (λ vertices. onward (section false deskEdges s (vertices .to))
     (λ edges. onward (section true mostJobs s (edges .to))
     (λ jobs. gives (plan (mode .0) vertices edges jobs)))))
 

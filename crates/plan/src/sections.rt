@@ -4,6 +4,8 @@ use crate::job::read_job;
 use crate::line::begins_at;
 use crate::line::sheet_fault;
 use basis::Refusal;
+use basis::limits::DESK_EDGES;
+use basis::limits::DESK_VERTICES;
 use basis::refusal::BAD_FORM;
 use basis::refusal::SHEET_FILE;
 use basis::refusal::TOO_MANY;
@@ -15,10 +17,6 @@ use text::count::line_end;
 ghost use mathlib.Core.Path.{_≡_};
 ghost use Prim.Native.Nat.{_≤_};
 ghost use Rattle.plan.specs.Sheet.{modeLine, countLine, linePast, linesPast, section, sections, checked, modeSays, countLineSays, pastSays, sectionSays, checkedSays};
-
-pub const MOST_VERTICES: usize = 1024;
-
-pub const MOST_EDGES: usize = 2048;
 
 pub const MOST_JOBS: usize = 16;
 
@@ -161,11 +159,11 @@ pub fn read_sections(s: &[u8]) -> Checked
     match mode {
         Mode::Refused(r) => Checked::Refused(r),
         Mode::Directed(directed, at) => {
-            let first = read_section(s, false, MOST_VERTICES, at);
+            let first = read_section(s, false, DESK_VERTICES, at);
             match first {
                 Section::Refused(r) => Checked::Refused(r),
                 Section::Lines(vertices) => {
-                    let second = read_section(s, false, MOST_EDGES, vertices.to);
+                    let second = read_section(s, false, DESK_EDGES, vertices.to);
                     match second {
                         Section::Refused(r) => Checked::Refused(r),
                         Section::Lines(edges) => {

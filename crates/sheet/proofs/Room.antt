@@ -12,6 +12,7 @@ use Rattle.basis.proofs.Saids.{Either, either-cond, Any, either-refused, refuse
 use Rattle.basis.specs.Refusal.{Said, gives, refuses}
 use Rattle.basis.specs.Area.{padWith}
 use Rattle.basis.proofs.Alls.{All, all-take, all-pad}
+use Rattle.basis.specs.Limits.{deskVertices, deskEdges}
 use Rattle.text.specs.Word.{Word, identOf, countOf}
 use Rattle.text.specs.Line.{LineSaid, line, none, fault, lf, lineBy}
 use Rattle.text.proofs.Places.{Small, ident-small, LineHas, line-any}
@@ -20,7 +21,7 @@ use Rattle.load.specs.Good.{Says}
 use Rattle.load.proofs.Refused.{load-turned}
 use Rattle.plan.specs.Lines.{lfs, sheetFault, inSheet, sheetLine}
 use Rattle.plan.specs.Jobs.{jobOf}
-use Rattle.plan.specs.Sheet.{mostBytes, mostVertices, mostEdges, mostJobs, modeOf, limited, countLine, anyOf, nextOf, linePast, linesPast, linesOf as blockLines, section, sections, ended, checked}
+use Rattle.plan.specs.Sheet.{mostBytes, mostJobs, modeOf, limited, countLine, anyOf, nextOf, linePast, linesPast, linesOf as blockLines, section, sections, ended, checked}
 use Rattle.plan.specs.declared.sections.Plan.{Plan}
 use Rattle.plan.proofs.Places.{Accepted, accepted}
 use Rattle.write.specs.Put.{written, putAt}
@@ -123,8 +124,8 @@ module _ (s : List ℕ) (short : length s ≤ mostBytes) where
   unfolding sections
   sections-brief =
       refused-onward Brief (sheetLine modeOf s 0) _ (line-brief modeOf 0)
-      (λ mode. refused-onward Brief (section false mostVertices s (mode .1)) _ (section-brief false mostVertices (mode .1))
-      (λ vertices. refused-onward Brief (section false mostEdges s (vertices .to)) _ (section-brief false mostEdges (vertices .to))
+      (λ mode. refused-onward Brief (section false deskVertices s (mode .1)) _ (section-brief false deskVertices (mode .1))
+      (λ vertices. refused-onward Brief (section false deskEdges s (vertices .to)) _ (section-brief false deskEdges (vertices .to))
       (λ edges. refused-onward Brief (section true mostJobs s (edges .to)) _ (section-brief true mostJobs (edges .to)) (λ jobs. tt))))
 
 checked-brief : (s : List ℕ) → Either Any Brief (checked s)

@@ -4,24 +4,24 @@ use mathlib.Core.List.{List, [], _++_}
 use lib.IntN.{ℤ, pos}
 use lib.ListN.{take, drop, replicate}
 use Rattle.basis.specs.Refusal.{Said, gives, refuses}
+use Rattle.basis.specs.Limits.{deskVertices}
 use Rattle.graph.specs.Sound.{Graph}
 use Rattle.bfs.specs.Call.{bfsCall}
 use Rattle.wcc.specs.Promise.{wccCall}
 use Rattle.cdlp.specs.Promise.{cdlpCall}
 use Rattle.lcc.specs.Promise.{lccCall}
 use Rattle.plan.specs.Jobs.{jobLine}
-use Rattle.plan.specs.Sheet.{mostVertices}
 use Rattle.plan.specs.declared.job.Job.{Job}
 use Rattle.plan.specs.declared.job.Job.the-variants.{Bfs, Wcc, Cdlp, Lcc}
 use Rattle.listing.specs.Listing.{refusedText, headText, pairLines, ratioLines}
 
 -- an area that a kernel is lent: one place for each vertex that a desk graph may have
 abbrev pub zeros : List ℕ
-zeros = replicate mostVertices 0
+zeros = replicate deskVertices 0
 
 -- the same area of signed numbers, for the results of BFS, WCC and CDLP
 abbrev pub zerosZ : List ℤ
-zerosZ = replicate mostVertices (pos 0)
+zerosZ = replicate deskVertices (pos 0)
 
 -- "Each job prints its line, a count line, then identifier and value for each vertex; a refused job prints only its `refused` line."
 abbrev pub answered : ℕ → List ℕ → Said (Unit {0}) → List ℕ → List ℕ

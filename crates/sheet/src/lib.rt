@@ -2,9 +2,9 @@
 pub mod jobs;
 
 use crate::jobs::run_jobs;
+use basis::limits::DESK_EDGES;
+use basis::limits::DESK_VERTICES;
 use listing::put_refused;
-use load::DESK_EDGES;
-use load::DESK_VERTICES;
 use load::Limits;
 use load::Loaded;
 use load::load_within;
