@@ -1,5 +1,5 @@
-//! Safe calls of the tracing engine. The functions own every area that the engine works in; a refusal comes back as an error with a text, and a
-//! verdict as a value: a claim that is wrong was judged and not refused.
+//! Safe calls of the tracing engine. The functions own every area that the engine works in; a refusal comes back as an error with a text,
+//! and a verdict as a value: a claim that is wrong was judged and not refused.
 
 pub mod calls;
 
@@ -127,8 +127,8 @@ fn apart(coded: u64, unit: u64) -> Result<Answer, Refusal> {
     }
 }
 
-/// The values that a call of `calls` gives at library limits, or its refusal. The answer of `calls::judge` has none: `judged` is for that, and
-/// this panics on its verdicts.
+/// The values that a call of `calls` gives at library limits, or its refusal. The answer of `calls::judge` has none: `judged` is for that,
+/// and this panics on its verdicts.
 pub fn given(coded: u64) -> Result<u64, Refusal> {
     let a = apart(coded, LIBRARY)?;
     assert_eq!((a.number, a.file), (0, 0), "a verdict, which `judged` reads");
