@@ -50,7 +50,7 @@ extern "C" {
 #define TRACE_INCOMPLETE 20
 #define TRACE_MISMATCH 21
 
-/* whether a number is a refusal's, 1 to 12; 0 less 1 is the largest of all */
+/* whether a number is a refusal's, 1 to 12 (unsigned: 0 less 1 is the largest of all) */
 #define TRACE_IS_REFUSAL(number) ((number) - UINT64_C(1) < UINT64_C(12))
 
 /* the depth of a vertex that BFS does not reach */
