@@ -165,6 +165,8 @@ uint64_t trace_lcc(size_t vertices, size_t arcs,
  * are zero. Refusals: 12; 9; 10 (BFS) or 11 (CDLP); 8; 1, 2, 3 of the claim. After a refusal all five are zero.
  * The answer is the verdict's or the refusal's: TRACE_NUMBER is TRACE_MATCH, TRACE_INCOMPLETE or TRACE_MISMATCH with TRACE_FILE 3 and the
  * line in TRACE_LINE, or, where TRACE_REFUSED, the number of a refusal.
+ * A verdict on components compares each line of a complete claim with every earlier one, up to its first mismatch: at most
+ * vertices * (vertices - 1) / 2 pairs.
  */
 uint64_t trace_judge(size_t vertices, size_t arcs,
                      const int64_t *ids, size_t ids_length,

@@ -287,7 +287,7 @@ impl Graph {
         Ok(numerators.into_iter().zip(denominators).collect())
     }
 
-    /// The verdict on a claim of this kernel's result.
+    /// The verdict on a claim of this kernel's result. For `Kernel::Wcc` it compares each line of a complete claim with every earlier one.
     pub fn judge(&self, kernel: Kernel, claim: &[u8]) -> Result<Verdict, Refusal> {
         let (number, parameter) = kernel.numbers();
         let mut areas = calls::Areas {
