@@ -23,6 +23,7 @@
  *   20  the claim is incomplete: its first line whose identifier isn't the graph's at that place, or the first missing or surplus line
  *   21  the claim is complete and does not match: its first mismatch
  * Files: 1 vertex, 2 edge, 3 claim, 0 none. Lines count from 1; 0 where no line applies. Verdicts carry file 3.
+ * A verdict is no refusal: TRACE_REFUSED and TRACE_VERDICT_REFUSED hold of the numbers 1 to 12 alone.
  */
 #ifndef TRACE_H
 #define TRACE_H
@@ -49,6 +50,9 @@ extern "C" {
 #define TRACE_INCOMPLETE 20
 #define TRACE_MISMATCH 21
 
+/* whether a number is a refusal's, 1 to 12 (unsigned: 0 less 1 is the largest of all) */
+#define TRACE_IS_REFUSAL(number) ((number) - UINT64_C(1) < UINT64_C(12))
+
 /* the depth of a vertex that BFS does not reach */
 #define TRACE_UNREACHABLE INT64_MAX
 
@@ -69,17 +73,20 @@ uint64_t trace_verdict(const uint8_t *vertices, size_t vertices_length,
 #define TRACE_VERDICT_NUMBER(answer) ((answer) / UINT64_C(1000000))
 #define TRACE_VERDICT_FILE(answer) ((answer) / UINT64_C(100000) % UINT64_C(10))
 #define TRACE_VERDICT_LINE(answer) ((answer) % UINT64_C(100000))
+#define TRACE_VERDICT_REFUSED(answer) TRACE_IS_REFUSAL(TRACE_VERDICT_NUMBER(answer))
 
 /* ---- calls at library limits: 65,536 vertices, 1,048,576 edges, 2,097,152 stored arcs, 65,536 claim lines */
 
 /*
- * What every call below answers: values, or number * 10^15 + file * 10^14 + line of a refusal (or a verdict).
- * Values are below 10^14, and a refusal is at least 10^15, so TRACE_NUMBER is 0 exactly where the call was not refused.
+ * What every call below answers: its values, below 10^14, or number * 10^15 + file * 10^14 + line of its refusal. trace_judge has no values
+ * and answers its verdict's three numbers in the same way.
+ * So TRACE_NUMBER is 1 to 12 where the call was refused, 20 or 21 where trace_judge finds a claim incomplete or mismatching, and 0 where
+ * the call gave its values or the claim matches. TRACE_REFUSED holds exactly where the call was refused.
  */
 #define TRACE_NUMBER(answer) ((answer) / UINT64_C(1000000000000000))
 #define TRACE_FILE(answer) ((answer) / UINT64_C(100000000000000) % UINT64_C(10))
 #define TRACE_LINE(answer) ((answer) % UINT64_C(100000000000000))
-#define TRACE_REFUSED(answer) ((answer) >= UINT64_C(1000000000000000))
+#define TRACE_REFUSED(answer) TRACE_IS_REFUSAL(TRACE_NUMBER(answer))
 
 /*
  * Loads a graph of n vertices and m stored arcs (an undirected edge stores two) into five areas.
@@ -156,8 +163,10 @@ uint64_t trace_lcc(size_t vertices, size_t arcs,
  * The verdict on a claim about a lent graph. Each of the five areas needs `vertices` places, whatever the kernel. After a verdict
  * the kernel's result stands in `result` (BFS, WCC, CDLP), or in `first` over `second` (LCC, numerators over denominators); the other areas
  * are zero. Refusals: 12; 9; 10 (BFS) or 11 (CDLP); 8; 1, 2, 3 of the claim. After a refusal all five are zero.
- * The answer is the verdict's or the refusal's: TRACE_NUMBER is TRACE_MATCH, TRACE_INCOMPLETE or TRACE_MISMATCH with TRACE_FILE 3, or
- * the number of a refusal, 1 to 12.
+ * The answer is the verdict's or the refusal's: TRACE_NUMBER is TRACE_MATCH, TRACE_INCOMPLETE or TRACE_MISMATCH with TRACE_FILE 3 and the
+ * line in TRACE_LINE, or, where TRACE_REFUSED, the number of a refusal.
+ * A verdict on components compares each line of a complete claim with every earlier one, up to its first mismatch: at most
+ * vertices * (vertices - 1) / 2 pairs.
  */
 uint64_t trace_judge(size_t vertices, size_t arcs,
                      const int64_t *ids, size_t ids_length,

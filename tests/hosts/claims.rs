@@ -1,13 +1,20 @@
 //! Claims at the edges: coefficients on the line, labels permuted, merged and split, lines missing, surplus and exchanged, damaged lines of each kind.
 
-use trace_engine::{verdict, File, Kernel, Mode, Reason, Refusal, Verdict};
+use trace_engine::{given, verdict, File, Graph, Kernel, Mode, Reason, Refusal, Verdict};
 
 /// The sheet's graph of the paper: coefficients 0/1, 1/2, 1/2, 1/3, 0/1; components -3 and 2 2 2 2.
 const VERTICES: &[u8] = b"-3\n2\n5\n9\n20\n";
 const EDGES: &[u8] = b"2 5\n2 9\n5 2\n5 9\n9 20\n";
 
+/// The verdict on the files' bytes, which has to be the one on the loaded graph too.
+fn judged_on(mode: Mode, vertices: &[u8], edges: &[u8], kernel: Kernel, claim: &str) -> Result<Verdict, Refusal> {
+    let said = verdict(mode, vertices, edges, kernel, claim.as_bytes());
+    assert_eq!(Graph::load(mode, vertices, edges).unwrap().judge(kernel, claim.as_bytes()), said, "{}", claim);
+    said
+}
+
 fn judged(kernel: Kernel, claim: &str) -> Result<Verdict, Refusal> {
-    verdict(Mode::Directed, VERTICES, EDGES, kernel, claim.as_bytes())
+    judged_on(Mode::Directed, VERTICES, EDGES, kernel, claim)
 }
 
 /// A claim of the five coefficients with one of them as given.
@@ -33,7 +40,7 @@ fn main() {
     // r = 0 matches only zero
     assert_eq!((coefficients(0, "0.0e-99"), coefficients(0, "0e+99"), coefficients(0, "1e-99")), (Ok(Match), Ok(Match), Ok(Mismatch(1))));
     // r = 1: two lots with arcs both ways between them and a third
-    let triangle = |value: &str| verdict(Mode::Undirected, b"1\n2\n3\n", b"1 2\n1 3\n2 3\n", Kernel::Lcc, format!("1 {}\n2 1\n3 1\n", value).as_bytes());
+    let triangle = |value| judged_on(Mode::Undirected, b"1\n2\n3\n", b"1 2\n1 3\n2 3\n", Kernel::Lcc, &format!("1 {}\n2 1\n3 1\n", value));
     assert_eq!((triangle("1000000e-06"), triangle("1.0001"), triangle("1.00011"), triangle("0.9999")), (Ok(Match), Ok(Match), Ok(Mismatch(1)), Ok(Match)));
     // the form: 15 digits, no leading zero, no sign before, two digits behind e
     for form in ["0.50000000000000", "0.49999999999999"] {
@@ -65,5 +72,15 @@ fn main() {
     assert_eq!(judged(Kernel::Bfs(2), "1 1\n2 1"), fault(Reason::BadForm, 2));
     assert_eq!(judged(Kernel::Bfs(3), "x"), Err(Refusal { reason: Reason::NotThere, file: File::None, line: 0 }));
     assert_eq!(judged(Kernel::Cdlp(-1), "x"), Err(Refusal { reason: Reason::BadRounds, file: File::None, line: 0 }));
+
+    // how a host that lends its own areas reads an answer: a verdict is no refusal, and only the numbers 1 to 12 are
+    let coded = |number: u64, file: u64, rest: u64| number * 10_u64.pow(15) + file * 10_u64.pow(14) + rest;
+    assert_eq!(trace_engine::judged(coded(0, 3, 0)), Ok(Match));
+    assert_eq!(trace_engine::judged(coded(20, 3, 5)), Ok(Incomplete(5)));
+    assert_eq!(trace_engine::judged(coded(21, 3, 65_536)), Ok(Mismatch(65_536)));
+    assert_eq!(trace_engine::judged(coded(3, 3, 7)), fault(Reason::OutOfRange, 7));
+    assert_eq!(given(coded(0, 0, 5 * 10_000_000 + 5)), Ok(50_000_005));
+    let all = (1..=12).map(|number| given(coded(number, 0, 0)).unwrap_err().reason as u64);
+    assert!(all.eq(1..=12));
     println!("claims: verdicts at the edges are as they should be");
 }

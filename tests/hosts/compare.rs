@@ -70,7 +70,7 @@ impl Run {
         let good = lists::load(l.mode, &l.vertices, &l.edges, reference::DESK, lists::ROOM_ENOUGH).unwrap();
         let (kernel, parameter) = inputs::kernel(&mut self.dice, &good);
         let mut claim = inputs::claim(&mut self.dice, &good, kernel, parameter);
-        let mode = if self.dice.one_in(40) { 2 + self.dice.below(3) as u64 } else { l.mode };
+        let mode = inputs::mode(&mut self.dice, l.mode);
         for file in [&mut l.vertices, &mut l.edges, &mut claim] {
             if self.dice.one_in(5) {
                 inputs::damage(&mut self.dice, file);
@@ -89,6 +89,7 @@ impl Run {
                 inputs::damage(&mut self.dice, file);
             }
         }
+        let mode = inputs::mode(&mut self.dice, l.mode);
         let (n, m) = (good.ids.len(), good.arcs());
         let room = Room {
             ids: self.places(n),
@@ -100,10 +101,10 @@ impl Run {
         let mut ids = self.signed(room.ids);
         let (mut oo, mut ot) = (self.numbers(room.out_offsets), self.numbers(room.out_targets));
         let (mut io, mut is) = (self.numbers(room.in_offsets), self.numbers(room.in_sources));
-        let said = calls::load(l.mode, &self.lend(&l.vertices), &self.lend(&l.edges), &mut ids, &mut oo, &mut ot, &mut io, &mut is);
-        let loaded = lists::load(l.mode, &l.vertices, &l.edges, LIBRARY, room);
+        let said = calls::load(mode, &self.lend(&l.vertices), &self.lend(&l.edges), &mut ids, &mut oo, &mut ot, &mut io, &mut is);
+        let loaded = lists::load(mode, &l.vertices, &l.edges, LIBRARY, room);
         let right = loaded.as_ref().map_or_else(|r| refused(*r), |g| (g.ids.len() * 10_000_000 + g.arcs()) as u64);
-        let story = || format!("load {}\n{:?}\n{:?}", l.mode, text(&l.vertices), text(&l.edges));
+        let story = || format!("load {}\n{:?}\n{:?}", mode, text(&l.vertices), text(&l.edges));
         assert_eq!(said, right, "{}", story());
         let stored = loaded.ok().map(|g| Lent::of(&g));
         let g = stored.as_ref();

@@ -72,6 +72,15 @@ pub fn lists(dice: &mut Dice) -> Lists {
     Lists { mode, vertices, edges }
 }
 
+/// The mode of the lists, or at times one that is unknown.
+pub fn mode(dice: &mut Dice, right: u64) -> u64 {
+    if dice.one_in(30) {
+        *dice.pick(&[2, 3, 1 << 32, u64::MAX])
+    } else {
+        right
+    }
+}
+
 /// One damage: a byte changed, left out or put in, a line twice, exchanged or gone, the end cut off.
 pub fn damage(dice: &mut Dice, file: &mut Vec<u8>) {
     const BYTES: &[u8] = b"0123456789-+. e\n\r\t/x\0\xff";

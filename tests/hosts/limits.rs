@@ -1,6 +1,6 @@
 //! The engine at its limits, through the Rust crate: what the paper says to run, and each limit passed by one.
 
-use trace_engine::{calls, verdict, Book, File, Graph, Kernel, Mode, Reason, Refusal, Verdict};
+use trace_engine::{calls, given, verdict, Book, File, Graph, Kernel, Mode, Reason, Refusal, Verdict};
 
 fn vertices(n: usize) -> Vec<u8> {
     (0..n).map(|i| format!("{}\n", i)).collect::<String>().into_bytes()
@@ -16,6 +16,11 @@ fn edges(n: usize, count: usize) -> Vec<u8> {
         text.push_str(&format!("{} {}\n", u, v));
     }
     text.into_bytes()
+}
+
+/// A claim of n lines: each vertex its own number.
+fn claim(n: usize) -> Vec<u8> {
+    (0..n).map(|i| format!("{} {}\n", i, i)).collect::<String>().into_bytes()
 }
 
 fn refused(reason: Reason, file: File, line: u64) -> Refusal {
@@ -39,6 +44,27 @@ fn main() {
     stray.push(b'x');
     assert_eq!(Graph::load(Mode::Directed, &stray, b""), Err(refused(Reason::TooMany, File::Vertices, 65_537)));
 
+    // 65,536 claim lines are read, one more is 1 at that line, whatever the kernel and whatever stands in it
+    let alone = Graph::load(Mode::Directed, &full, b"").unwrap();
+    let (lines, line_more) = (claim(65_536), claim(65_537));
+    assert_eq!(alone.judge(Kernel::Cdlp(0), &lines), Ok(Verdict::Match));
+    assert_eq!(alone.judge(Kernel::Cdlp(0), &lines[..lines.len() - "65535 65535\n".len()]), Ok(Verdict::Incomplete(65_536)));
+    assert_eq!(alone.judge(Kernel::Bfs(0), &lines), Ok(Verdict::Mismatch(2)));
+    assert_eq!(alone.judge(Kernel::Lcc, &lines), Ok(Verdict::Mismatch(2)));
+    for kernel in [Kernel::Bfs(0), Kernel::Wcc, Kernel::Cdlp(0), Kernel::Lcc] {
+        assert_eq!(alone.judge(kernel, &line_more), Err(refused(Reason::TooMany, File::Claim, 65_537)));
+        assert_eq!(alone.judge(kernel, &[&lines[..], b"x"].concat()), Err(refused(Reason::TooMany, File::Claim, 65_537)));
+    }
+
+    // a mode that is neither 0 nor 1: 12 before anything else, and all five areas are zero
+    for mode in [2, 3, 1 << 32, u64::MAX] {
+        let mut ids = [7; 3];
+        let (mut oo, mut ot, mut io, mut is) = ([7; 4], [7; 5], [7; 6], [7; 1]);
+        let said = given(calls::load(mode, b"1\nx\n", b"1 1", &mut ids, &mut oo, &mut ot, &mut io, &mut is));
+        assert_eq!(said, Err(refused(Reason::UnknownNumber, File::None, 0)));
+        assert_eq!((ids, oo, ot, io, is), ([0; 3], [0; 4], [0; 5], [0; 6], [0; 1]));
+    }
+
     // 1,048,576 edges load, one more is 1 at that line
     let many = edges(65_536, 1_048_577);
     let last = many[..many.len() - 1].iter().rposition(|&b| b == b'\n').unwrap() + 1;
@@ -54,7 +80,6 @@ fn main() {
 
     // the host verdict's limits: 1,024 vertices, 2,048 edges, 1,024 claim lines
     let desk = vertices(1_024);
-    let claim = |n: usize| (0..n).map(|i| format!("{} {}\n", i, i)).collect::<String>().into_bytes();
     assert_eq!(verdict(Mode::Directed, &desk, b"", Kernel::Wcc, &claim(1_024)), Ok(Verdict::Match));
     assert_eq!(verdict(Mode::Directed, &vertices(1_025), b"", Kernel::Wcc, b""), Err(refused(Reason::TooMany, File::Vertices, 1_025)));
     assert_eq!(verdict(Mode::Directed, &desk, &edges(1_024, 2_049), Kernel::Wcc, b""), Err(refused(Reason::TooMany, File::Edges, 2_049)));

@@ -1,5 +1,7 @@
-//! The boundary: the library's functions as `trace.h` declares them, and one thin wrapper each that lends slices as pointers and lengths. The library
-//! reads and writes only inside what it is lent and answers on every content, so every wrapper is safe on every input.
+//! The boundary: the library's functions as `trace.h` declares them, and one thin wrapper each that lends slices as pointers and lengths.
+//! The library reads and writes only inside what it is lent and answers on every content, so every wrapper is safe on every input. Each
+//! answers the coded number. The crate's `given` reads it, or `judged` that of `judge`; `verdict`, which has another unit, is read by the
+//! crate's function of that name.
 
 #[derive(Clone, Copy, Debug, PartialEq, Eq)]
 pub struct Size {

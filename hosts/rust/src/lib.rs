@@ -1,4 +1,5 @@
-//! Safe calls of the tracing engine. The functions own every area that the engine works in; a refusal comes back as an enum with a text.
+//! Safe calls of the tracing engine. The functions own every area that the engine works in; a refusal comes back as an error with a text,
+//! and a verdict as a value: a claim that is wrong was judged and not refused.
 
 pub mod calls;
 
@@ -22,7 +23,8 @@ pub enum Reason {
 }
 
 impl Reason {
-    fn of(number: u64) -> Reason {
+    /// The reason of a refusal's number, 1 to 12; any other number is no refusal's.
+    fn of(number: u64) -> Option<Reason> {
         use Reason::*;
         let all = [
             TooMany,
@@ -38,7 +40,7 @@ impl Reason {
             BadRounds,
             UnknownNumber,
         ];
-        all[number as usize - 1]
+        all.into_iter().find(|&reason| reason as u64 == number)
     }
 
     /// What is wrong, in a sentence.
@@ -112,35 +114,39 @@ struct Answer {
     rest: u64,
 }
 
-fn apart(coded: u64, unit: u64) -> Answer {
-    Answer { number: coded / unit, file: coded / (unit / 10) % 10, rest: coded % (unit / 10) }
-}
-
 /// The unit of the calls at library limits, and that of the host verdict.
 const LIBRARY: u64 = 1_000_000_000_000_000;
 const HOST: u64 = 1_000_000;
 
-fn refusal(a: &Answer) -> Refusal {
-    Refusal { reason: Reason::of(a.number), file: File::of(a.file), line: a.rest }
-}
-
-/// The values of an accepted call, or its refusal.
-fn given(coded: u64) -> Result<u64, Refusal> {
-    let a = apart(coded, LIBRARY);
-    if a.number == 0 {
-        Ok(a.rest)
-    } else {
-        Err(refusal(&a))
+/// A coded answer taken apart, or the refusal that it is.
+fn apart(coded: u64, unit: u64) -> Result<Answer, Refusal> {
+    let a = Answer { number: coded / unit, file: coded / (unit / 10) % 10, rest: coded % (unit / 10) };
+    match Reason::of(a.number) {
+        Some(reason) => Err(Refusal { reason, file: File::of(a.file), line: a.rest }),
+        None => Ok(a),
     }
 }
 
-fn judged(coded: u64, unit: u64) -> Result<Verdict, Refusal> {
-    let a = apart(coded, unit);
-    match a.number {
-        0 => Ok(Verdict::Match),
-        20 => Ok(Verdict::Incomplete(a.rest)),
-        21 => Ok(Verdict::Mismatch(a.rest)),
-        _ => Err(refusal(&a)),
+/// The values that a call of `calls` gives at library limits, or its refusal. The answer of `calls::judge` has none: `judged` is for that,
+/// and this panics on its verdicts.
+pub fn given(coded: u64) -> Result<u64, Refusal> {
+    let a = apart(coded, LIBRARY)?;
+    assert_eq!((a.number, a.file), (0, 0), "a verdict, which `judged` reads");
+    Ok(a.rest)
+}
+
+/// The verdict that `calls::judge` answers, or its refusal.
+pub fn judged(coded: u64) -> Result<Verdict, Refusal> {
+    judged_in(coded, LIBRARY)
+}
+
+fn judged_in(coded: u64, unit: u64) -> Result<Verdict, Refusal> {
+    let a = apart(coded, unit)?;
+    match (a.number, a.file) {
+        (0, 3) => Ok(Verdict::Match),
+        (20, 3) => Ok(Verdict::Incomplete(a.rest)),
+        (21, 3) => Ok(Verdict::Mismatch(a.rest)),
+        _ => panic!("no verdict's number and file: {} and {}", a.number, a.file),
     }
 }
 
@@ -173,7 +179,7 @@ impl Kernel {
 /// The verdict on a claim at desk limits, straight from the bytes of the two lists and the claim.
 pub fn verdict(mode: Mode, vertices: &[u8], edges: &[u8], kernel: Kernel, claim: &[u8]) -> Result<Verdict, Refusal> {
     let (number, parameter) = kernel.numbers();
-    judged(calls::verdict(vertices, edges, claim, mode as u64, number, parameter), HOST)
+    judged_in(calls::verdict(vertices, edges, claim, mode as u64, number, parameter), HOST)
 }
 
 /// A loaded graph.
@@ -281,7 +287,7 @@ impl Graph {
         Ok(numerators.into_iter().zip(denominators).collect())
     }
 
-    /// The verdict on a claim of this kernel's result.
+    /// The verdict on a claim of this kernel's result. For `Kernel::Wcc` it compares each line of a complete claim with every earlier one.
     pub fn judge(&self, kernel: Kernel, claim: &[u8]) -> Result<Verdict, Refusal> {
         let (number, parameter) = kernel.numbers();
         let mut areas = calls::Areas {
@@ -291,7 +297,7 @@ impl Graph {
             second: &mut self.area(),
             third: &mut self.area(),
         };
-        judged(calls::judge(&self.lent(), number, parameter, claim, &mut areas), LIBRARY)
+        judged(calls::judge(&self.lent(), number, parameter, claim, &mut areas))
     }
 }
 
