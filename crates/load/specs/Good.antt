@@ -1,4 +1,4 @@
--- 01 "Lists": the files that a load accepts, said of their bytes and of the identifiers in them, with no word on how they are read.
+-- 01 "Lists": the files that a load accepts, and why it refuses others, said of their bytes and of the identifiers in them, with no word on how they are read.
 use Prim.Native.Nat.{ℕ, _≤_, _<_}
 use mathlib.Core.Path.{_≡_}
 use mathlib.Core.Bool.{Bool, true, false, not, _&&_, _||_}
@@ -6,18 +6,20 @@ use mathlib.Core.List.{List, [], _∷_}
 use lib.IntN.{ℤ}
 use lib.ListN.{length}
 use lib.Signed.{ltZ}
+use Rattle.basis.specs.declared.refusal.Refusal.{Refusal}
+use Rattle.basis.specs.Refusal.{plain, noRoom, unknownNumber, vertexFile, edgeFile}
 use Rattle.basis.specs.Order.{sameZ, risingBy, risingZ}
 use Rattle.basis.specs.Scan.{each}
 use Rattle.text.specs.Word.{identOf}
 use Rattle.text.specs.Line.{twoOf}
-use Rattle.text.specs.File.{FileSays}
+use Rattle.text.specs.File.{FileSays, FirstFault}
 use Rattle.graph.specs.declared.Size.{Size}
 use Rattle.graph.specs.Arcs.{arcs}
 use Rattle.graph.specs.Sound.{Graph, lent}
 use Rattle.graph.specs.Find.{placeIn, isThere}
 use Rattle.load.specs.declared.Limits.{Limits}
-use Rattle.lists.specs.Files.{abovePair, allNumbered}
-use Rattle.load.specs.Load.{Lists, Room, isUndirected, Outcome}
+use Rattle.lists.specs.Files.{vertexTest, abovePair, edgeTest, allNumbered}
+use Rattle.load.specs.Load.{Lists, Room, isUndirected, vertexRoom, arcRoom, Outcome}
 
 -- a vertex file that lists the identifiers: at most so many, "Vertex lines strictly rise as signed numbers."
 pub record GoodVertices (most : ℕ) (s : List ℕ) (ids : List ℤ) : Type 0 where
@@ -47,6 +49,22 @@ pub record GoodLoad (limits : Limits) (mode : ℕ) (room : Room) (vertices edges
   pub arcsAre : g .arcs ≡ arcs (isUndirected mode) (allNumbered (placeIn (g .ids)) list)
   pub outTargetsFit : length (g .arcs) ≤ room .outTargets
   pub inSourcesFit : length (g .arcs) ≤ room .inSources
+
+-- why a load is refused, in the "Order of checks": the mode (12); the vertex file's first fault; "room for identifiers (n places) and offsets (n+1 places each
+-- way)" (8); the edge file's first fault; "room for the arcs each way" (8)
+pub data RefusedLoad (limits : Limits) (mode : ℕ) (room : Room) (vertices edges : List ℕ) (r : Refusal) : Type 0 where
+  unknownMode : 1 < mode → r ≡ plain unknownNumber → RefusedLoad limits mode room vertices edges r
+  vertexFault : mode ≤ 1 → FirstFault identOf vertexFile (limits .vertices) vertexTest vertices r → RefusedLoad limits mode room vertices edges r
+  noPlaces : mode ≤ 1 → (ids : List ℤ) → GoodVertices (limits .vertices) vertices ids
+      → vertexRoom (room .ids) (room .outOffsets) (room .inOffsets) (length ids) ≡ false → r ≡ plain noRoom → RefusedLoad limits mode room vertices edges r
+  edgeFault : mode ≤ 1 → (ids : List ℤ) → GoodVertices (limits .vertices) vertices ids
+      → vertexRoom (room .ids) (room .outOffsets) (room .inOffsets) (length ids) ≡ true
+      → FirstFault (twoOf identOf identOf) edgeFile (limits .edges) (edgeTest (isUndirected mode) (placeIn ids)) edges r → RefusedLoad limits mode room vertices edges r
+  noArcs : mode ≤ 1 → (ids : List ℤ) → GoodVertices (limits .vertices) vertices ids
+      → vertexRoom (room .ids) (room .outOffsets) (room .inOffsets) (length ids) ≡ true
+      → (list : List (ℤ × ℤ)) → GoodEdges (isUndirected mode) (limits .edges) ids edges list
+      → arcRoom (room .outTargets) (room .inSources) (length (arcs (isUndirected mode) (allNumbered (placeIn ids) list))) ≡ false
+      → r ≡ plain noRoom → RefusedLoad limits mode room vertices edges r
 
 -- the edge from a to b is listed
 unfoldable pub hasEdge : List (ℤ × ℤ) → ℤ → ℤ → Bool
