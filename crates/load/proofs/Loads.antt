@@ -1,5 +1,5 @@
 -- Laws of a whole load: from the vertex file and the edge file to the five areas. Assumes nothing.
-use Prim.Native.Nat.{ℕ, _-_, _≤_, _<_}
+use Prim.Native.Nat.{ℕ, _-_, _≤_, _<_, min}
 use mathlib.Core.Path.{_≡_, refl, sym, ap, ap₂, subst, _∙_}
 use mathlib.Core.Bool.{Bool, true, false, cond, _&&_}
 use mathlib.Core.List.{List, [], _∷_}
@@ -16,7 +16,9 @@ use Rattle.basis.specs.Area.{padZ}
 use Rattle.basis.specs.Order.{aboveBy, risingZ}
 use Rattle.basis.proofs.Tests.{and-first, and-second, and-both, and-off, no-case}
 use Rattle.basis.proofs.Saids.{said-gives, said-refuses}
-use Rattle.text.specs.Line.{vertexLine}
+use Rattle.text.specs.Word.{identOf}
+use Rattle.text.specs.File.{first, after, Passes}
+use Rattle.text.proofs.Files.{file-accepted}
 use Rattle.graph.specs.declared.Size.{Size}
 use Rattle.graph.specs.Arcs.{Arc, arcs}
 use Rattle.load.specs.declared.Limits.{Limits}
@@ -24,13 +26,10 @@ use Rattle.load.specs.declared.Loaded.{Loaded}
 use Rattle.load.specs.declared.Loaded.the-variants as L
 use Rattle.lists.specs.declared.Listed.{Listed}
 use Rattle.lists.specs.declared.Listed.the-variants.{Lines, Refused}
-use Rattle.lists.specs.Lines.{linesOf, first, after}
 use Rattle.lists.specs.Files.{vertexTest, identifiers}
 use Rattle.lists.specs.Calls.{listedSays, Vertexes, vertexOutcome, idsArea, vertexCall}
-use Rattle.load.specs.Load.{Room, roomOf, vertexRoom, arcsRead, listsRead, loaded, Outcome, outcome, outcomeOf, loadCall}
+use Rattle.load.specs.Load.{Room, roomOf, vertexRoom, arcsRead, listsRead, loaded, Outcome, outcome, outcomeOf, loadCall, library, capped}
 use Rattle.load.specs.Steps.{Blank, Filled, filled, filledBy, filledLeft, outcomeBy, outcomeLeft, Emptied}
-use Rattle.load.specs.Good.{Passes}
-use Rattle.load.proofs.Values.{values-accepted}
 
 -- ---- places for identifiers and offsets
 module _ (n ids oo io : ℕ) where
@@ -144,7 +143,7 @@ module _ (limits : Limits) (mode : ℕ) (v e : List ℕ) (ids : List ℤ) (oo ot
           fill-blank =
               record {
                 rise = subst (λ (l : List ℤ). risingZ l ≡ true) (sym lent)
-                    (ids-rise list (values-accepted vertexFile (limits .vertices) vertexTest 0 first (linesOf vertexLine v) list (taken .1) (omega arith) .passes));
+                    (ids-rise list (file-accepted identOf vertexFile (limits .vertices) vertexTest v list .0 (taken .1) .pass));
                 places = let l = ltb-true n (length oo) (and-first (ltb n (length oo)) (ltb n (length io)) both-fit) in omega (arith, lent-long);
                 backPlaces = let l = ltb-true n (length io) (and-second (ltb n (length oo)) (ltb n (length io)) both-fit) in omega (arith, lent-long);
               }
@@ -159,22 +158,28 @@ module _ (limits : Limits) (mode : ℕ) (v e : List ℕ) (ids : List ℤ) (oo ot
               (five-areas room list a padded r oo′ ot′ io′ is′ (arcsRead (eqb mode 0) (limits .edges) list e (length ot) (length is))
               (g ∙ ap (λ (l : List ℤ). said (filledBy (length l) (length oo) (length ot) (length io) (length is)) (arcsRead (eqb mode 0) (limits .edges) l e (length ot) (length is))) lent))
 
+-- ---- the limits
+pub capped-both : (limits : Limits) (v e : ℕ) → v ≡ min (limits .vertices) (library .vertices) → e ≡ min (limits .edges) (library .edges)
+    → _≡_ {A = Limits} (record { vertices = v; edges = e }) (capped limits)
+capped-both limits v e p q = cc
+
 -- ---- the whole call: filled, and cleared where it was refused
 module _ (limits : Limits) (mode : ℕ) (v e : List ℕ) (ids : List ℤ) (oo ot io is : List ℕ) (x : Loaded) (ids₁ : List ℤ) (oo₁ ot₁ io₁ is₁ : List ℕ)
     (told : outcomeLeft x ids₁ oo₁ ot₁ io₁ is₁
-    ≡ said (outcomeBy (roomOf (length ids) (length oo) (length ot) (length io) (length is))) (loaded limits mode (roomOf (length ids) (length oo) (length ot) (length io) (length is)) v e)) where
+    ≡ said (outcomeBy (roomOf (length ids) (length oo) (length ot) (length io) (length is))) (loaded limits mode (roomOf (length ids) (length oo) (length ot) (length io) (length is)) v e))
+    (most : Limits) (cap : limits ≡ most) where
   abbrev wide : Room
   wide = roomOf (length ids) (length oo) (length ot) (length io) (length is)
 
-  pub load-graph : (size : Size) → x ≡ L.Graph size → outcome (gives size) ids₁ oo₁ ot₁ io₁ is₁ ≡ loadCall limits mode wide v e
+  pub load-graph : (size : Size) → x ≡ L.Graph size → outcome (gives size) ids₁ oo₁ ot₁ io₁ is₁ ≡ loadCall most mode wide v e
   unfolding loadCall
   load-graph size q =
       let g = said-gives (outcomeBy wide) (loaded limits mode wide v e) (outcome (gives size) ids₁ oo₁ ot₁ io₁ is₁) (ap (λ y. outcomeLeft y ids₁ oo₁ ot₁ io₁ is₁) (sym q) ∙ told) in
-      g .2 ∙ ap (outcomeOf wide) (sym (g .1))
+      g .2 ∙ ap (outcomeOf wide) (sym (g .1)) ∙ ap (λ l. loadCall l mode wide v e) cap
 
   pub load-refused : (r : Refusal) → x ≡ L.Refused r → length ids₁ ≡ length ids → length oo₁ ≡ length oo → length ot₁ ≡ length ot → length io₁ ≡ length io → length is₁ ≡ length is
-      → (ids₂ : List ℤ) (oo₂ ot₂ io₂ is₂ : List ℕ) → Emptied ids₁ oo₁ ot₁ io₁ is₁ ids₂ oo₂ ot₂ io₂ is₂ → outcome (refuses r) ids₂ oo₂ ot₂ io₂ is₂ ≡ loadCall limits mode wide v e
+      → (ids₂ : List ℤ) (oo₂ ot₂ io₂ is₂ : List ℕ) → Emptied ids₁ oo₁ ot₁ io₁ is₁ ids₂ oo₂ ot₂ io₂ is₂ → outcome (refuses r) ids₂ oo₂ ot₂ io₂ is₂ ≡ loadCall most mode wide v e
   unfolding loadCall outcomeOf
   load-refused r q li loo lot lio lis ids₂ oo₂ ot₂ io₂ is₂ f =
       let g = said-refuses (outcomeBy wide) (loaded limits mode wide v e) r (ap (λ y. outcomeLeft y ids₁ oo₁ ot₁ io₁ is₁) (sym q) ∙ told) in
-      rw (f .emptyIds, f .emptyOutOffsets, f .emptyOutTargets, f .emptyInOffsets, f .emptyInSources, li, loo, lot, lio, lis) (ap (outcomeOf wide) (sym g))
+      rw (f .emptyIds, f .emptyOutOffsets, f .emptyOutTargets, f .emptyInOffsets, f .emptyInSources, li, loo, lot, lio, lis) (ap (outcomeOf wide) (sym g) ∙ ap (λ l. loadCall l mode wide v e) cap)

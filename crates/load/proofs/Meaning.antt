@@ -1,25 +1,30 @@
--- What a load means: the graph that it stores is sound, its parts are the arcs of the edge file, and a refused file is refused at its first line at fault.
+-- What a load means: it is refused by the first check that fails, a file at its first fault; the graph that it stores is sound, and its parts are the arcs
+-- of the edge file.
 -- Assumes nothing.
-use Prim.Native.Nat.{ℕ, zero, suc, _+_, _-_, _≤_, _<_}
+use Prim.Native.Nat.{ℕ, _+_, _-_, _≤_, _<_}
 use mathlib.Core.Path.{_≡_, refl, sym, ap, subst, _∙_}
-use mathlib.Core.Bool.{Bool, true, false, cond, _&&_, _||_}
+use mathlib.Core.Logic.{_↔_, _⊎_, inl, inr}
+use mathlib.Core.Bool.{Bool, true, false, _&&_, _||_}
 use mathlib.Core.List.{List, [], _∷_}
 use native.Mathlib.Omega.{arith}
-use borrow.Author.Tests.{le-leb}
-use lib.ListN.{length, getD, drop, replicate}
+use borrow.Author.Tests.{le-leb, lt-leb, leb-true, leb-false}
+use lib.ListN.{length, getD, replicate}
 use lib.Seq.{take-at}
 use lib.Dec.{eqb, leb}
 use lib.IntN.{ℤ, pos}
-use Rattle.basis.specs.Refusal.{gives, refuses, vertexFile, edgeFile, said}
+use Rattle.basis.specs.Refusal.{Said, gives, refuses, plain, noRoom, unknownNumber, vertexFile, edgeFile, onward, said, check}
 use Rattle.basis.specs.declared.refusal.Refusal.{Refusal}
 use Rattle.basis.specs.Area.{padZ}
 use Rattle.basis.specs.Order.{sameZ, risingZ}
 use Rattle.basis.specs.Scan.{each, mem}
-use Rattle.basis.proofs.Tests.{and-first, and-second, and-both, no-case, eqb-swap, and-swap}
+use Rattle.basis.proofs.Tests.{and-first, and-second, and-both, eqb-swap, and-swap}
+use Rattle.basis.proofs.Saids.{refused-given, said-refuses}
 use Rattle.basis.proofs.Areas.{pad-length}
 use Rattle.basis.proofs.Orders.{signed-order, same-places}
-use Rattle.text.specs.Word.{Word, malformed, outside, value, identOf}
-use Rattle.text.specs.Line.{LineSaid, line, none, fault, lf, upTo, lineSays, lineBy, twoOf, vertexLine, edgeLine}
+use Rattle.text.specs.Word.{identOf}
+use Rattle.text.specs.Line.{twoOf}
+use Rattle.text.specs.File.{FirstFault}
+use Rattle.text.proofs.Files.{file-refused}
 use Rattle.graph.specs.Arcs.{Arc, arcs}
 use Rattle.graph.specs.Find.{placeIn, isThere}
 use Rattle.graph.specs.Sound.{Graph, outward, inward, soundIds, soundGraph}
@@ -27,51 +32,97 @@ use Rattle.store.proofs.Fits.{arc-count}
 use Rattle.store.proofs.Order.{Valid}
 use Rattle.store.proofs.Meaning.{hasArc, storedGraph, stored-sound, stored-outward, stored-inward}
 use Rattle.load.specs.declared.Limits.{Limits}
-use Rattle.lists.specs.Lines.{good, bad, linesFrom, linesOf, first}
 use Rattle.lists.specs.Files.{vertexTest, identifiers, numberOf, edgeTest, edgesOf, numbered, allNumbered}
-use Rattle.load.specs.Load.{Lists, Room, isUndirected, sizeOf, loaded, Outcome, outcomeOf, loadCall}
+use Rattle.load.specs.Load.{Lists, Room, isUndirected, vertexRoom, arcRoom, withRoom, arcsRead, listsRead, sizeOf, loaded, Outcome, outcomeOf, loadCall, capped}
 use Rattle.store.specs.Spread.{arcCount}
-use Rattle.load.specs.Good.{GoodEdges, GoodLoad, hasEdge, listsArc, graphLeft, FirstFault}
-use Rattle.load.proofs.Values.{Numbered, values-accepted, values-refused}
-use Rattle.load.proofs.Valids.{there, valid-edges}
+use Rattle.load.specs.Good.{GoodVertices, GoodEdges, GoodLoad, RefusedLoad, unknownMode, vertexFault, noPlaces, edgeFault, noArcs, hasEdge, listsArc, graphLeft}
+use Rattle.load.proofs.Valids.{there, valid-file}
 use Rattle.load.proofs.Arranges.{length-numbered}
-use Rattle.load.proofs.Accepts.{edges-accepted, load-accepted}
+use Rattle.load.proofs.Accepts.{vertices-accepted, edges-accepted, load-accepted}
 
 -- ---- a refused file
-module _ {A : Type 0} (word : List ℕ → Word A) (s : List ℕ) where
-  fault-number : (place n p : ℕ) → lineBy word s place ≡ fault n p → n ≡ 0 → ⊥
-  unfolding lineBy
-  fault-number place n p e z = go (leb (length s) place) (mem lf (drop place s)) e
+-- a vertex file is refused exactly at its first fault, said of its bytes
+pub vertices-refused : (most : ℕ) (s : List ℕ) (r : Refusal) → (identifiers most s ≡ refuses r) ↔ FirstFault identOf vertexFile most vertexTest s r
+vertices-refused most s r = file-refused identOf vertexFile most vertexTest s r
+
+-- an edge file is refused exactly at its first fault, said of its bytes
+pub edges-refused : (both : Bool) (most : ℕ) (ids : List ℤ) (s : List ℕ) (r : Refusal)
+    → (edgesOf both most (placeIn ids) s ≡ refuses r) ↔ FirstFault (twoOf identOf identOf) edgeFile most (edgeTest both (placeIn ids)) s r
+edges-refused both most ids s r = file-refused (twoOf identOf identOf) edgeFile most (edgeTest both (placeIn ids)) s r
+
+-- ---- a refused load
+room-refused : {A : Type 0} (t : Bool) (x : A) (r : Refusal) → withRoom t x ≡ refuses r → (t ≡ false) × (r ≡ plain noRoom)
+room-refused true x r e = refused-given (sym e)
+room-refused false x r e = (refl, (cc))
+
+onward-refused : {A B : Type 0} (s : Said A) (f : A → Said B) (r : Refusal) → onward s f ≡ refuses r → (s ≡ refuses r) ⊎ ((x : A) × (s ≡ gives x) × (f x ≡ refuses r))
+onward-refused (gives x) f r e = inr (x, refl, e)
+onward-refused (refuses q) f r e = inl (cc)
+
+module _ (limits : Limits) (mode : ℕ) (room : Room) (vertices edges : List ℕ) (r : Refusal) where
+  abbrev Why : Type 0
+  Why = RefusedLoad limits mode room vertices edges r
+
+  abbrev hasPlaces : List ℤ → Bool
+  hasPlaces ids = vertexRoom (room .ids) (room .outOffsets) (room .inOffsets) (length ids)
+
+  abbrev arcsOf : List ℤ → List (ℤ × ℤ) → List Arc
+  arcsOf ids list = arcs (isUndirected mode) (allNumbered (placeIn ids) list)
+
+  abbrev hasArcs : List ℤ → List (ℤ × ℤ) → Bool
+  hasArcs ids list = arcRoom (room .outTargets) (room .inSources) (length (arcsOf ids list))
+
+  abbrev edgesSaid : List ℤ → Said (List (ℤ × ℤ))
+  edgesSaid ids = edgesOf (isUndirected mode) (limits .edges) (placeIn ids) edges
+
+  abbrev arcsSaid : List ℤ → Said (List Arc)
+  arcsSaid ids = arcsRead (isUndirected mode) (limits .edges) ids edges (room .outTargets) (room .inSources)
+
+  abbrev listsSaid : List ℤ → Said Lists
+  listsSaid ids = said (λ l. record { ids = ids; arcs = l }) (arcsSaid ids)
+
+  module _ (m : mode ≤ 1) (ids : List ℤ) (v : GoodVertices (limits .vertices) vertices ids) where
+    from-edges : hasPlaces ids ≡ true → arcsSaid ids ≡ refuses r → Why
+    unfolding arcsRead
+    from-edges p e = by (onward-refused (edgesSaid ids) _ r e)
+      where
+        by : (edgesSaid ids ≡ refuses r) ⊎ ((list : List (ℤ × ℤ)) × (edgesSaid ids ≡ gives list) × (withRoom (hasArcs ids list) (arcsOf ids list) ≡ refuses r)) → Why
+        by (inl f) = edgeFault m ids v p (edges-refused (isUndirected mode) (limits .edges) ids edges r .0 f)
+        by (inr k) =
+            let w = room-refused (hasArcs ids (k .0)) (arcsOf ids (k .0)) r (k .2) in
+            noArcs m ids v p (k .0) (edges-accepted (isUndirected mode) (limits .edges) ids edges (k .0) .0 (k .1)) (w .0) (w .1)
+
+    from-places : (t : Bool) → hasPlaces ids ≡ t → onward (withRoom t ids) listsSaid ≡ refuses r → Why
+    from-places true p e = from-edges p (said-refuses (λ l. record { ids = ids; arcs = l }) (arcsSaid ids) r (sym e))
+    from-places false p e = noPlaces m ids v p (cc)
+
+  refused-why : (t : Bool) → leb mode 1 ≡ t → check t unknownNumber (listsRead limits (isUndirected mode) room vertices edges) ≡ refuses r → Why
+  unfolding listsRead
+  refused-why false q e = unknownMode (leb-false mode 1 q) (cc)
+  refused-why true q e = by (onward-refused (identifiers (limits .vertices) vertices) _ r e)
     where
-      says : (x : Word A) (next : ℕ) → lineSays place next x ≡ fault n p → ⊥
-      says malformed next h = let a : 2 ≡ n = cc in omega arith
-      says outside next h = let a : 3 ≡ n = cc in omega arith
-      says (value v) next h = no-case cc
+      m : mode ≤ 1
+      m = leb-true mode 1 q
 
-      go : (t u : Bool) → cond t (none place) (cond u (lineSays place (place + length (upTo lf (drop place s)) + 1) (word (upTo lf (drop place s)))) (fault 2 place)) ≡ fault n p → ⊥
-      go true u h = no-case cc
-      go false true h = says (word (upTo lf (drop place s))) (place + length (upTo lf (drop place s)) + 1) h
-      go false false h = let a : 2 ≡ n = cc in omega arith
+      by : (identifiers (limits .vertices) vertices ≡ refuses r)
+          ⊎ ((ids : List ℤ) × (identifiers (limits .vertices) vertices ≡ gives ids) × (onward (withRoom (hasPlaces ids) ids) listsSaid ≡ refuses r)) → Why
+      by (inl f) = vertexFault m (vertices-refused (limits .vertices) vertices r .0 f)
+      by (inr k) = from-places m (k .0) (vertices-accepted (limits .vertices) vertices (k .0) .0 (k .1)) (hasPlaces (k .0)) refl (k .2)
 
-  lines-numbered : (m place : ℕ) → Numbered (linesFrom (lineBy word s) m place)
-  unfolding linesFrom
-  lines-numbered zero place = tt
-  lines-numbered (suc m) place = go (lineBy word s place) refl (lines-numbered m)
-    where
-      go : (x : LineSaid A) → lineBy word s place ≡ x → ((next : ℕ) → Numbered (linesFrom (lineBy word s) m next))
-          → Numbered {A = A} (elim x [ line v next ↦ good v ∷ linesFrom (lineBy word s) m next | none p ↦ [] | fault n p ↦ bad n ∷ [] ])
-      go (line v next) q f = f next
-      go (none p) q f = tt
-      go (fault n p) q f = fault-number place n p q
+  why-refused : Why → loaded limits mode room vertices edges ≡ refuses r
+  unfolding loaded listsRead arcsRead
+  why-refused (unknownMode m e) = rw (lt-leb mode 1 m, e)
+  why-refused (vertexFault m f) = rw (le-leb mode 1 m, vertices-refused (limits .vertices) vertices r .1 f)
+  why-refused (noPlaces m ids v p e) = rw (le-leb mode 1 m, vertices-accepted (limits .vertices) vertices ids .1 v, p, e)
+  why-refused (edgeFault m ids v p f) =
+      rw (le-leb mode 1 m, vertices-accepted (limits .vertices) vertices ids .1 v, p, edges-refused (isUndirected mode) (limits .edges) ids edges r .1 f)
+  why-refused (noArcs m ids v p list g k e) =
+      rw (le-leb mode 1 m, vertices-accepted (limits .vertices) vertices ids .1 v, p, edges-accepted (isUndirected mode) (limits .edges) ids edges list .1 g, k, e)
 
--- "loading is refused at the first line at fault", of either file
-pub vertices-refused : (most : ℕ) (s : List ℕ) (r : Refusal) → identifiers most s ≡ refuses r → FirstFault vertexFile most vertexTest 0 first (linesOf vertexLine s) r
-vertices-refused most s r h = values-refused vertexFile most vertexTest 0 first (linesOf vertexLine s) r (lines-numbered identOf s (suc (length s)) 0) h
-
-pub edges-refused : (both : Bool) (most : ℕ) (ids : List ℤ) (s : List ℕ) (r : Refusal) → edgesOf both most (placeIn ids) s ≡ refuses r
-    → FirstFault edgeFile most (edgeTest both (placeIn ids)) 0 first (linesOf edgeLine s) r
-edges-refused both most ids s r h =
-    values-refused edgeFile most (edgeTest both (placeIn ids)) 0 first (linesOf edgeLine s) r (lines-numbered (twoOf identOf identOf) s (suc (length s)) 0) h
+  -- a load is refused exactly by the first check that fails, in the order of 01
+  pub load-refused : (loaded limits mode room vertices edges ≡ refuses r) ↔ RefusedLoad limits mode room vertices edges r
+  unfolding loaded
+  load-refused = (λ h. refused-why (leb mode 1) refl h, why-refused)
 
 -- ---- the arcs of an edge list, by identifiers
 or-four : (a b c d : Bool) → (a || (b || (c || d))) ≡ ((a || c) || (b || d))
@@ -146,15 +197,14 @@ module _ (limits : Limits) (mode : ℕ) (room : Room) (vertices edges : List ℕ
 
   valid : Valid both (length (g .ids)) es
   valid =
-      valid-edges (g .ids) (ok .goodVertices .rise) both first (ok .list)
-      (values-accepted edgeFile (limits .edges) (edgeTest both (placeIn (g .ids))) 0 first (linesOf edgeLine edges) (ok .list)
-      (edges-accepted both (limits .edges) (g .ids) edges (ok .list) .1 (ok .goodEdges)) (omega arith) .passes)
+      valid-file (g .ids) (ok .goodVertices .rise) both (limits .edges) edges (ok .list)
+      (edges-accepted both (limits .edges) (g .ids) edges (ok .list) .1 (ok .goodEdges))
 
   abbrev stored : Graph
   stored =
       storedGraph (length (g .ids)) (arcs both es) (padZ (room .ids) (g .ids)) (room .outOffsets) (room .outTargets) (room .inOffsets) (room .inSources)
 
-  -- "what it stores": the answer is the graph's size, and the areas hold it
+  -- the answer is the graph's size, and the areas hold it
   pub load-answer : outcome .answer ≡ gives (sizeOf g)
   unfolding loadCall outcomeOf
   load-answer = ap (λ x. said sizeOf x) h
@@ -176,9 +226,8 @@ module _ (limits : Limits) (mode : ℕ) (room : Room) (vertices edges : List ℕ
   in-fits : length (arcs both es) ≤ room .inSources
   in-fits = rw (← ok .arcsAre) (ok .inSourcesFit)
 
-  -- what a load within the library's limits stores is sound
-  pub load-sound : limits .vertices ≤ 65536 → limits .edges ≤ 1048576 → soundGraph graph ≡ true
-  load-sound a b =
+  sound-within : limits .vertices ≤ 65536 → limits .edges ≤ 1048576 → soundGraph graph ≡ true
+  sound-within a b =
       let e = ok .goodEdges .few in
       let v = ok .goodVertices .few in
       let c = arc-count both es in
@@ -194,7 +243,7 @@ module _ (limits : Limits) (mode : ℕ) (room : Room) (vertices edges : List ℕ
       let b = edges-accepted both (limits .edges) (g .ids) edges list .1 fine in
       cc
 
-  -- "w is in u's outward part exactly where the edge file has that arc", and u in w's inward part
+  -- w is in u's outward part exactly where the edge file has that arc, and u in w's inward part
   pub load-outward : (list : List (ℤ × ℤ)) → GoodEdges both (limits .edges) (g .ids) edges list → (u w : ℕ) → u < length (g .ids) → w < length (g .ids)
       → mem w (outward graph u) ≡ listsArc both list (getD (g .ids) u (pos 0)) (getD (g .ids) w (pos 0))
   load-outward list fine u w hu hw =
@@ -212,3 +261,8 @@ module _ (limits : Limits) (mode : ℕ) (room : Room) (vertices edges : List ℕ
       (ok .outOffsetsFit) out-fits (ok .inOffsetsFit) in-fits u w hw
       ∙ has-listed (g .ids) (ok .goodVertices .rise) u w hu hw both (ok .list) (ok .goodEdges .there)
       ∙ ap (λ (l : List (ℤ × ℤ)). listsArc both l (getD (g .ids) u (pos 0)) (getD (g .ids) w (pos 0))) (same-list list fine)
+
+-- what a load stores is sound, whatever limits it is given
+pub load-sound : (limits : Limits) (mode : ℕ) (room : Room) (vertices edges : List ℕ) (g : Lists) → loaded (capped limits) mode room vertices edges ≡ gives g
+    → soundGraph (graphLeft (sizeOf g) (loadCall (capped limits) mode room vertices edges)) ≡ true
+load-sound limits mode room vertices edges g h = sound-within (capped limits) mode room vertices edges g h (omega arith) (omega arith)

@@ -1,5 +1,5 @@
 -- 01 "Lists", "The loaded graph": what a load answers, and what stands in the five areas then.
-use Prim.Native.Nat.{ℕ}
+use Prim.Native.Nat.{ℕ, min}
 use mathlib.Core.Bool.{Bool, _&&_}
 use mathlib.Core.List.{List}
 use lib.IntN.{ℤ, pos}
@@ -57,7 +57,8 @@ arcsRead both most ids s t t′ =
     onward (edgesOf both most (placeIn ids) s)
     (λ es. withRoom (arcRoom t t′ (length (arcs both (allNumbered (placeIn ids) es)))) (arcs both (allNumbered (placeIn ids) es)))
 
--- "the vertex file line by line; room for identifiers and offsets; the edge file line by line; room for the arcs each way"
+-- "the vertex file line by line (1, 2, 3, 4); room for identifiers (n places) and offsets (n+1 places each way); the edge file line by line (1, 2, 3, 5, 6, 4, 7);
+-- room for the arcs each way"
 unfoldable pub listsRead : Limits → Bool → Room → List ℕ → List ℕ → Said Lists
 listsRead limits both room vertices edges =
     onward (identifiers (limits .vertices) vertices)
@@ -106,6 +107,10 @@ loadCall limits mode room vertices edges = outcomeOf room (loaded limits mode ro
 -- "Library limits: 65,536 vertices, 1,048,576 edges"
 abbrev pub library : Limits
 library = record { vertices = mostVertices; edges = 1048576 }
+
+-- "Library limits: 65,536 vertices, 1,048,576 edges" bind every load: a given limit above the library's counts as the library's
+abbrev pub capped : Limits → Limits
+capped limits = record { vertices = min (limits .vertices) (library .vertices); edges = min (limits .edges) (library .edges) }
 
 -- "Desk limits: 1,024 vertices, 2,048 edges"
 abbrev pub desk : Limits

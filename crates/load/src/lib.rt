@@ -6,11 +6,12 @@ use crate::fill::fill;
 use basis::Refusal;
 use basis::area::clear;
 use basis::area::clear_signed;
+use basis::order::lesser;
 use graph::Size;
 use graph::sound::MOST_VERTICES;
 ghost use mathlib.Core.Path.{_≡_};
 ghost use lib.ListN.{length};
-ghost use Rattle.load.specs.Load.{says, roomOf, outcome, loadCall, library};
+ghost use Rattle.load.specs.Load.{says, roomOf, outcome, loadCall, library, capped};
 ghost use Rattle.load.specs.Steps.{Emptied};
 
 // The library's limit of edge lines; the one of vertex lines is the graph's of vertices.
@@ -44,7 +45,18 @@ fn clear_all(
     clear(in_sources);
 }
 
-// The graph of two files whose lines are at most so many: `mode` is 0 for undirected, 1 for directed.
+// The limits of a load: one above the library's counts as the library's.
+fn capped(limits: Limits) -> Limits
+    ensures { λ r. ⌜ r ≡ capped limits ⌝ }
+{
+    Limits {
+        vertices: lesser(limits.vertices, MOST_VERTICES),
+        edges: lesser(limits.edges, MOST_EDGES),
+    }
+}
+
+// The graph of two files whose lines are at most so many, and no more than the library's limits allow: `mode` is 0 for undirected, 1
+// for directed.
 pub fn load_within(
     limits: Limits,
     mode: usize,
@@ -56,10 +68,16 @@ pub fn load_within(
     in_offsets: &mut [usize],
     in_sources: &mut [usize],
 ) -> Loaded
-    ensures { λ r. ⌜ outcome (says r) (now (ids .exit)) (now («out_offsets» .exit)) (now («out_targets» .exit)) (now («in_offsets» .exit)) (now («in_sources» .exit)) ≡ loadCall limits mode (roomOf (length (now (ids .entry))) (length (now («out_offsets» .entry))) (length (now («out_targets» .entry))) (length (now («in_offsets» .entry))) (length (now («in_sources» .entry)))) (now (vertices .entry)) (now (edges .entry)) ⌝ }
+    ensures { λ r. ⌜
+        outcome (says r) (now (ids .exit)) (now («out_offsets» .exit)) (now («out_targets» .exit)) (now («in_offsets» .exit))
+        (now («in_sources» .exit))
+        ≡ loadCall (capped limits) mode
+        (roomOf (length (now (ids .entry))) (length (now («out_offsets» .entry))) (length (now («out_targets» .entry)))
+        (length (now («in_offsets» .entry))) (length (now («in_sources» .entry))))
+        (now (vertices .entry)) (now (edges .entry)) ⌝ }
 {
     let filled = fill(
-        limits,
+        capped(limits),
         mode,
         vertices,
         edges,

@@ -123,7 +123,7 @@ module _ (s : List ℕ) (p : Plan) (l : Lists)
   pub desk-sound : soundGraph deskGraph ≡ true
   desk-sound =
       cut-sound (graphLeft (sizeOf l) (loadOf s p deskRoom))
-      (load-sound desk (modeNumber (p .directed)) deskRoom (linesIn (p .vertices) s) (linesIn (p .edges) s) l h (omega arith) (omega arith))
+      (load-sound desk (modeNumber (p .directed)) deskRoom (linesIn (p .vertices) s) (linesIn (p .edges) s) l h)
 
   pub desk-names : deskGraph .ids ≡ l .ids
   unfolding loadCall outcomeOf
