@@ -7,6 +7,7 @@ pub mod Stops
 pub mod Firsts
 pub mod Goings
 pub mod Grammars
+pub mod Counts
 pub mod Words
 pub mod Lines
 pub mod Places

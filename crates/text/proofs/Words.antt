@@ -239,7 +239,7 @@ field-reads s at c d m = record { ended = λ bs r. ident-word s r at c d m bs; u
 
 -- ---- a word with a byte that belongs in no identifier
 module _ (c : ℕ) (d : isDigit c ≡ false) where
-  count-stray : (bs : List ℕ) → mem c bs ≡ true → countOf bs ≡ malformed
+  pub count-stray : (bs : List ℕ) → mem c bs ≡ true → countOf bs ≡ malformed
   unfolding mem
   count-stray [] h = clash h refl
   count-stray (b ∷ bs) h = bool-cases (eqb c b) (countOf (b ∷ bs) ≡ malformed) (λ e. head (eqb-true c b e)) (λ e. tail (rw e at h))
