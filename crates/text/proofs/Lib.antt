@@ -8,6 +8,7 @@ pub mod Firsts
 pub mod Goings
 pub mod Grammars
 pub mod Counts
+pub mod Cuts
 pub mod Words
 pub mod Lines
 pub mod Places
