@@ -1,5 +1,5 @@
--- What an accepted sheet is, said of its bytes: the mode line, three sections each after its count line, and nothing more; and such bytes are accepted.
--- Assumes nothing.
+-- What an accepted sheet is, said of its bytes: the mode line, three sections each after its count line, and nothing more; and such
+-- bytes are accepted. Assumes nothing.
 use Prim.Native.Nat.{ℕ, zero, suc, _+_, _-_, _≤_}
 use mathlib.Core.Path.{_≡_, refl, sym, ap, subst, _∙_}
 use mathlib.Core.Logic.{_↔_}

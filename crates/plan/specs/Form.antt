@@ -18,8 +18,8 @@ abbrev pub modeWord : Bool → List ℕ
 modeWord true = directedWord
 modeWord false = undirectedWord
 
--- a section of a sheet, "after its count line", that begins at a place: the word on that line says the count, which is within its limit; then so many
--- lines, each ended, and of the section's kind. The block says how many, where they begin and the place past them
+-- a section that begins at a place, "after its count line": the word on that line says the count, which is within its limit;
+-- then so many lines, each ended, and of the section's kind. The block says how many, where they begin and the place past them
 pub record SectionForm {A : Type 0} (word : List ℕ → Word A) (limit place : ℕ) (b : Block) : Type 0 where
   pub count : List ℕ
   pub counted : countOf count ≡ value (b .count)
@@ -35,7 +35,8 @@ pub record SectionForm {A : Type 0} (word : List ℕ → Word A) (limit place : 
 abbrev pub sectionBytes : {A : Type 0} {word : List ℕ → Word A} {limit place : ℕ} {b : Block} → SectionForm word limit place b → List ℕ
 sectionBytes x = x .count ++ lf ∷ x .lines
 
--- "`directed` or `undirected`; then three sections, each after its count line: vertices, edges, jobs.", nothing after the last job, "a sheet of 65,536 bytes" at most
+-- "`directed` or `undirected`; then three sections, each after its count line: vertices, edges, jobs."; nothing after the last job,
+-- and at most "65,536 bytes"
 pub record SheetForm (s : List ℕ) (p : Plan) : Type 0 where
   pub vertices : SectionForm anyOf deskVertices (length (modeWord (p .directed)) + 1) (p .vertices)
   pub edges : SectionForm anyOf deskEdges (p .vertices .to) (p .edges)

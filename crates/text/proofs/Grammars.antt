@@ -1,4 +1,5 @@
--- The decimal's grammar is what the scanner takes, with the same value; everything else is malformed; and a word has one set of parts. Assumes nothing.
+-- The decimal's grammar is what the scanner takes, with the same value; everything else is malformed; and a word has one set of parts.
+-- Assumes nothing.
 use Prim.Native.Nat.{ℕ, _+_, _*_, _≤_, _<_}
 use mathlib.Core.Path.{_≡_, refl, sym, ap, _∙_}
 use mathlib.Core.Logic.{_↔_}
@@ -421,3 +422,9 @@ parts-one p q g h e =
     let f : p .fraction ≡ q .fraction = r .0 in
     let t : p .power ≡ q .power = r .1 in
     λ i. record { whole = w i; fraction = f i; power = t i }
+
+-- so a word has the form of a decimal in one way, and says one decimal
+pub form-one : (s : List ℕ) (d e : Decimal) (x : DecimalForm s d) (y : DecimalForm s e) → (x .parts ≡ y .parts) × (d ≡ e)
+form-one s d e x y =
+    let q : x .parts ≡ y .parts = parts-one (x .parts) (y .parts) (x .good) (y .good) (sym (x .bytes) ∙ y .bytes) in
+    (q, x .says ∙ ap partsSay q ∙ sym (y .says))

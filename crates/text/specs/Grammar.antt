@@ -1,4 +1,5 @@
--- 01 "Claims and verdicts": a decimal as a grammar, its bytes by its parts, with no word on how they are scanned. 46 is `.`, 101 `e`, 43 `+`, 45 `-`.
+-- 01 "Claims and verdicts": a decimal as a grammar, its bytes by its parts, with no word on how they are scanned.
+-- 46 is `.`, 101 `e`, 43 `+`, 45 `-`, 48 to 57 are the digits.
 use Prim.Native.Nat.{ℕ, _+_, _≤_}
 use mathlib.Core.Path.{_≡_}
 use mathlib.Core.Bool.{Bool, true}
