@@ -2,6 +2,7 @@
 -- promised, not where it lies. Assumes nothing.
 use mathlib.Core.Path.{_≡_, refl, sym, ap, _∙_}
 use denote.Ref.{now}
+use lib.ListN.{length}
 use Rattle.graph.specs.Part.{partOf}
 use Rattle.basis.proofs.refusal.Refusal.plain as basis-plain
 use Rattle.basis.proofs.refusal.Refusal.at as basis-at
@@ -93,7 +94,7 @@ use Rattle.trace.proofs.group_book.trace_book_count as trace-trace_book_count
 use Rattle.trace.proofs.group_book.trace_book_limit as trace-trace_book_limit
 use Rattle.trace.proofs.judging.trace_judge as trace-trace_judge
 use Rattle.trace.proofs.judging.trace_verdict as trace-trace_verdict
-use Rattle.text.proofs.Saids.{count-one, scan-one, vertex-one, edge-one, coefficient-one}
+use Rattle.text.proofs.Saids.{count-one, scan-one, decimal-one, vertex-one, edge-one, coefficient-one}
 use Rattle.book.proofs.Answers.{one-opened, one-joined, one-headed, one-compared, one-reading}
 use Rattle.plan.proofs.Saids.{job-one, checked-one}
 use Rattle.cases.specs.Outcome.{One, OneAs}
@@ -158,7 +159,7 @@ pub text-field-one : One text-field.ended (λ M 𝓤. text-field.clauses 𝓤)
 text-field-one = record { promise = text-field.Reads.Learnt; told = refl; one = λ _ _ z z′ _ _ p q. (scan-one z z′ (meet p q), refl) }
 
 pub text-decimal_of-one : One text-decimal_of.ended (λ M 𝓤. text-decimal_of.clauses 𝓤)
-text-decimal_of-one = record { promise = text-decimal_of.Reads.Learnt; told = refl; one = λ _ _ _ _ _ _ p q. (meet p q, refl) }
+text-decimal_of-one = record { promise = text-decimal_of.Reads.Learnt; told = refl; one = λ _ a z z′ _ _ p q. (decimal-one (length (now (a .0))) z z′ (meet p q), refl) }
 
 pub text-vertex-one : One text-vertex.ended (λ M 𝓤. text-vertex.clauses 𝓤)
 text-vertex-one = record { promise = text-vertex.Reads.Learnt; told = refl; one = λ _ _ z z′ _ _ p q. (vertex-one z z′ (meet p q), refl) }

@@ -4,5 +4,6 @@ pub mod Lines
 pub mod Jobs
 pub mod Checks
 pub mod Places
+pub mod Meaning
 pub mod Saids
 pub mod Examples

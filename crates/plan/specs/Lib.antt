@@ -2,4 +2,5 @@
 pub mod Lines
 pub mod Jobs
 pub mod Sheet
+pub mod Form
 pub mod Steps

@@ -22,7 +22,7 @@ use Rattle.plan.specs.declared.sections.Past.the-variants as P
 use Rattle.plan.specs.declared.sections.Section.{Section}
 use Rattle.plan.specs.declared.sections.Section.the-variants as S
 
--- "Desk limits: .. 16 jobs"
+-- of the desk limits: "16 jobs"
 abbrev pub mostJobs : ℕ
 mostJobs = 16
 

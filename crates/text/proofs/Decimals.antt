@@ -11,10 +11,10 @@ use lib.Dec.{leb, ltb, eqb}
 use lib.ListN.{length, getD, drop, length-drop, List·getD-eq-default}
 use lib.Pow.{pow-add}
 use Rattle.basis.proofs.Tests.{clash, false-of, bool-cases, and-first, and-second, and-off, failed, held}
-use Rattle.text.specs.Word.{isDigit, stepped, runLen, runVal}
-use Rattle.text.specs.Decimal.{Exponent, digitLimit, decimal, digitOf, up, down, wrong, pastPoint, wholeIsGood, signedPower, powerAt, scaled, partsOf, fractionOf, decimalOf}
-use Rattle.text.specs.Stop.{isSign, digitsStop, digitsPower, powerStop, partsStop, fractionStop, decimalStop, powerWord, decimalWord, scaledWord}
-use Rattle.text.specs.Scan.{capped, runAt}
+use Rattle.text.specs.Word.{malformed, isDigit, stepped, runLen, runVal}
+use Rattle.text.specs.Decimal.{digitLimit, decimal, digitOf, up, down, wrong, pastPoint, wholeIsGood, signedPower, powerAt, partsOf, fractionOf, decimalOf}
+use Rattle.text.specs.Stop.{isSign, digitsStop, digitsPower, powerStop, partsStop, fractionStop, decimalStop, powerWord, scaledWord}
+use Rattle.text.specs.Scan.{scanned, capped, runAt, decimalSays}
 use Rattle.text.specs.declared.count.Run.{Run}
 use Rattle.text.specs.declared.decimal.DecimalWord.{DecimalWord}
 use Rattle.text.specs.declared.decimal.DecimalWord.the-variants as DW
@@ -172,24 +172,19 @@ module _ (n f k : ℕ) (p : Power) where
   pub scaled-wrong : p ≡ P.Wrong k → DW.Bad k ≡ scaledWord n f p
   scaled-wrong e = rw e
 
-scaled-word : (n f stop : ℕ) (e : Exponent) → scaledWord n f (powerWord e stop) ≡ decimalWord (scaled n f e) stop
-scaled-word n f stop (up k) = refl
-scaled-word n f stop (down k) = refl
-scaled-word n f stop wrong = refl
-
 -- ---- the parts of a decimal
 module _ (s : List ℕ) (w p f n : ℕ) where
-  pub parts-none : w ≡ 0 → DW.Bad 0 ≡ decimalWord (partsOf s w p f n) (partsStop s w p f)
+  pub parts-none : w ≡ 0 → scanned malformed 0 ≡ scanned (partsOf s w p f n) (partsStop s w p f)
   unfolding partsOf partsStop
   parts-none e = rw (eq-eqb w 0 e, ← whole-none s w (λ q. omega arith) (omega arith))
 
   module _ (z : w ≡ 0 → ⊥) (t : Bool) (h : t ≡ wholeIsGood s w) where
-    pub parts-whole : not t ≡ true → DW.Bad 1 ≡ decimalWord (partsOf s w p f n) (partsStop s w p f)
+    pub parts-whole : not t ≡ true → scanned malformed 1 ≡ scanned (partsOf s w p f n) (partsStop s w p f)
     unfolding partsOf partsStop
     parts-whole e = rw (ne-eqb w 0 z, failed t (wholeIsGood s w) h e)
 
     module _ (e : not t ≡ false) where
-      pub parts-long : digitLimit < p → DW.Bad digitLimit ≡ decimalWord (partsOf s w p f n) (partsStop s w p f)
+      pub parts-long : digitLimit < p → scanned malformed digitLimit ≡ scanned (partsOf s w p f n) (partsStop s w p f)
       unfolding partsOf partsStop
       parts-long l = rw (ne-eqb w 0 z, held t (wholeIsGood s w) h e, lt-ltb digitLimit p l, too-long)
         where
@@ -201,22 +196,15 @@ module _ (s : List ℕ) (w p f n : ℕ) where
               omega arith)
 
       module _ (l : p ≤ digitLimit) where
-        pub parts-point : w + f < p → DW.Bad p ≡ decimalWord (partsOf s w p f n) (partsStop s w p f)
+        pub parts-point : w + f < p → scanned malformed p ≡ scanned (partsOf s w p f n) (partsStop s w p f)
         unfolding partsOf partsStop
         parts-point k = rw (ne-eqb w 0 z, held t (wholeIsGood s w) h e, le-ltb digitLimit p l, lt-ltb (w + f) p k, lt-leb p (w + f) k)
 
         module _ (k : p ≤ w + f) where
-          pub parts-limit : digitLimit < w + f → DW.Bad (p + (digitLimit - w)) ≡ decimalWord (partsOf s w p f n) (partsStop s w p f)
+          pub parts-limit : digitLimit < w + f → scanned malformed (p + (digitLimit - w)) ≡ scanned (partsOf s w p f n) (partsStop s w p f)
           unfolding partsOf partsStop
           parts-limit m =
               rw (ne-eqb w 0 z, held t (wholeIsGood s w) h e, le-ltb digitLimit p l, le-ltb (w + f) p k, lt-ltb digitLimit (w + f) m, le-leb p (w + f) k, lt-leb (w + f) digitLimit m)
-
-          pub parts-good : w + f ≤ digitLimit → (y : Power) → y ≡ powerWord (powerAt s (p + f)) (powerStop s (p + f)) → (r : DecimalWord) → r ≡ scaledWord n f y
-              → r ≡ decimalWord (partsOf s w p f n) (partsStop s w p f)
-          unfolding partsOf partsStop
-          parts-good m y j r g =
-              rw (ne-eqb w 0 z, held t (wholeIsGood s w) h e, le-ltb digitLimit p l, le-ltb (w + f) p k, le-ltb digitLimit (w + f) m, le-leb p (w + f) k, le-leb (w + f) digitLimit m)
-              (g ∙ ap (scaledWord n f) j ∙ scaled-word n f (powerStop s (p + f)) (powerAt s (p + f)))
 
 -- ---- digits so few are never cut down
 pub run-small : (a : ℕ) (l : List ℕ) → suc (runVal a l) ≤ suc a * 10 ^ runLen l
@@ -293,11 +281,12 @@ module _ (s : List ℕ) (whole : Run) (p : ℕ) (all : Run) (a : whole ≡ runAt
       let h : p ≤ length s = omega (arith, b, point-within s (whole .next) (omega (arith, whole-next, len-le s))) in
       omega (arith, all-next, len-le (drop p s), length-drop p s)
 
-  pub decimal-is : (r : DecimalWord) → r ≡ decimalWord (partsOf s (whole .next) p (all .next - p) (all .n)) (partsStop s (whole .next) p (all .next - p)) → r ≡ decimalWord (decimalOf s) (decimalStop s)
+  pub decimal-is : (r : DecimalWord) → decimalSays (length s) r ≡ scanned (partsOf s (whole .next) p (all .next - p) (all .n)) (partsStop s (whole .next) p (all .next - p))
+      → decimalSays (length s) r ≡ scanned (decimalOf s) (decimalStop s)
   unfolding decimalOf decimalStop fractionStop
   decimal-is r h =
       let f : all .next - p ≡ runLen (drop p s) = omega (arith, all-next) in
       let q : p ≡ pastPoint s (runLen s) = b ∙ ap (pastPoint s) whole-next in
       h
       ∙ (rw (whole-next, all-number, f, parts-cut s p))
-      ∙ ap (λ (k : ℕ). decimalWord (fractionOf s (runLen s) k) (partsStop s (runLen s) k (runLen (drop k s)))) q
+      ∙ ap (λ (k : ℕ). scanned (fractionOf s (runLen s) k) (partsStop s (runLen s) k (runLen (drop k s)))) q

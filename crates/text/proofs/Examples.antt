@@ -2,10 +2,12 @@
 use Prim.Native.Nat.{ℕ, zero, suc}
 use mathlib.Core.Path.{_≡_, refl}
 use mathlib.Core.List.{List, [], _∷_}
+use native.Mathlib.Omega.{arith}
 use lib.IntN.{pos, negsuc}
 use Rattle.basis.specs.Scan.{each, mem}
 use Rattle.text.specs.Word.{malformed, value, within}
 use Rattle.text.specs.Decimal.{decimal, digitOf, pastPoint, wholeIsGood, signedPower, powerAt, partsOf, fractionOf, decimalOf}
+use Rattle.text.specs.Grammar.{nought, number, noPoint, point, noPower, plus, minus, DecimalForm}
 use Rattle.text.specs.Line.{line, none, fault, lineBy, twoOf, vertexLine, edgeLine, claimLine, coefficientLine}
 use Rattle.text.specs.Stop.{isSign, digitsStop, powerStop, partsStop, fractionStop, decimalStop}
 use Rattle.text.specs.Scan.{scanned, hasAt, decimalAt, restAt}
@@ -108,6 +110,24 @@ pub record CoefficientLines : Type 0 where
 pub coefficient-lines : CoefficientLines
 unfolding each mem within lineBy twoOf digitOf pastPoint wholeIsGood signedPower powerAt partsOf fractionOf decimalOf
 coefficient-lines = record { half = refl; whole = refl; scientific = refl; large = refl; fifteen = refl; sixteen = refl; leading-zero = refl; no-whole = refl; no-fraction = refl; minus = refl; capital = refl; no-sign = refl; one-digit = refl; range-of-first = refl; form-of-second = refl }
+
+-- words by the decimal's grammar
+pub record Forms : Type 0 where
+  -- '0.25'
+  pub quarter : DecimalForm (48 ∷ 46 ∷ 50 ∷ 53 ∷ []) (decimal 25 0 2)
+  -- '2.5e-08'
+  pub small : DecimalForm (50 ∷ 46 ∷ 53 ∷ 101 ∷ 45 ∷ 48 ∷ 56 ∷ []) (decimal 25 0 9)
+  -- '10e+02'
+  pub thousand : DecimalForm (49 ∷ 48 ∷ 101 ∷ 43 ∷ 48 ∷ 50 ∷ []) (decimal 10 2 0)
+
+pub forms : Forms
+unfolding each within
+forms =
+    record {
+      quarter = record { parts = record { whole = nought; fraction = point 50 (53 ∷ []); power = noPower }; good = record { leading = refl; wholes = refl; fractions = refl; powers = refl; few = omega arith }; bytes = refl; says = refl };
+      small = record { parts = record { whole = number 50 []; fraction = point 53 []; power = minus 48 56 }; good = record { leading = refl; wholes = refl; fractions = refl; powers = refl; few = omega arith }; bytes = refl; says = refl };
+      thousand = record { parts = record { whole = number 49 (48 ∷ []); fraction = noPoint; power = plus 48 50 }; good = record { leading = refl; wholes = refl; fractions = refl; powers = refl; few = omega arith }; bytes = refl; says = refl };
+    }
 
 -- where a decimal breaks off
 pub record Stops : Type 0 where

@@ -32,7 +32,7 @@ sign-good n f g k e = by (eqb g 43) (eqb g 45) e
 
 module _ (u : List ℕ) (w p f : ℕ) (a : runLen u ≡ w) (b : pastPoint u w ≡ p) (c : runLen (drop p u) ≡ f)
     (g : wholeIsGood u w ≡ true) (h : p ≤ w + f) (l : w + f ≤ digitLimit) where
-  decimal-parts : decimalOf u ≡ scaled (runVal (runVal 0 u) (drop p u)) f (powerAt u (p + f))
+  pub decimal-parts : decimalOf u ≡ scaled (runVal (runVal 0 u) (drop p u)) f (powerAt u (p + f))
   unfolding decimalOf fractionOf partsOf
   decimal-parts = rw (a, b, c, g, le-leb p (w + f) h, le-leb (w + f) digitLimit l)
 

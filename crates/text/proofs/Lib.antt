@@ -6,6 +6,9 @@ pub mod Decimals
 pub mod Stops
 pub mod Firsts
 pub mod Goings
+pub mod Grammars
+pub mod Counts
+pub mod Cuts
 pub mod Words
 pub mod Lines
 pub mod Places

@@ -11,12 +11,12 @@ use lib.ListN.{length, take, drop, length-append, length-drop}
 use lib.Seq.{getD-append-seam}
 use Rattle.basis.specs.Refusal.{badForm, outOfRange}
 use Rattle.basis.specs.Scan.{mem}
-use Rattle.basis.proofs.Tests.{clash, bool-cases, no-case}
+use Rattle.basis.proofs.Tests.{clash, bool-cases}
 use Rattle.text.specs.Word.{Word, malformed, outside, value, within, identOf}
 use Rattle.text.specs.Decimal.{decimalOf}
-use Rattle.text.specs.Stop.{decimalStop, decimalWord}
+use Rattle.text.specs.Stop.{decimalStop}
 use Rattle.text.specs.Line.{LineSaid, line, none, fault, lf, space, upTo, past, lineSays, lineBy, both, twoOf, vertexLine, edgeLine, coefficientLine, edgeSays, coefficientSays}
-use Rattle.text.specs.Scan.{Scanned, scanned, wellFormed, hasAt, closed, fieldAt, scanSays, lineFrom, decimalAt, restAt, restSays, beside, faultBeside, lineOf}
+use Rattle.text.specs.Scan.{Scanned, scanned, wellFormed, hasAt, closed, fieldAt, scanSays, decimalSays, lineFrom, decimalAt, restAt, restSays, beside, faultBeside, lineOf}
 use Rattle.text.specs.declared.decimal.Decimal.{Decimal}
 use Rattle.text.specs.declared.decimal.DecimalWord.{DecimalWord}
 use Rattle.text.specs.declared.decimal.DecimalWord.the-variants as DW
@@ -28,7 +28,7 @@ use Rattle.text.specs.declared.line.Rest.{Rest}
 use Rattle.text.specs.declared.line.Rest.the-variants as R
 use Rattle.text.proofs.Bytes.{mem-cut, mem-join, mem-right, upTo-cut, upTo-none, upTo-take, upTo-le, cut-at, drop-past}
 use Rattle.text.proofs.Words.{Ends, Reads, closed-yes, closed-no, bad-ends, word-has, no-end, field-reads, ident-stray}
-use Rattle.text.proofs.Stops.{Inside, stop-le, stop-good, decimal-inside}
+use Rattle.text.proofs.Stops.{stop-le, stop-good}
 
 -- ---- a line by what is scanned of it
 same-line : {A : Type 0} (at q : ℕ) (w : Word A) (x : Scanned A) → Ends q w x → lineOf at x ≡ lineSays at q w
@@ -148,43 +148,33 @@ rest-reads s at = record { ended = ended; unended = unended }
         closed-no s lf q 0 (decimalOf (lineFrom s at)) (no-end s at lf q (omega arith) n) .said
 
 -- the code's ways out: no decimal, a decimal that LF ends, one that the file ends
-word-bad : (w : Word Decimal) (stop p : ℕ) → Inside w → DW.Bad p ≡ decimalWord w stop → scanned w stop ≡ scanned malformed p
-word-bad malformed stop p i e = let q : stop ≡ p = cc in ap (scanned malformed) q
-word-bad outside stop p i e = absurd i
-word-bad (value d) stop p i e = no-case cc
-
-word-value : (w : Word Decimal) (stop : ℕ) (d : Decimal) → DW.Value d ≡ decimalWord w stop → w ≡ value d
-word-value malformed stop d e = no-case cc
-word-value outside stop d e = no-case cc
-word-value (value x) stop d e = let q : x ≡ d = cc in ap value q
-
 pub rest-end : (s : List ℕ) (at end : ℕ) → end ≡ at + length (upTo lf (drop at s)) → at ≤ length s → end ≤ length s
 rest-end s at end e h = omega (arith, upTo-le lf (drop at s), length-drop at s)
 
 module _ (s : List ℕ) (at end : ℕ) (e : end ≡ at + length (upTo lf (drop at s)))
-    (x : DecimalWord) (f : x ≡ decimalWord (decimalOf (take (end - at) (drop at s))) (decimalStop (take (end - at) (drop at s)))) where
-  rest-word : x ≡ decimalWord (decimalOf (lineFrom s at)) (decimalStop (lineFrom s at))
+    (x : DecimalWord) (f : decimalSays (length (take (end - at) (drop at s))) x ≡ scanned (decimalOf (take (end - at) (drop at s))) (decimalStop (take (end - at) (drop at s)))) where
+  rest-word : decimalSays (length (lineFrom s at)) x ≡ scanned (decimalOf (lineFrom s at)) (decimalStop (lineFrom s at))
   rest-word =
       let q : end - at ≡ length (upTo lf (drop at s)) = omega arith in
-      f ∙ ap (λ (l : List ℕ). decimalWord (decimalOf l) (decimalStop l)) (ap (λ (n : ℕ). take n (drop at s)) q ∙ upTo-take lf (drop at s))
+      let l : take (end - at) (drop at s) ≡ lineFrom s at = ap (λ (n : ℕ). take n (drop at s)) q ∙ upTo-take lf (drop at s) in
+      rw l at f
 
-  rest-stop : (p : ℕ) → x ≡ DW.Bad p → scanned (decimalOf (lineFrom s at)) (decimalStop (lineFrom s at)) ≡ scanned malformed p
-  rest-stop p q = word-bad (decimalOf (lineFrom s at)) (decimalStop (lineFrom s at)) p (decimal-inside (lineFrom s at)) (sym q ∙ rest-word)
+  rest-by : (y : DecimalWord) → x ≡ y → decimalSays (length (lineFrom s at)) y ≡ scanned (decimalOf (lineFrom s at)) (decimalStop (lineFrom s at))
+  rest-by y q = ap (decimalSays (length (lineFrom s at))) (sym q) ∙ rest-word
 
   pub rest-inside : at ≤ length s → (p : ℕ) → x ≡ DW.Bad p → at + p ≤ length s
-  rest-inside h p q = omega (arith, ap (λ (y : Scanned Decimal). y .next) (rest-stop p q), stop-le (lineFrom s at), rest-end s at end e h)
+  rest-inside h p q = omega (arith, ap (λ (y : Scanned Decimal). y .next) (rest-by (DW.Bad p) q), stop-le (lineFrom s at), rest-end s at end e h)
 
   pub rest-bad : (p : ℕ) → x ≡ DW.Bad p → scanned malformed (at + p) ≡ restAt s at
   unfolding restAt decimalAt
-  rest-bad p q = ap (λ (y : Scanned Decimal). closed s lf (scanned (y .said) (at + y .next))) (sym (rest-stop p q))
+  rest-bad p q = ap (λ (y : Scanned Decimal). closed s lf (scanned (y .said) (at + y .next))) (rest-by (DW.Bad p) q)
 
   module _ (d : Decimal) (q : x ≡ DW.Value d) (t : Bool) (h : t ≡ hasAt s end lf) where
     rest-is : closed s lf (scanned (value d) end) ≡ restAt s at
     unfolding restAt decimalAt
     rest-is =
-        let w : decimalOf (lineFrom s at) ≡ value d = word-value (decimalOf (lineFrom s at)) (decimalStop (lineFrom s at)) d (sym q ∙ rest-word) in
-        let n : end ≡ at + decimalStop (lineFrom s at) = omega (arith, stop-good (lineFrom s at) (ap wellFormed w)) in
-        rw (w, n)
+        ap (λ (n : ℕ). closed s lf (scanned (value d) n)) e
+        ∙ ap (λ (y : Scanned Decimal). closed s lf (scanned (y .said) (at + y .next))) (rest-by (DW.Value d) q)
 
     pub rest-value : t ≡ true → scanned (value d) (end + 1) ≡ restAt s at
     rest-value k = rw (← h, k) at rest-is

@@ -1,13 +1,16 @@
 -- Laws of a run of digits, and of a number that is cut down. Assumes nothing.
 use Prim.Native.Nat.{ℕ, suc, _+_, _≤_, _<_}
 use mathlib.Core.Path.{_≡_, refl, sym, ap, _∙_}
-use mathlib.Core.List.{List, [], _∷_}
+use mathlib.Core.List.{List, [], _∷_, _++_, append-nil}
 use mathlib.Core.Bool.{Bool, true, false}
 use native.Mathlib.Omega.{arith}
 use native.Mathlib.Numerals.{add-one}
 use lib.ListN.{length, getD, drop, drop-of-length-le}
 use lib.Seq.{drop-cons}
-use Rattle.text.specs.Word.{isDigit, stepped, runLen, runVal}
+use Rattle.basis.specs.Scan.{each}
+use Rattle.basis.proofs.Tests.{and-first, and-second}
+use Rattle.text.specs.Word.{within, isDigit, stepped, runLen, runVal}
+use Rattle.text.specs.Grammar.{numberOf}
 use Rattle.text.specs.Scan.{capped, runAt}
 use Rattle.text.specs.declared.count.Run.{Run}
 use Rattle.text.proofs.Bytes.{within-yes, within-low, within-high}
@@ -32,6 +35,25 @@ len-le (b ∷ bs) = by (isDigit b) refl (len-le bs)
     by : (t : Bool) → isDigit b ≡ t → runLen bs ≤ length bs → runLen (b ∷ bs) ≤ length (b ∷ bs)
     by true e h = rw (len-digit b bs e) (omega arith)
     by false e h = rw (len-stop b bs e) (omega arith)
+
+-- ---- digits at the front, and after them a byte that is none, or nothing
+pub front-len : (bs r : List ℕ) → each isDigit bs ≡ true → isDigit (getD r 0 0) ≡ false → runLen (bs ++ r) ≡ length bs
+unfolding each
+front-len [] [] h k = refl
+front-len [] (c ∷ r) h k = len-stop c r k
+front-len (b ∷ bs) r h k =
+    len-digit b (bs ++ r) (and-first (isDigit b) (each isDigit bs) h) ∙ omega (arith, front-len bs r (and-second (isDigit b) (each isDigit bs) h) k)
+
+pub front-val : (n : ℕ) (bs r : List ℕ) → each isDigit bs ≡ true → isDigit (getD r 0 0) ≡ false → runVal n (bs ++ r) ≡ numberOf n bs
+unfolding each
+front-val n [] [] h k = refl
+front-val n [] (c ∷ r) h k = val-stop n c r k
+front-val n (b ∷ bs) r h k =
+    val-digit n b (bs ++ r) (and-first (isDigit b) (each isDigit bs) h) ∙ front-val (stepped n b) bs r (and-second (isDigit b) (each isDigit bs) h) k
+
+pub all-val : (n : ℕ) (bs : List ℕ) → each isDigit bs ≡ true → runVal n bs ≡ numberOf n bs
+unfolding within
+all-val n bs h = ap (runVal n) (sym (append-nil bs)) ∙ front-val n bs [] h refl
 
 -- ---- a number that is cut down before a step is cut down to the same after it
 cap-step : (n b : ℕ) → capped (stepped (capped n) b) ≡ capped (stepped n b)

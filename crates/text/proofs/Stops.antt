@@ -4,15 +4,17 @@ use mathlib.Core.Path.{_≡_, refl, sym, ap, _∙_}
 use mathlib.Core.List.{List}
 use mathlib.Core.Bool.{Bool, true, false, cond, not, _&&_}
 use native.Mathlib.Omega.{arith}
-use borrow.Author.Tests.{leb-true, le-ltb, ltb-true, ltb-false, ne-eqb, eqb-true, eqb-false}
+use borrow.Author.Tests.{le-leb, leb-true, le-ltb, ltb-true, ltb-false, ne-eqb, eqb-true, eqb-false}
 use lib.Dec.{leb, ltb, eqb}
 use lib.ListN.{length, getD, drop, length-drop}
 use Rattle.basis.proofs.Tests.{clash, bool-cases, and-first, and-second, held}
 use Rattle.text.specs.Word.{Word, malformed, outside, value, isDigit, runLen, runVal}
-use Rattle.text.specs.Decimal.{Exponent, up, down, wrong, digitLimit, digitOf, pastPoint, wholeIsGood, signedPower, powerAt, scaled, partsOf, fractionOf, decimalOf}
-use Rattle.text.specs.Stop.{isSign, digitsStop, powerStop, partsStop, fractionStop, decimalStop}
-use Rattle.text.specs.Scan.{wellFormed}
+use Rattle.text.specs.Decimal.{Exponent, up, down, wrong, digitLimit, decimal, digitOf, pastPoint, wholeIsGood, signedPower, powerAt, scaled, partsOf, fractionOf, decimalOf}
+use Rattle.text.specs.Stop.{isSign, digitsStop, powerStop, partsStop, fractionStop, decimalStop, powerWord, scaledWord}
+use Rattle.text.specs.Scan.{scanned, wellFormed, decimalSays}
 use Rattle.text.specs.declared.decimal.Decimal.{Decimal}
+use Rattle.text.specs.declared.decimal.DecimalWord.{DecimalWord}
+use Rattle.text.specs.declared.decimal.Power.{Power}
 use Rattle.text.proofs.Bytes.{nothing-past, within-is}
 use Rattle.text.proofs.Runs.{len-le}
 use Rattle.text.proofs.Decimals.{no-sign, whole-none, point-from, point-within}
@@ -103,6 +105,20 @@ module _ (s : List ℕ) (n f : ℕ) where
       let d = digits-whole (at + 2) (and-first (isDigit x) (isDigit y) o) (ap (λ (k : ℕ). isDigit (getD s k 0)) three ∙ and-second (isDigit x) (isDigit y) o) in
       rw (a, b) (λ h. rw (and-first (eqb (getD s at 0) 101) (isDigit x && isDigit y) m, good-sign (getD s (at + 1) 0) (digitOf x * 10 + digitOf y) h) (omega (arith, d))))
       (λ b. rw (a, b) (λ h. clash h refl)))
+
+  scaled-says : (stop k : ℕ) (e : Exponent) → (wellFormed (scaled n f e) ≡ true → stop ≡ k) → decimalSays k (scaledWord n f (powerWord e stop)) ≡ scanned (scaled n f e) stop
+  scaled-says stop k (up u) h = ap (scanned (value (decimal n u f))) (sym (h refl))
+  scaled-says stop k (down u) h = ap (scanned (value (decimal n 0 (f + u)))) (sym (h refl))
+  scaled-says stop k wrong h = refl
+
+  -- the last way out of the parts: with their power
+  module _ (w p : ℕ) (z : w ≡ 0 → ⊥) (t : Bool) (h : t ≡ wholeIsGood s w) (e : not t ≡ false) (l : p ≤ digitLimit) (k : p ≤ w + f) (m : w + f ≤ digitLimit) where
+    pub parts-good : (y : Power) → y ≡ powerWord (powerAt s (p + f)) (powerStop s (p + f)) → (r : DecimalWord) → r ≡ scaledWord n f y
+        → decimalSays (length s) r ≡ scanned (partsOf s w p f n) (partsStop s w p f)
+    unfolding partsOf partsStop
+    parts-good y j r g =
+        rw (ne-eqb w 0 z, held t (wholeIsGood s w) h e, le-ltb digitLimit p l, le-ltb (w + f) p k, le-ltb digitLimit (w + f) m, le-leb p (w + f) k, le-leb (w + f) digitLimit m)
+        (ap (decimalSays (length s)) (g ∙ ap (scaledWord n f) j) ∙ scaled-says (powerStop s (p + f)) (length s) (powerAt s (p + f)) (power-stop-good (p + f)))
 
   parts-stop-good : (w p : ℕ) → wellFormed (partsOf s w p f n) ≡ true → partsStop s w p f ≡ length s
   unfolding partsOf partsStop

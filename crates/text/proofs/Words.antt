@@ -11,12 +11,12 @@ use lib.ListN.{length, getD, drop, length-drop, length-append}
 use lib.Seq.{getD-drop, getD-append-seam, drop-drop}
 use lib.IntN.{ℤ}
 use Rattle.basis.specs.Scan.{each, mem}
-use Rattle.basis.proofs.Tests.{clash, false-of, bool-cases, and-first, and-second, and-both, and-off}
+use Rattle.basis.proofs.Tests.{clash, false-of, bool-cases, and-both, and-off}
 use Rattle.basis.proofs.Scans.{each-mem}
-use Rattle.text.specs.Word.{Word, malformed, outside, value, within, isDigit, stepped, runLen, runVal, zeroOf, countOf, rangedOf, signedOf, afterMinus, identOf}
+use Rattle.text.specs.Word.{Word, malformed, outside, value, within, isDigit, runLen, runVal, zeroOf, countOf, rangedOf, signedOf, afterMinus, identOf}
 use Rattle.text.specs.Scan.{Scanned, scanned, wellFormed, hasAt, countAt, signedAt, identAt, closed, fieldAt}
 use Rattle.text.proofs.Bytes.{no-first, no-zero, first-digit, has-yes, has-below, not-head, not-tail}
-use Rattle.text.proofs.Runs.{val-digit, val-stop, len-digit, len-stop}
+use Rattle.text.proofs.Runs.{len-digit, len-stop, front-len, front-val, all-val}
 
 -- what was scanned is the word w, and stops at q where it is well formed
 pub record Ends {A : Type 0} (q : ℕ) (w : Word A) (x : Scanned A) : Type 0 where
@@ -28,21 +28,7 @@ pub record Reads {A : Type 0} (c : ℕ) (word : List ℕ → Word A) (s : List �
   pub ended : (bs r : List ℕ) → drop at s ≡ bs ++ c ∷ r → mem c bs ≡ false → Ends (at + length bs + 1) (word bs) x
   pub unended : mem c (drop at s) ≡ false → x .said ≡ malformed
 
--- ---- a run of digits that c ends
-run-len : (c : ℕ) (bs r : List ℕ) → isDigit c ≡ false → each isDigit bs ≡ true → runLen (bs ++ c ∷ r) ≡ length bs
-unfolding each
-run-len c [] r d h = len-stop c r d
-run-len c (b ∷ bs) r d h =
-    len-digit b (bs ++ c ∷ r) (and-first (isDigit b) (each isDigit bs) h) ∙ omega (arith, run-len c bs r d (and-second (isDigit b) (each isDigit bs) h))
-
-run-val : (n c : ℕ) (bs r : List ℕ) → isDigit c ≡ false → each isDigit bs ≡ true → runVal n (bs ++ c ∷ r) ≡ runVal n bs
-unfolding each
-run-val n c [] r d h = val-stop n c r d
-run-val n c (b ∷ bs) r d h =
-    let e = and-first (isDigit b) (each isDigit bs) h in
-    val-digit n b (bs ++ c ∷ r) e ∙ run-val (stepped n b) c bs r d (and-second (isDigit b) (each isDigit bs) h) ∙ sym (val-digit n b bs e)
-
--- a run that a byte of the word ends
+-- ---- a run of digits that a byte of the word ends
 record Breaks (c : ℕ) (l : List ℕ) (n : ℕ) : Type 0 where
   before : runLen l < n
   other : eqb (getD l (runLen l) 0) c ≡ false
@@ -114,8 +100,8 @@ module _ (s r : List ℕ) (at c : ℕ) (d : isDigit c ≡ false) where
   unfolding each
   run-word b bs true a w e n =
       let al : each isDigit (b ∷ bs) ≡ true = and-both (first-digit b w) a in
-      let q : runLen (drop at s) ≡ length (b ∷ bs) = ap runLen e ∙ run-len c (b ∷ bs) r d al in
-      let v : runVal 0 (drop at s) ≡ runVal 0 (b ∷ bs) = ap (runVal 0) e ∙ run-val 0 c (b ∷ bs) r d al in
+      let q : runLen (drop at s) ≡ length (b ∷ bs) = ap runLen e ∙ front-len (b ∷ bs) (c ∷ r) al d in
+      let v : runVal 0 (drop at s) ≡ runVal 0 (b ∷ bs) = ap (runVal 0) e ∙ front-val 0 (b ∷ bs) (c ∷ r) al d ∙ sym (all-val 0 (b ∷ bs) al) in
       rw (q, v)
       (closed-yes s c (at + length (b ∷ bs)) (value (runVal 0 (b ∷ bs)))
       (word-has s (b ∷ bs) r at c e (length (b ∷ bs)) c (omega arith) ∙ ap (λ (k : ℕ). eqb k c) (getD-append-seam (b ∷ bs) c r 0) ∙ eq-eqb c c refl))
@@ -253,7 +239,7 @@ field-reads s at c d m = record { ended = λ bs r. ident-word s r at c d m bs; u
 
 -- ---- a word with a byte that belongs in no identifier
 module _ (c : ℕ) (d : isDigit c ≡ false) where
-  count-stray : (bs : List ℕ) → mem c bs ≡ true → countOf bs ≡ malformed
+  pub count-stray : (bs : List ℕ) → mem c bs ≡ true → countOf bs ≡ malformed
   unfolding mem
   count-stray [] h = clash h refl
   count-stray (b ∷ bs) h = bool-cases (eqb c b) (countOf (b ∷ bs) ≡ malformed) (λ e. head (eqb-true c b e)) (λ e. tail (rw e at h))

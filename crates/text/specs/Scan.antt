@@ -16,6 +16,8 @@ use Rattle.text.specs.declared.count.Counted.the-variants as C
 use Rattle.text.specs.declared.ident.Scan.{Scan}
 use Rattle.text.specs.declared.ident.Scan.the-variants as S
 use Rattle.text.specs.declared.decimal.Decimal.{Decimal}
+use Rattle.text.specs.declared.decimal.DecimalWord.{DecimalWord}
+use Rattle.text.specs.declared.decimal.DecimalWord.the-variants as DW
 use Rattle.text.specs.declared.line.Rest.{Rest}
 use Rattle.text.specs.declared.line.Rest.the-variants as R
 
@@ -96,6 +98,11 @@ abbrev pub scanSays : Scan → Scanned ℤ
 scanSays (S.Bad p) = scanned malformed p
 scanSays (S.Outside p) = scanned outside p
 scanSays (S.Value z p) = scanned (value z) p
+
+-- the code's answer for a whole word of n bytes as a decimal, by its cases: a good one stops at the end of its word
+abbrev pub decimalSays : ℕ → DecimalWord → Scanned Decimal
+decimalSays n (DW.Bad p) = scanned malformed p
+decimalSays n (DW.Value d) = scanned (value d) n
 
 -- the bytes from a place to the end of its line
 abbrev pub lineFrom : List ℕ → ℕ → List ℕ

@@ -5,9 +5,8 @@ use mathlib.Core.List.{List}
 use mathlib.Core.Bool.{Bool, cond, _&&_, _||_}
 use lib.ListN.{length, getD, drop}
 use lib.Dec.{ltb, eqb}
-use Rattle.text.specs.Word.{Word, malformed, outside, value, isDigit, runLen}
+use Rattle.text.specs.Word.{isDigit, runLen}
 use Rattle.text.specs.Decimal.{Exponent, up, down, wrong, digitLimit, decimal, digitOf, pastPoint, wholeIsGood, signedPower}
-use Rattle.text.specs.declared.decimal.Decimal.{Decimal}
 use Rattle.text.specs.declared.decimal.DecimalWord.{DecimalWord}
 use Rattle.text.specs.declared.decimal.DecimalWord.the-variants as DW
 use Rattle.text.specs.declared.decimal.Power.{Power}
@@ -56,12 +55,6 @@ abbrev pub powerWord : Exponent → ℕ → Power
 powerWord (up k) stop = P.Up k
 powerWord (down k) stop = P.Down k
 powerWord wrong stop = P.Wrong stop
-
--- the same for a decimal, which is never out of range
-abbrev pub decimalWord : Word Decimal → ℕ → DecimalWord
-decimalWord malformed stop = DW.Bad stop
-decimalWord outside stop = DW.Bad stop
-decimalWord (value d) stop = DW.Value d
 
 -- a number with f digits after the point, and the code's power
 abbrev pub scaledWord : ℕ → ℕ → Power → DecimalWord

@@ -58,7 +58,7 @@ signedOf negative malformed = malformed
 signedOf negative outside = outside
 signedOf negative (value n) = rangedOf negative n
 
--- after a `-`: "a digit 1 to 9 and more digits"; "`-0` [is] malformed"
+-- after a `-`: "a digit 1 to 9 and more digits"; `-0` is malformed
 abbrev pub afterMinus : List ℕ → Word ℤ
 afterMinus [] = malformed
 afterMinus (b ∷ bs) = cond (eqb b 48) malformed (signedOf true (countOf (b ∷ bs)))

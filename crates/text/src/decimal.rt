@@ -6,7 +6,8 @@ ghost use Prim.Native.Nat.{_+_, _*_, _≤_};
 ghost use lib.ListN.{length, getD};
 ghost use Rattle.text.specs.Word.{isDigit};
 ghost use Rattle.text.specs.Decimal.{digitOf, pastPoint, wholeIsGood, powerAt, partsOf, decimalOf};
-ghost use Rattle.text.specs.Stop.{isSign, digitsStop, digitsPower, powerStop, partsStop, decimalStop, powerWord, decimalWord, scaledWord};
+ghost use Rattle.text.specs.Stop.{isSign, digitsStop, digitsPower, powerStop, partsStop, decimalStop, powerWord, scaledWord};
+ghost use Rattle.text.specs.Scan.{scanned, decimalSays};
 
 // How many digits may stand before the `e`.
 pub const DIGITS: usize = 15;
@@ -173,7 +174,8 @@ fn with_power(n: u64, f: u8, p: Power) -> DecimalWord
 // w digits before the point and f after it, from p on, that make the number n.
 fn parts(s: &[u8], w: usize, p: usize, f: usize, n: u64) -> DecimalWord
     requires { ⌜ (w ≤ p) × (p + f ≤ length (now s)) ⌝ }
-    ensures { λ r. ⌜ r ≡ decimalWord (partsOf (now (s .entry)) w p f n) (partsStop (now (s .entry)) w p f) ⌝ }
+    ensures { λ r. ⌜ decimalSays (length (now (s .entry))) r
+        ≡ scanned (partsOf (now (s .entry)) w p f n) (partsStop (now (s .entry)) w p f) ⌝ }
 {
     if w == 0 {
         return DecimalWord::Bad(0);
@@ -198,7 +200,8 @@ fn parts(s: &[u8], w: usize, p: usize, f: usize, n: u64) -> DecimalWord
 
 // What the bytes of a whole decimal say, or where they break off.
 pub fn decimal_of(s: &[u8]) -> DecimalWord
-    ensures { λ r. ⌜ r ≡ decimalWord (decimalOf (now (s .entry))) (decimalStop (now (s .entry))) ⌝ }
+    ensures { λ r. ⌜ decimalSays (length (now (s .entry))) r
+        ≡ scanned (decimalOf (now (s .entry))) (decimalStop (now (s .entry))) ⌝ }
 {
     let whole = digits(s, 0, 0);
     let p = past_point(s, whole.next);

@@ -1,4 +1,5 @@
-use Rattle.text.proofs.Decimals.{parts-none, parts-whole, parts-long, parts-point, parts-limit, parts-good}
+use Rattle.text.proofs.Decimals.{parts-none, parts-whole, parts-long, parts-point, parts-limit}
+use Rattle.text.proofs.Stops.{parts-good}
 use borrow.Author.Needs.{needs}
 use Rattle.text.proofs.decimal.parts.Statement.{statement}
 use Rattle.text.proofs.decimal.parts.Tie as tie
