@@ -1,6 +1,7 @@
 -- Laws of matching.
 pub mod Closeness
 pub mod FirstLines
+pub mod Leasts
 pub mod Mismatches
 pub mod Readings
 pub mod NumberLines

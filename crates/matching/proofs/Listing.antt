@@ -23,7 +23,8 @@ use Rattle.write.proofs.Texts.{signed-without}
 use Rattle.write.proofs.Back.{ident-back, line-back}
 use Rattle.matching.specs.Claim.{linesFrom, numberLines, coefficientLines, idsOf, valuesOf}
 use Rattle.matching.specs.Verdict.{Fraction, near, unequalLine, unlikeLine, farLine, judgedBy}
-use Rattle.matching.proofs.Meaning.{accepted, Alike, exact-match, epsilon-match, equivalence-match, renamed}
+use Rattle.matching.specs.Good.{Alike}
+use Rattle.matching.proofs.Meaning.{accepted, exact-match, epsilon-match, equivalence-match, renamed}
 
 -- a line to be written: its identifier, its value and the value's bytes
 pub record Line (A : Type 0) : Type 0 where

@@ -22,7 +22,8 @@ use Rattle.cdlp.specs.Rounds.{cdlpOf}
 use Rattle.cdlp.proofs.Runs.{cdlp-length}
 use Rattle.matching.specs.Claim.{numberLines, coefficientLines, idsOf, valuesOf}
 use Rattle.matching.specs.Verdict.{near}
-use Rattle.matching.proofs.Meaning.{accepted, Alike, TwoWay, map-length, exact-match, equivalence-match, epsilon-match}
+use Rattle.matching.specs.Good.{Alike, TwoWay}
+use Rattle.matching.proofs.Meaning.{accepted, map-length, exact-match, equivalence-match, epsilon-match}
 use Rattle.matching.proofs.Listing.{Line, claimText, linesOf, listed, AllFit, AllSpelled, exact-own, equivalence-own, epsilon-own}
 use Rattle.verdicts.specs.Reference.{Reference, coefficients, bfsReference, wccReference, cdlpReference, lccReference}
 use Rattle.verdicts.specs.Call.{roomFor, verdictSays, leftBy, callOn, unknownCall, verdictCall}
