@@ -21,7 +21,7 @@ use Rattle.text.specs.declared.decimal.Decimal.{Decimal}
 use Rattle.matching.specs.Close.{apart, isClose}
 use Rattle.matching.specs.Claim.{idsOf, valuesOf}
 use Rattle.matching.specs.Verdict.{Verdict, matched, incompleteAt, mismatchAt, Fraction, near, firstLine, incompleteLine, unequalLine, sameKind, unlikeLine, farLine, verdictOf, judgedBy}
-use Rattle.matching.specs.Good.{Least, Alike, Differs, TwoWay}
+use Rattle.matching.specs.Good.{Least, Alike, Differs, EqualWhere, TwoWay}
 use Rattle.matching.proofs.Closeness.{cancel, window, ten-pos, zero-only}
 use Rattle.matching.proofs.Leasts.{first-least, line-exactly, unlike-none}
 use Rattle.matching.proofs.Readings.{ids-length, values-length}
@@ -73,8 +73,8 @@ same-fraction a b c d s p q e =
 abbrev pub accepted : Said Verdict
 accepted = gives matched
 
--- of numbers, that is the same list
-same-list : (xs ys : List ℤ) → (firstLine sameZ 1 xs ys ≡ 0) ↔ (ys ≡ xs)
+-- two lists of numbers are alike exactly where they are the same
+pub same-list : (xs ys : List ℤ) → (firstLine sameZ 1 xs ys ≡ 0) ↔ (ys ≡ xs)
 same-list xs ys =
     let f = line-exactly sameZ (pos 0) (pos 0) xs ys in (
       λ e.
@@ -183,32 +183,50 @@ module _ (a b : List ℤ) where
   abbrev Kinds : Type 0
   Kinds = (i j : ℕ) → i < length a → j < length a → sameZ (getD a i (pos 0)) (getD a j (pos 0)) ≡ sameZ (getD b i (pos 0)) (getD b j (pos 0))
 
+  kinds-of : unlikeLine a b ≡ 0 → Kinds
+  unfolding sameKind
+  kinds-of h i j k l =
+      elim (decLt j i) as (λ _. sameZ (getD a i (pos 0)) (getD a j (pos 0)) ≡ sameZ (getD b i (pos 0)) (getD b j (pos 0))) [
+        | yes f ↦ earlier i j k f
+        | no f ↦
+            elim (ℕ-discrete i j) as (λ _. sameZ (getD a i (pos 0)) (getD a j (pos 0)) ≡ sameZ (getD b i (pos 0)) (getD b j (pos 0))) [
+              | yes q ↦ rw q (signed-order .same-refl (getD a j (pos 0)) ∙ sym (signed-order .same-refl (getD b j (pos 0))))
+              | no d ↦ same-sym (getD a i (pos 0)) (getD a j (pos 0)) ∙ earlier j i l (omega arith) ∙ same-sym (getD b j (pos 0)) (getD b i (pos 0))
+            ]
+      ]
+    where
+      earlier : (i j : ℕ) → i < length a → j < i → sameZ (getD a i (pos 0)) (getD a j (pos 0)) ≡ sameZ (getD b i (pos 0)) (getD b j (pos 0))
+      earlier i j k f =
+          sym
+          (beq-eq _ _
+          (bool-cases (sameKind a b i j) (sameKind a b i j ≡ true) (λ t. t)
+          (λ t. absurd (unlike-none a b .0 h i (record { inside = k; earlier = j; isEarlier = f; unlike = t })))))
+
+  kinds-all : Kinds → unlikeLine a b ≡ 0
+  unfolding sameKind
+  kinds-all h =
+      unlike-none a b .1
+      (λ i d. clash (rw (h i (d .earlier) (d .inside) (omega (arith, d .isEarlier, d .inside))) (beq-refl (sameZ (getD b i (pos 0)) (getD b (d .earlier) (pos 0))))) (d .unlike))
+
+  -- "equal claims exactly where components are equal", for labels that are equal where places belong together
+  pub equal-exactly : (n : ℕ) → length a ≡ n → (Together : ℕ → ℕ → Type 0) → EqualWhere n Together a → (unlikeLine a b ≡ 0) ↔ EqualWhere n Together b
+  equal-exactly n e Together same = (
+    λ z i j k l.
+        let h = kinds-of z i j (omega arith) (omega arith) in (
+          λ q. same i j k l .0 (signed-order .same-eq _ _ (h ∙ rw q (signed-order .same-refl (getD b j (pos 0))))),
+          λ p. signed-order .same-eq _ _ (sym h ∙ rw (same i j k l .1 p) (signed-order .same-refl (getD a j (pos 0)))),
+        ),
+    λ f.
+        kinds-all
+        (λ i j k l.
+        let t = same i j (omega arith) (omega arith) in
+        let u = f i j (omega arith) (omega arith) in
+        same-test (sameZ (getD a i (pos 0)) (getD a j (pos 0))) (sameZ (getD b i (pos 0)) (getD b j (pos 0)))
+        (λ q. rw (u .1 (t .0 (signed-order .same-eq _ _ q))) (signed-order .same-refl (getD b j (pos 0))))
+        (λ q. rw (t .1 (u .0 (signed-order .same-eq _ _ q))) (signed-order .same-refl (getD a j (pos 0))))),
+  )
+
   module _ (e : length a ≡ length b) where
-    kinds-of : unlikeLine a b ≡ 0 → Kinds
-    unfolding sameKind
-    kinds-of h i j k l =
-        elim (decLt j i) as (λ _. sameZ (getD a i (pos 0)) (getD a j (pos 0)) ≡ sameZ (getD b i (pos 0)) (getD b j (pos 0))) [
-          | yes f ↦ earlier i j k f
-          | no f ↦
-              elim (ℕ-discrete i j) as (λ _. sameZ (getD a i (pos 0)) (getD a j (pos 0)) ≡ sameZ (getD b i (pos 0)) (getD b j (pos 0))) [
-                | yes q ↦ rw q (signed-order .same-refl (getD a j (pos 0)) ∙ sym (signed-order .same-refl (getD b j (pos 0))))
-                | no d ↦ same-sym (getD a i (pos 0)) (getD a j (pos 0)) ∙ earlier j i l (omega arith) ∙ same-sym (getD b j (pos 0)) (getD b i (pos 0))
-              ]
-        ]
-      where
-        earlier : (i j : ℕ) → i < length a → j < i → sameZ (getD a i (pos 0)) (getD a j (pos 0)) ≡ sameZ (getD b i (pos 0)) (getD b j (pos 0))
-        earlier i j k f =
-            sym
-            (beq-eq _ _
-            (bool-cases (sameKind a b i j) (sameKind a b i j ≡ true) (λ t. t)
-            (λ t. absurd (unlike-none a b .0 h i (record { inside = k; earlier = j; isEarlier = f; unlike = t })))))
-
-    kinds-all : Kinds → unlikeLine a b ≡ 0
-    unfolding sameKind
-    kinds-all h =
-        unlike-none a b .1
-        (λ i d. clash (rw (h i (d .earlier) (d .inside) (omega (arith, d .isEarlier, d .inside))) (beq-refl (sameZ (getD b i (pos 0)) (getD b (d .earlier) (pos 0))))) (d .unlike))
-
     two-way : Kinds → TwoWay a b
     two-way h =
         record {

@@ -2,6 +2,7 @@
 use Prim.Native.Nat.{ℕ, _≤_, _<_}
 use mathlib.Core.Path.{_≡_}
 use mathlib.Core.Bool.{Bool, true, false}
+use mathlib.Core.Logic.{_↔_}
 use mathlib.Core.List.{List}
 use lib.IntN.{ℤ, pos}
 use lib.ListN.{length, getD}
@@ -22,6 +23,10 @@ pub data Differs {A B : Type 0} (alike : A → B → Bool) (x : A) (y : B) (xs :
   other : i < length xs → i < length ys → alike (getD xs i x) (getD ys i y) ≡ false → Differs alike x y xs ys i
   missing : length ys ≤ i → i < length xs → Differs alike x y xs ys i
   surplus : length xs ≤ i → i < length ys → Differs alike x y xs ys i
+
+-- "equal claims exactly where components are equal": two places of n have one claim exactly where they belong together
+abbrev pub EqualWhere : ℕ → (ℕ → ℕ → Type 0) → List ℤ → Type 0
+EqualWhere n Together claims = (i j : ℕ) → i < n → j < n → (getD claims i (pos 0) ≡ getD claims j (pos 0)) ↔ Together i j
 
 -- 000 "Equivalence match": "a two-way mapping should exists that maps the system's output to be identical to reference output", and its inverse
 pub record TwoWay (reference output : List ℤ) : Type 0 where
