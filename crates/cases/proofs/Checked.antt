@@ -5,6 +5,7 @@ use Rattle.basis.specs.Scan.{every, each, mem}
 use Rattle.text.specs.Word.{within}
 use Rattle.text.specs.Decimal.{digitOf, pastPoint, wholeIsGood, signedPower, powerAt, partsOf, fractionOf, decimalOf}
 use Rattle.text.specs.Line.{lineBy, twoOf}
+use Rattle.text.specs.File.{linesFrom as files-linesFrom, valuesFrom}
 use Rattle.graph.specs.Find.{placeFrom}
 use Rattle.graph.specs.Part.{between, partOf}
 use Rattle.graph.specs.Sound.{soundIds, soundOffsets, soundSide, mirrored, soundSides, soundGraph}
@@ -21,7 +22,6 @@ use Rattle.lcc.specs.Ratio.{euclid, gcdOf, lowest}
 use Rattle.lcc.specs.Lcc.{those, neighbours, arcsFrom, coefficientAmong, numerator, denominator}
 use Rattle.lcc.specs.Promise.{room, lccSays, lccCall}
 use Rattle.lists.specs.Files.{edgeTest}
-use Rattle.lists.specs.Lines.{linesFrom as files-linesFrom, valuesFrom}
 use Rattle.load.specs.Load.{arcsRead, listsRead, loaded, outcomeOf, loadCall}
 use Rattle.matching.specs.Close.{isClose}
 use Rattle.matching.specs.Claim.{linesFrom}

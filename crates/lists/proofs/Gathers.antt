@@ -14,7 +14,9 @@ use Rattle.basis.specs.Refusal.{Said, gives, refuses, edgeFile, said}
 use Rattle.basis.proofs.Tests.{no-case}
 use Rattle.basis.proofs.Areas.{replicate-at}
 use Rattle.text.specs.Word.{identOf}
-use Rattle.text.specs.Line.{twoOf, edgeLine}
+use Rattle.text.specs.Line.{twoOf}
+use Rattle.text.specs.File.{after}
+use Rattle.text.proofs.Files.{left, left-start}
 use Rattle.graph.specs.Arcs.{Arc}
 use Rattle.graph.specs.declared.find.Found.{Found}
 use Rattle.store.specs.Held.{seconds}
@@ -24,11 +26,10 @@ use Rattle.lists.specs.declared.Listed.the-variants.{Lines, Refused}
 use Rattle.lists.specs.declared.edges.Edges.{Edges}
 use Rattle.lists.specs.declared.edges.EdgeStep.{EdgeStep}
 use Rattle.lists.specs.declared.edges.EdgeStep.the-variants as ES
-use Rattle.lists.specs.Lines.{after}
 use Rattle.lists.specs.Files.{edgeTest, edgesOf, numbered, allNumbered}
 use Rattle.lists.specs.Calls.{listedSays}
 use Rattle.lists.specs.Steps.{Step, more, stop, beforeBy, pairOf, withNumbers, edgeStep, edgeStepSays, numberedInto, edgesLeft}
-use Rattle.lists.proofs.Runs.{line-moves, left, left-start, left-lines, left-refused, left-more, Moved, before-next}
+use Rattle.lists.proofs.Runs.{left-lines, left-refused, left-more, Moved, before-next}
 
 -- ---- what the loop keeps
 bump-few : (counts : List ℕ) (u k : ℕ) → ((i : ℕ) → getD counts i 0 ≤ k) → (i : ℕ) → getD (bump counts u) i 0 ≤ k + 1
@@ -63,7 +64,7 @@ numbers-stop place (more d n m) r h = no-case cc
 
 module _ (s : List ℕ) (most : ℕ) (both : Bool) (place : ℤ → Found) (counts₀ targets₀ : List ℕ) where
   abbrev edgeLeft : Edges → Said (List (ℤ × ℤ))
-  edgeLeft c = left edgeFile most (edgeTest both place) edgeLine s (c .lines) (beforeBy (c .lines) (pairOf c)) (c .at .at)
+  edgeLeft c = left (twoOf identOf identOf) edgeFile most (edgeTest both place) s (c .lines) (beforeBy (c .lines) (pairOf c)) (c .at .at)
 
   -- with the lines that are left, its count and its areas come out as the file says
   pub record Gathering (c : Edges) (counts targets : List ℕ) : Type 0 where
@@ -82,7 +83,7 @@ module _ (s : List ℕ) (most : ℕ) (both : Bool) (place : ℤ → Found) (coun
         longCounts = refl;
         longTargets = refl;
         few = λ i. subst (λ (l : List ℕ). getD l i 0 ≤ 0) (sym a) (let e = replicate-at {A = ℕ} 0 (length counts₀) i in omega arith);
-        same = ap (said (numberedInto place counts₀ targets₀ 0)) (left-start edgeFile most (edgeTest both place) edgeLine s);
+        same = ap (said (numberedInto place counts₀ targets₀ 0)) (left-start (twoOf identOf identOf) edgeFile most (edgeTest both place) s);
       }
 
   module _ (c : Edges) (counts targets : List ℕ) (g : Gathering c counts targets) (x : EdgeStep) (told : edgeStepSays x ≡ withNumbers place (edgeStep both most place s c)) where
@@ -90,11 +91,11 @@ module _ (s : List ℕ) (most : ℕ) (both : Bool) (place : ℤ → Found) (coun
       stepped : (more (pairOf d) (d .at .at) (d .lines) ≡ edgeStep both most place s c) × ((u, v) ≡ numbered place (pairOf d))
       stepped = numbers-more place (edgeStep both most place s c) (pairOf d) (u, v) (d .at .at) (d .lines) (ap edgeStepSays (sym e) ∙ told)
 
-      moved : Moved edgeFile most (edgeTest both place) edgeLine s (c .lines) (beforeBy (c .lines) (pairOf c)) (c .at .at) (pairOf d) (d .at .at) (d .lines)
+      moved : Moved (twoOf identOf identOf) edgeFile most (edgeTest both place) s (c .lines) (beforeBy (c .lines) (pairOf c)) (c .at .at) (pairOf d) (d .at .at) (d .lines)
       unfolding edgeStep
       moved =
-          left-more edgeFile most (edgeTest both place) edgeLine s (c .lines) (beforeBy (c .lines) (pairOf c)) (c .at .at)
-          (λ v next q. line-moves (twoOf identOf identOf) s (c .at .at) v next q) (g .low) (pairOf d) (d .at .at) (d .lines) (stepped .0)
+          left-more (twoOf identOf identOf) edgeFile most (edgeTest both place) s (c .lines) (beforeBy (c .lines) (pairOf c)) (c .at .at)
+          (g .low) (pairOf d) (d .at .at) (d .lines) (stepped .0)
 
       first-end : u ≡ numbered place (pairOf d) .0
       first-end = ap (λ (x : Arc). x .0) (stepped .1)
@@ -122,7 +123,7 @@ module _ (s : List ℕ) (most : ℕ) (both : Bool) (place : ℤ → Found) (coun
             few = λ i. rw (p, m .counted) (bump-few counts u (c .lines) (g .few) i);
             same =
                 rw (p′, q′, m .counted, before-next (c .lines + 1) (c .lines) (pairOf d) refl)
-                (into-more place counts targets (c .lines) (pairOf d) (left edgeFile most (edgeTest both place) edgeLine s (c .lines + 1) (after (pairOf d)) (d .at .at))
+                (into-more place counts targets (c .lines) (pairOf d) (left (twoOf identOf identOf) edgeFile most (edgeTest both place) s (c .lines + 1) (after (pairOf d)) (d .at .at))
                 ∙ ap (said (numberedInto place counts targets (c .lines))) (sym (m .same)) ∙ g .same);
           }
 
@@ -132,7 +133,7 @@ module _ (s : List ℕ) (most : ℕ) (both : Bool) (place : ℤ → Found) (coun
       where
         go : (out : Listed) → stop (listedSays out) ≡ edgeStep both most place s c → edgesLeft out counts targets ≡ said (numberedInto place counts₀ targets₀ 0) (edgesOf both most place s)
         go (Lines n) e =
-            let l = left-lines edgeFile most (edgeTest both place) edgeLine s (c .lines) (beforeBy (c .lines) (pairOf c)) (c .at .at) n e in
+            let l = left-lines (twoOf identOf identOf) edgeFile most (edgeTest both place) s (c .lines) (beforeBy (c .lines) (pairOf c)) (c .at .at) n e in
             (let a = l .0 in let b = add-zero (c .lines) in cc) ∙ ap (said (numberedInto place counts targets (c .lines))) (sym (l .1)) ∙ g .same
         go (Refused o) e =
-            ap (said (numberedInto place counts targets (c .lines))) (sym (left-refused edgeFile most (edgeTest both place) edgeLine s (c .lines) (beforeBy (c .lines) (pairOf c)) (c .at .at) o e)) ∙ g .same
+            ap (said (numberedInto place counts targets (c .lines))) (sym (left-refused (twoOf identOf identOf) edgeFile most (edgeTest both place) s (c .lines) (beforeBy (c .lines) (pairOf c)) (c .at .at) o (g .low) e)) ∙ g .same

@@ -14,6 +14,7 @@ use Rattle.basis.specs.declared.refusal.Refusal.{Refusal}
 use Rattle.basis.proofs.Tests.{no-case}
 use Rattle.basis.specs.Scan.{orElse}
 use Rattle.text.specs.Line.{LineSaid, line, fault, vertexLine, vertexSays, edgeLine, edgeSays}
+use Rattle.text.specs.File.{good, Before, faultOf}
 use Rattle.text.specs.declared.line.Cursor.{Cursor}
 use Rattle.text.specs.declared.line.VertexLine.{VertexLine}
 use Rattle.text.specs.declared.line.VertexLine.the-variants as VL
@@ -26,7 +27,6 @@ use Rattle.lists.specs.declared.vertices.Vertices.{Vertices}
 use Rattle.lists.specs.declared.edges.Edges.{Edges}
 use Rattle.lists.specs.declared.edges.Ends.{Ends}
 use Rattle.lists.specs.declared.edges.Ends.the-variants as EN
-use Rattle.lists.specs.Lines.{good, Before, faultOf}
 use Rattle.lists.specs.Files.{vertexTest, isAbove, numberOf, edgeTest, numbered}
 use Rattle.lists.specs.Steps.{Step, more, stop, byFault, stepBy, beforeBy, vertexStep, orderFault, Looked, found, unknown, lookedBy, endsSays, pairOf, withNumbers, edgeStep}
 

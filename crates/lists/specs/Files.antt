@@ -7,11 +7,11 @@ use lib.Signed.{ltZ}
 use Rattle.basis.specs.Refusal.{Said, notAbove, selfEdge, largerFirst, unknownVertex, vertexFile, edgeFile}
 use Rattle.basis.specs.Order.{sameZ}
 use Rattle.text.specs.Line.{vertexLine, edgeLine}
+use Rattle.text.specs.File.{linesOf, Before, first, after, valuesOf}
 use Rattle.graph.specs.Arcs.{Arc}
 use Rattle.graph.specs.declared.find.Found.{Found}
 use Rattle.graph.specs.declared.find.Found.the-variants.{At, Missing}
 use Rattle.graph.specs.Find.{isThere}
-use Rattle.lists.specs.Lines.{linesOf, Before, first, after, valuesOf}
 
 -- "Vertex lines strictly rise as signed numbers."
 abbrev pub vertexTest : Before ℤ → ℤ → ℕ

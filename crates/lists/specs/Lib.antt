@@ -1,5 +1,4 @@
 -- What the contracts of the two lists cite, in reading order.
-pub mod Lines
 pub mod Files
 pub mod Calls
 pub mod Steps

@@ -10,6 +10,7 @@ use lib.Dec.{ltb}
 use Rattle.basis.specs.Refusal.{Said, gives, refuses, at, notAbove, selfEdge, largerFirst, vertexFile, edgeFile}
 use Rattle.basis.specs.Order.{sameZ}
 use Rattle.text.specs.Line.{LineSaid, line, none, fault, vertexLine, edgeLine}
+use Rattle.text.specs.File.{good, bad, Before, first, after, faultOf}
 use Rattle.graph.specs.Arcs.{Arc}
 use Rattle.graph.specs.declared.find.Found.{Found}
 use Rattle.graph.specs.declared.find.Found.the-variants.{At, Missing}
@@ -25,7 +26,6 @@ use Rattle.lists.specs.declared.edges.Ends.{Ends}
 use Rattle.lists.specs.declared.edges.Ends.the-variants as EN
 use Rattle.lists.specs.declared.edges.EdgeStep.{EdgeStep}
 use Rattle.lists.specs.declared.edges.EdgeStep.the-variants as ES
-use Rattle.lists.specs.Lines.{good, bad, Before, first, after, faultOf}
 use Rattle.lists.specs.Calls.{listedSays}
 use Rattle.lists.specs.Files.{vertexTest, isAbove, edgeTest, numbered, allNumbered}
 

@@ -13,7 +13,7 @@ ghost use mathlib.Core.Path.{_≡_};
 ghost use Prim.Native.Nat.{_+_, _-_, _<_, _^_};
 ghost use lib.ListN.{length, set};
 ghost use Rattle.basis.specs.Refusal.{vertexFile, said};
-ghost use Rattle.lists.specs.Lines.{good, faultOf};
+ghost use Rattle.text.specs.File.{good, faultOf};
 ghost use Rattle.lists.specs.Files.{vertexTest, identifiers};
 ghost use Rattle.lists.specs.Calls.{listedSays, vertexOutcome, vertexCall};
 ghost use Rattle.lists.specs.Steps.{beforeBy, vertexStep, vertexStepSays, idsInto, idsLeft};

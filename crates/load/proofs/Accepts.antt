@@ -1,139 +1,31 @@
 -- A load is accepted exactly when both files have the form and order that 01 asks for and the areas have room. Assumes nothing.
-use Prim.Native.Nat.{ℕ, zero, suc, _+_, _≤_, _<_}
+use Prim.Native.Nat.{ℕ}
 use mathlib.Core.Path.{_≡_, refl, sym, ap, subst, _∙_}
 use mathlib.Core.Logic.{_↔_}
-use mathlib.Core.Bool.{Bool, true, false, not, cond, _&&_}
-use mathlib.Core.List.{List, [], _∷_, _++_}
-use native.Mathlib.Omega.{arith}
-use native.Mathlib.Nat.{not-suc-le-zero}
-use borrow.Author.Tests.{leb-true, ltb-true, le-leb, lt-leb, lt-ltb, not-true}
-use lib.ListN.{length, drop, length-append, drop-of-length-le, length-drop}
+use mathlib.Core.Bool.{Bool, true, false, not, _&&_}
+use mathlib.Core.List.{List, [], _∷_}
+use borrow.Author.Tests.{leb-true, ltb-true, le-leb, lt-ltb, not-true}
+use lib.ListN.{length}
 use lib.Dec.{leb, ltb}
 use lib.IntN.{ℤ}
 use lib.Signed.{ltZ}
 use Rattle.basis.specs.Refusal.{gives, vertexFile, edgeFile, unknownNumber, noRoom}
 use Rattle.basis.specs.Order.{sameZ, aboveBy, risingBy, risingZ}
-use Rattle.basis.specs.Scan.{each, mem}
-use Rattle.basis.proofs.Tests.{and-first, and-second, and-both, no-case}
+use Rattle.basis.specs.Scan.{each}
+use Rattle.basis.proofs.Tests.{and-first, and-second, and-both}
 use Rattle.basis.proofs.Saids.{given-one, check-passed, onward-passed}
-use Rattle.text.specs.Word.{Word, malformed, outside, value, identOf}
-use Rattle.text.specs.Line.{LineSaid, line, none, fault, lf, upTo, past, lineSays, lineBy, twoOf, vertexLine, edgeLine}
-use Rattle.text.proofs.Bytes.{cut-at, upTo-none, mem-cut, upTo-cut, drop-past}
+use Rattle.text.specs.Word.{identOf}
+use Rattle.text.specs.Line.{twoOf}
+use Rattle.text.specs.File.{Before, first, after, Passes}
+use Rattle.text.proofs.Files.{file-accepted}
 use Rattle.graph.specs.Arcs.{Arc, arcs}
 use Rattle.graph.specs.Find.{placeIn, isThere}
 use Rattle.load.specs.declared.Limits.{Limits}
-use Rattle.lists.specs.Lines.{good, bad, linesFrom, linesOf, Before, first, after}
 use Rattle.lists.specs.Files.{vertexTest, identifiers, abovePair, isAbove, edgeTest, edgesOf, allNumbered}
 use Rattle.load.specs.Load.{Lists, Room, isUndirected, vertexRoom, arcRoom, withRoom, arcsRead, listsRead, loaded}
-use Rattle.load.specs.Good.{joined, Says, FileSays, allGood, Passes, GoodVertices, GoodEdges, GoodLoad}
-use Rattle.load.proofs.Values.{values-accepted, accepted-values}
+use Rattle.load.specs.Good.{GoodVertices, GoodEdges, GoodLoad}
 use Rattle.load.proofs.Valids.{test-passed, passed-test}
 use Rattle.load.proofs.Loads.{ids-rise}
-
--- ---- the lines of a file, by the reader and by its bytes
-module _ {A : Type 0} (word : List ℕ → Word A) (s : List ℕ) where
-  -- a line that is read, and the bytes after it
-  record Read (place : ℕ) (v : A) (next : ℕ) : Type 0 where
-    w : List ℕ
-    cut : drop place s ≡ w ++ lf ∷ drop next s
-    whole : mem lf w ≡ false
-    says : word w ≡ value v
-
-  said-line : (place next : ℕ) (x : Word A) (v : A) (k : ℕ) → lineSays place next x ≡ line v k → (x ≡ value v) × (next ≡ k)
-  said-line place next malformed v k e = no-case cc
-  said-line place next outside v k e = no-case cc
-  said-line place next (value w) v k e = (cc, (cc))
-
-  line-read : (place : ℕ) (v : A) (next : ℕ) → lineBy word s place ≡ line v next → Read place v next
-  unfolding lineBy
-  line-read place v next e = go (leb (length s) place) (mem lf (drop place s)) refl e
-    where
-      go : (t u : Bool) → mem lf (drop place s) ≡ u
-          → cond t (none place) (cond u (lineSays place (place + length (upTo lf (drop place s)) + 1) (word (upTo lf (drop place s)))) (fault 2 place)) ≡ line v next → Read place v next
-      go true u q h = no-case cc
-      go false false q h = no-case cc
-      go false true q h =
-          let n = said-line place (place + length (upTo lf (drop place s)) + 1) (word (upTo lf (drop place s))) v next h in
-          let c = cut-at lf (drop place s) q in
-          let d = drop-past s (upTo lf (drop place s)) (past lf (drop place s)) place lf c in
-          record {
-            w = upTo lf (drop place s);
-            cut = c ∙ ap (λ (l : List ℕ). upTo lf (drop place s) ++ lf ∷ l) (sym d ∙ ap (λ (k : ℕ). drop k s) (n .1));
-            whole = upTo-none lf (drop place s);
-            says = n .0;
-          }
-
-  line-none : (place p : ℕ) → lineBy word s place ≡ none p → drop place s ≡ []
-  unfolding lineBy
-  line-none place p e = go (leb (length s) place) (mem lf (drop place s)) refl e
-    where
-      says-none : (x : Word A) (next : ℕ) → lineSays place next x ≡ none p → ⊥
-      says-none malformed next h = no-case cc
-      says-none outside next h = no-case cc
-      says-none (value v) next h = no-case cc
-
-      go : (t u : Bool) → leb (length s) place ≡ t
-          → cond t (none place) (cond u (lineSays place (place + length (upTo lf (drop place s)) + 1) (word (upTo lf (drop place s)))) (fault 2 place)) ≡ none p → drop place s ≡ []
-      go true u q h = drop-of-length-le s (leb-true (length s) place q)
-      go false true q h = absurd (says-none (word (upTo lf (drop place s))) (place + length (upTo lf (drop place s)) + 1) h)
-      go false false q h = no-case cc
-
-  -- from the reader to the bytes: with more turns than bytes are left
-  reader-says : (m place : ℕ) (vs : List A) → length (drop place s) < m → linesFrom (lineBy word s) m place ≡ allGood vs → FileSays word (drop place s) vs
-  unfolding linesFrom
-  reader-says zero place vs l e = absurd (not-suc-le-zero l)
-  reader-says (suc m) place vs l e = go (lineBy word s place) refl vs e (reader-says m)
-    where
-      go : (x : LineSaid A) → lineBy word s place ≡ x → (vs : List A)
-          → elim x [ line v next ↦ good v ∷ linesFrom (lineBy word s) m next | none p ↦ [] | fault n p ↦ bad n ∷ [] ] ≡ allGood vs
-          → ((next : ℕ) (vs : List A) → length (drop next s) < m → linesFrom (lineBy word s) m next ≡ allGood vs → FileSays word (drop next s) vs) → FileSays word (drop place s) vs
-      go (none p) q [] h f = record { words = []; whole = line-none place p q; values = tt }
-      go (none p) q (v ∷ vs) h f = no-case cc
-      go (fault n p) q [] h f = no-case cc
-      go (fault n p) q (v ∷ vs) h f = no-case cc
-      go (line u next) q [] h f = no-case cc
-      go (line u next) q (v ∷ vs) h f =
-          let r = line-read place u next q in
-          let a : u ≡ v = cc in
-          let b : linesFrom (lineBy word s) m next ≡ allGood vs = cc in
-          let k = ap length (r .cut) ∙ length-append (r .w) (lf ∷ drop next s) in
-          let g = f next vs (omega arith) b in
-          record { words = r .w ∷ g .words; whole = r .cut ∙ ap (λ (l : List ℕ). r .w ++ lf ∷ l) (g .whole); values = (r .whole, r .says ∙ ap value a, g .values) }
-
-  -- from the bytes to the reader
-  empty-none : (place : ℕ) → drop place s ≡ [] → lineBy word s place ≡ none place
-  unfolding lineBy
-  empty-none place e = rw (le-leb (length s) place (let a = ap length e in let b = length-drop place s in omega arith))
-
-  word-line : (place : ℕ) (w r : List ℕ) (v : A) → drop place s ≡ w ++ lf ∷ r → mem lf w ≡ false → word w ≡ value v → lineBy word s place ≡ line v (place + length w + 1)
-  unfolding lineBy
-  word-line place w r v e h g =
-      let a = ap length e ∙ length-append w (lf ∷ r) in
-      let b = length-drop place s in
-      rw (lt-leb (length s) place (omega arith), e, mem-cut lf w r, upTo-cut lf w r h, g)
-
-  says-reader : (m place : ℕ) (words : List (List ℕ)) (vs : List A) → drop place s ≡ joined words → Says word words vs → length vs ≤ m → linesFrom (lineBy word s) m place ≡ allGood vs
-  unfolding linesFrom
-  says-reader zero place words [] e h l = refl
-  says-reader zero place words (v ∷ vs) e h l = absurd (not-suc-le-zero l)
-  says-reader (suc m) place [] [] e h l = rw (linesFrom, empty-none place e)
-  says-reader (suc m) place (w ∷ ws) [] e h l = absurd h
-  says-reader (suc m) place [] (v ∷ vs) e h l = absurd h
-  says-reader (suc m) place (w ∷ ws) (v ∷ vs) e h l =
-      rw (linesFrom, word-line place w (joined ws) v e (h .0) (h .1))
-      (ap (λ x. good v ∷ x) (says-reader m (place + length w + 1) ws vs (drop-past s w (joined ws) place lf e) (h .2) (omega arith)))
-
-  says-short : (words : List (List ℕ)) (vs : List A) → Says word words vs → length vs ≤ length (joined words)
-  says-short [] [] h = omega arith
-  says-short [] (v ∷ vs) h = absurd h
-  says-short (w ∷ ws) [] h = absurd h
-  says-short (w ∷ ws) (v ∷ vs) h = let i = says-short ws vs (h .2) in let a = length-append w (lf ∷ joined ws) in omega arith
-
-  pub lines-say : (vs : List A) → (linesOf (lineBy word) s ≡ allGood vs) ↔ FileSays word s vs
-  lines-say vs = (
-    (λ e. reader-says (suc (length s)) 0 vs (omega arith) e),
-    λ f. says-reader (suc (length s)) 0 (f .words) vs (f .whole) (f .values) (let l = says-short (f .words) vs (f .values) in let k = ap length (f .whole) in omega arith),
-  )
 
 -- ---- the vertex file
 rises-pass : (y : ℤ) (l : List ℤ) → aboveBy ltZ y l ≡ true → Passes vertexTest (after y) l
@@ -144,13 +36,11 @@ pass-first : (l : List ℤ) → risingZ l ≡ true → Passes vertexTest first l
 pass-first [] h = tt
 pass-first (z ∷ l) h = (refl, rises-pass z l h)
 
--- "accepted exactly when": a vertex file gives identifiers exactly where it is a good file of them
+-- a vertex file gives identifiers exactly where it is a good file of them
 pub vertices-accepted : (most : ℕ) (s : List ℕ) (ids : List ℤ) → (identifiers most s ≡ gives ids) ↔ GoodVertices most s ids
 vertices-accepted most s ids = (
-  (λ e. let a = values-accepted vertexFile most vertexTest 0 first (linesOf vertexLine s) ids e (omega arith) in
-      record { lines = lines-say identOf s ids .0 (a .lines); few = let l = a .few in omega arith; rise = ids-rise ids (a .passes) }),
-  λ g. accepted-values vertexFile most vertexTest 0 first (linesOf vertexLine s) ids
-      (record { lines = lines-say identOf s ids .1 (g .lines); passes = pass-first ids (g .rise); few = let l = g .few in omega arith }),
+  (λ e. let a = file-accepted identOf vertexFile most vertexTest s ids .0 e in record { lines = a .lines; few = a .few; rise = ids-rise ids (a .pass) }),
+  λ g. file-accepted identOf vertexFile most vertexTest s ids .1 (record { lines = g .lines; few = g .few; pass = pass-first ids (g .rise) }),
 )
 
 -- ---- the edge file
@@ -223,21 +113,21 @@ module _ (both : Bool) (ids : List ℤ) where
 -- an edge file gives edges exactly where it is a good file of them
 pub edges-accepted : (both : Bool) (most : ℕ) (ids : List ℤ) (s : List ℕ) (es : List (ℤ × ℤ)) → (edgesOf both most (placeIn ids) s ≡ gives es) ↔ GoodEdges both most ids s es
 edges-accepted both most ids s es = (
-  (λ e. let a = values-accepted edgeFile most (edgeTest both (placeIn ids)) 0 first (linesOf edgeLine s) es e (omega arith) in
-      let c = clauses-of both ids first es (a .passes) in
+  (λ e. let a = file-accepted (twoOf identOf identOf) edgeFile most (edgeTest both (placeIn ids)) s es .0 e in
+      let c = clauses-of both ids first es (a .pass) in
       record {
-        lines = lines-say (twoOf identOf identOf) s es .0 (a .lines);
-        few = let l = a .few in omega arith;
+        lines = a .lines;
+        few = a .few;
         rise = c .above;
         apart = c .apart;
         smaller = c .smaller;
         there = c .there;
       }),
-  λ g. accepted-values edgeFile most (edgeTest both (placeIn ids)) 0 first (linesOf edgeLine s) es
+  λ g. file-accepted (twoOf identOf identOf) edgeFile most (edgeTest both (placeIn ids)) s es .1
       (record {
-        lines = lines-say (twoOf identOf identOf) s es .1 (g .lines);
-        passes = passes-of both ids first es (record { above = g .rise; apart = g .apart; smaller = g .smaller; there = g .there });
-        few = let l = g .few in omega arith;
+        lines = g .lines;
+        few = g .few;
+        pass = passes-of both ids first es (record { above = g .rise; apart = g .apart; smaller = g .smaller; there = g .there });
       }),
 )
 
@@ -298,6 +188,6 @@ module _ (limits : Limits) (mode : ℕ) (room : Room) (vertices edges : List ℕ
         ← l .arcsAre,
       )
 
-  -- "a load is accepted exactly when both files have the form and order that 01 asks for", and there is room
+  -- a load is accepted exactly where both files have the form and order that 01 asks for, and there is room
   pub load-accepted : (loaded limits mode room vertices edges ≡ gives g) ↔ GoodLoad limits mode room vertices edges g
   load-accepted = (load-good, good-load)

@@ -10,13 +10,12 @@ use lib.ListN.{length, take, drop, replicate}
 use lib.Seq.{take-all}
 use lib.Dec.{leb, ltb}
 use lib.IntN.{ℤ}
-use Rattle.basis.specs.Refusal.{Said, gives, refuses, plain, noRoom, edgeFile, said}
+use Rattle.basis.specs.Refusal.{Said, gives, refuses, plain, noRoom, said}
 use Rattle.basis.specs.declared.refusal.Refusal.{Refusal}
 use Rattle.basis.specs.Area.{pad}
 use Rattle.basis.specs.Scan.{each}
 use Rattle.basis.proofs.Tests.{and-off, and-both}
 use Rattle.basis.proofs.Saids.{said-gives, said-refuses}
-use Rattle.text.specs.Line.{edgeLine}
 use Rattle.graph.specs.Arcs.{Arc, arcs, parts, start, offsets}
 use Rattle.graph.specs.Find.{placeIn, bisected}
 use Rattle.store.specs.Held.{held, Ends, inArcs, inOffsets, inSources, seconds}
@@ -29,13 +28,11 @@ use Rattle.store.proofs.Order.{Valid, valid-ends}
 use Rattle.store.proofs.Built.{offsets-length, parts-seconds, held-built}
 use Rattle.lists.specs.declared.Listed.{Listed}
 use Rattle.lists.specs.declared.Listed.the-variants.{Lines, Refused}
-use Rattle.lists.specs.Lines.{linesOf, first}
-use Rattle.lists.specs.Files.{edgeTest, edgesOf, allNumbered}
+use Rattle.lists.specs.Files.{edgesOf, allNumbered}
 use Rattle.lists.specs.Calls.{listedSays, EdgesRead, edgeOutcome, countsArea, targetsArea, edgeCall}
 use Rattle.load.specs.Load.{arcRoom}
 use Rattle.load.specs.Steps.{edgesRead, Arranged, arranged, arrangedBy, Blank}
-use Rattle.load.proofs.Values.{values-accepted}
-use Rattle.load.proofs.Valids.{valid-edges}
+use Rattle.load.proofs.Valids.{valid-file}
 use Rattle.load.proofs.Lookups.{same-edges, same-numbered}
 
 -- ---- lengths of edges and arcs
@@ -110,8 +107,7 @@ module _ (both : Bool) (most : ℕ) (ids : List ℤ) (s : List ℕ) (fo ft to tt
 
     valid : Valid both n es
     valid =
-        valid-edges ids (blank .rise) both first (taken .0)
-        (values-accepted edgeFile most (edgeTest both (placeIn ids)) 0 first (linesOf edgeLine s) (taken .0) (taken .1) (omega arith) .passes)
+        valid-file ids (blank .rise) both most s (taken .0) (taken .1)
 
     ends : Ends n es
     ends = valid-ends n es (valid .fine)

@@ -8,8 +8,8 @@ use Rattle.basis.specs.Scan.{each, mem}
 use Rattle.basis.specs.Area.{column}
 use Rattle.text.specs.Word.{within}
 use Rattle.text.specs.Line.{lineBy, twoOf}
+use Rattle.text.specs.File.{linesFrom, valuesFrom}
 use Rattle.graph.specs.Find.{placeFrom}
-use Rattle.lists.specs.Lines.{linesFrom, valuesFrom}
 use Rattle.lists.specs.Files.{edgeTest}
 use Rattle.load.specs.Load.{roomOf, arcsRead, listsRead, loaded, outcome, outcomeOf, loadCall, library}
 

@@ -9,14 +9,13 @@ use lib.ListN.{length, take, drop, replicate, length-append}
 use lib.Seq.{take-at, drop-append-add}
 use lib.Dec.{leb}
 use lib.IntN.{ℤ}
-use Rattle.basis.specs.Refusal.{Said, gives, refuses, edgeFile, onward, said, noRoom}
+use Rattle.basis.specs.Refusal.{Said, gives, refuses, onward, said, noRoom}
 use Rattle.basis.specs.declared.refusal.Refusal.{Refusal}
 use Rattle.basis.specs.Area.{pad, copied}
 use Rattle.basis.specs.Order.{risingZ}
 use Rattle.basis.proofs.Tests.{and-first, no-case, and-swap}
 use Rattle.basis.proofs.Areas.{column-ext, drop-replicate, pad-length, copied-first}
 use Rattle.basis.proofs.Saids.{said-gives, said-refuses, given-one, check-passed}
-use Rattle.text.specs.Line.{edgeLine}
 use Rattle.graph.specs.Find.{placeIn}
 use Rattle.graph.specs.Arcs.{Arc, arcs, parts, start, offsets}
 use Rattle.store.specs.Held.{inArcs}
@@ -27,12 +26,10 @@ use Rattle.store.proofs.Order.{Valid, valid-ends}
 use Rattle.store.proofs.Built.{offsets-length, both-parts, parts-seconds}
 use Rattle.lists.specs.declared.Listed.{Listed}
 use Rattle.lists.specs.declared.Listed.the-variants.{Lines, Refused}
-use Rattle.lists.specs.Lines.{linesOf, first}
-use Rattle.lists.specs.Files.{edgeTest, edgesOf, allNumbered}
+use Rattle.lists.specs.Files.{edgesOf, allNumbered}
 use Rattle.load.specs.Load.{arcRoom, withRoom, arcsRead}
 use Rattle.load.specs.Steps.{edgesRead, Arranged, arranged, arrangedBy, arrangedLeft, Filled, filled, filledBy}
-use Rattle.load.proofs.Values.{values-accepted}
-use Rattle.load.proofs.Valids.{valid-edges}
+use Rattle.load.proofs.Valids.{valid-file}
 use Rattle.store.proofs.Fits.{arc-count}
 use Rattle.load.proofs.Arranges.{length-seconds}
 
@@ -79,7 +76,7 @@ module _ (both : Bool) (most : ℕ) (ids : List ℤ) (s : List ℕ) where
     pub read-valid : Valid both (length ids) es
     read-valid =
         subst (Valid both (length ids)) (taken .2)
-        (valid-edges ids rise both first (taken .0) (values-accepted edgeFile most (edgeTest both (placeIn ids)) 0 first (linesOf edgeLine s) (taken .0) (taken .1) (omega arith) .passes))
+        (valid-file ids rise both most s (taken .0) (taken .1))
 
     pub read-fits : arcCount both (length es) ≤ t
     read-fits = let l = leb-true (length (arcs both es)) t (and-first (leb (length (arcs both es)) t) (leb (length (arcs both es)) t′) (taken .3)) in omega (arith, arc-count both es)

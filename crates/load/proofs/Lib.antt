@@ -1,5 +1,4 @@
 -- Laws of a load, and what it means.
-pub mod Values
 pub mod Valids
 pub mod Lookups
 pub mod Arranges

@@ -16,7 +16,9 @@ use Rattle.basis.specs.Area.{padZ}
 use Rattle.basis.specs.Order.{aboveBy, risingZ}
 use Rattle.basis.proofs.Tests.{and-first, and-second, and-both, and-off, no-case}
 use Rattle.basis.proofs.Saids.{said-gives, said-refuses}
-use Rattle.text.specs.Line.{vertexLine}
+use Rattle.text.specs.Word.{identOf}
+use Rattle.text.specs.File.{first, after, Passes}
+use Rattle.text.proofs.Files.{file-accepted}
 use Rattle.graph.specs.declared.Size.{Size}
 use Rattle.graph.specs.Arcs.{Arc, arcs}
 use Rattle.load.specs.declared.Limits.{Limits}
@@ -24,13 +26,10 @@ use Rattle.load.specs.declared.Loaded.{Loaded}
 use Rattle.load.specs.declared.Loaded.the-variants as L
 use Rattle.lists.specs.declared.Listed.{Listed}
 use Rattle.lists.specs.declared.Listed.the-variants.{Lines, Refused}
-use Rattle.lists.specs.Lines.{linesOf, first, after}
 use Rattle.lists.specs.Files.{vertexTest, identifiers}
 use Rattle.lists.specs.Calls.{listedSays, Vertexes, vertexOutcome, idsArea, vertexCall}
 use Rattle.load.specs.Load.{Room, roomOf, vertexRoom, arcsRead, listsRead, loaded, Outcome, outcome, outcomeOf, loadCall}
 use Rattle.load.specs.Steps.{Blank, Filled, filled, filledBy, filledLeft, outcomeBy, outcomeLeft, Emptied}
-use Rattle.load.specs.Good.{Passes}
-use Rattle.load.proofs.Values.{values-accepted}
 
 -- ---- places for identifiers and offsets
 module _ (n ids oo io : ℕ) where
@@ -144,7 +143,7 @@ module _ (limits : Limits) (mode : ℕ) (v e : List ℕ) (ids : List ℤ) (oo ot
           fill-blank =
               record {
                 rise = subst (λ (l : List ℤ). risingZ l ≡ true) (sym lent)
-                    (ids-rise list (values-accepted vertexFile (limits .vertices) vertexTest 0 first (linesOf vertexLine v) list (taken .1) (omega arith) .passes));
+                    (ids-rise list (file-accepted identOf vertexFile (limits .vertices) vertexTest v list .0 (taken .1) .pass));
                 places = let l = ltb-true n (length oo) (and-first (ltb n (length oo)) (ltb n (length io)) both-fit) in omega (arith, lent-long);
                 backPlaces = let l = ltb-true n (length io) (and-second (ltb n (length oo)) (ltb n (length io)) both-fit) in omega (arith, lent-long);
               }

@@ -1,25 +1,28 @@
 -- What a load means: the graph that it stores is sound, its parts are the arcs of the edge file, and a refused file is refused at its first line at fault.
 -- Assumes nothing.
-use Prim.Native.Nat.{ℕ, zero, suc, _+_, _-_, _≤_, _<_}
+use Prim.Native.Nat.{ℕ, _+_, _-_, _≤_, _<_}
 use mathlib.Core.Path.{_≡_, refl, sym, ap, subst, _∙_}
-use mathlib.Core.Bool.{Bool, true, false, cond, _&&_, _||_}
+use mathlib.Core.Logic.{_↔_}
+use mathlib.Core.Bool.{Bool, true, false, _&&_, _||_}
 use mathlib.Core.List.{List, [], _∷_}
 use native.Mathlib.Omega.{arith}
 use borrow.Author.Tests.{le-leb}
-use lib.ListN.{length, getD, drop, replicate}
+use lib.ListN.{length, getD, replicate}
 use lib.Seq.{take-at}
-use lib.Dec.{eqb, leb}
+use lib.Dec.{eqb}
 use lib.IntN.{ℤ, pos}
 use Rattle.basis.specs.Refusal.{gives, refuses, vertexFile, edgeFile, said}
 use Rattle.basis.specs.declared.refusal.Refusal.{Refusal}
 use Rattle.basis.specs.Area.{padZ}
 use Rattle.basis.specs.Order.{sameZ, risingZ}
 use Rattle.basis.specs.Scan.{each, mem}
-use Rattle.basis.proofs.Tests.{and-first, and-second, and-both, no-case, eqb-swap, and-swap}
+use Rattle.basis.proofs.Tests.{and-first, and-second, and-both, eqb-swap, and-swap}
 use Rattle.basis.proofs.Areas.{pad-length}
 use Rattle.basis.proofs.Orders.{signed-order, same-places}
-use Rattle.text.specs.Word.{Word, malformed, outside, value, identOf}
-use Rattle.text.specs.Line.{LineSaid, line, none, fault, lf, upTo, lineSays, lineBy, twoOf, vertexLine, edgeLine}
+use Rattle.text.specs.Word.{identOf}
+use Rattle.text.specs.Line.{twoOf}
+use Rattle.text.specs.File.{FirstFault}
+use Rattle.text.proofs.Files.{file-refused}
 use Rattle.graph.specs.Arcs.{Arc, arcs}
 use Rattle.graph.specs.Find.{placeIn, isThere}
 use Rattle.graph.specs.Sound.{Graph, outward, inward, soundIds, soundGraph}
@@ -27,51 +30,23 @@ use Rattle.store.proofs.Fits.{arc-count}
 use Rattle.store.proofs.Order.{Valid}
 use Rattle.store.proofs.Meaning.{hasArc, storedGraph, stored-sound, stored-outward, stored-inward}
 use Rattle.load.specs.declared.Limits.{Limits}
-use Rattle.lists.specs.Lines.{good, bad, linesFrom, linesOf, first}
 use Rattle.lists.specs.Files.{vertexTest, identifiers, numberOf, edgeTest, edgesOf, numbered, allNumbered}
 use Rattle.load.specs.Load.{Lists, Room, isUndirected, sizeOf, loaded, Outcome, outcomeOf, loadCall}
 use Rattle.store.specs.Spread.{arcCount}
-use Rattle.load.specs.Good.{GoodEdges, GoodLoad, hasEdge, listsArc, graphLeft, FirstFault}
-use Rattle.load.proofs.Values.{Numbered, values-accepted, values-refused}
-use Rattle.load.proofs.Valids.{there, valid-edges}
+use Rattle.load.specs.Good.{GoodEdges, GoodLoad, hasEdge, listsArc, graphLeft}
+use Rattle.load.proofs.Valids.{there, valid-file}
 use Rattle.load.proofs.Arranges.{length-numbered}
 use Rattle.load.proofs.Accepts.{edges-accepted, load-accepted}
 
 -- ---- a refused file
-module _ {A : Type 0} (word : List ℕ → Word A) (s : List ℕ) where
-  fault-number : (place n p : ℕ) → lineBy word s place ≡ fault n p → n ≡ 0 → ⊥
-  unfolding lineBy
-  fault-number place n p e z = go (leb (length s) place) (mem lf (drop place s)) e
-    where
-      says : (x : Word A) (next : ℕ) → lineSays place next x ≡ fault n p → ⊥
-      says malformed next h = let a : 2 ≡ n = cc in omega arith
-      says outside next h = let a : 3 ≡ n = cc in omega arith
-      says (value v) next h = no-case cc
+-- a vertex file is refused exactly at its first fault, said of its bytes
+pub vertices-refused : (most : ℕ) (s : List ℕ) (r : Refusal) → (identifiers most s ≡ refuses r) ↔ FirstFault identOf vertexFile most vertexTest s r
+vertices-refused most s r = file-refused identOf vertexFile most vertexTest s r
 
-      go : (t u : Bool) → cond t (none place) (cond u (lineSays place (place + length (upTo lf (drop place s)) + 1) (word (upTo lf (drop place s)))) (fault 2 place)) ≡ fault n p → ⊥
-      go true u h = no-case cc
-      go false true h = says (word (upTo lf (drop place s))) (place + length (upTo lf (drop place s)) + 1) h
-      go false false h = let a : 2 ≡ n = cc in omega arith
-
-  lines-numbered : (m place : ℕ) → Numbered (linesFrom (lineBy word s) m place)
-  unfolding linesFrom
-  lines-numbered zero place = tt
-  lines-numbered (suc m) place = go (lineBy word s place) refl (lines-numbered m)
-    where
-      go : (x : LineSaid A) → lineBy word s place ≡ x → ((next : ℕ) → Numbered (linesFrom (lineBy word s) m next))
-          → Numbered {A = A} (elim x [ line v next ↦ good v ∷ linesFrom (lineBy word s) m next | none p ↦ [] | fault n p ↦ bad n ∷ [] ])
-      go (line v next) q f = f next
-      go (none p) q f = tt
-      go (fault n p) q f = fault-number place n p q
-
--- "loading is refused at the first line at fault", of either file
-pub vertices-refused : (most : ℕ) (s : List ℕ) (r : Refusal) → identifiers most s ≡ refuses r → FirstFault vertexFile most vertexTest 0 first (linesOf vertexLine s) r
-vertices-refused most s r h = values-refused vertexFile most vertexTest 0 first (linesOf vertexLine s) r (lines-numbered identOf s (suc (length s)) 0) h
-
-pub edges-refused : (both : Bool) (most : ℕ) (ids : List ℤ) (s : List ℕ) (r : Refusal) → edgesOf both most (placeIn ids) s ≡ refuses r
-    → FirstFault edgeFile most (edgeTest both (placeIn ids)) 0 first (linesOf edgeLine s) r
-edges-refused both most ids s r h =
-    values-refused edgeFile most (edgeTest both (placeIn ids)) 0 first (linesOf edgeLine s) r (lines-numbered (twoOf identOf identOf) s (suc (length s)) 0) h
+-- an edge file is refused exactly at its first fault, said of its bytes
+pub edges-refused : (both : Bool) (most : ℕ) (ids : List ℤ) (s : List ℕ) (r : Refusal)
+    → (edgesOf both most (placeIn ids) s ≡ refuses r) ↔ FirstFault (twoOf identOf identOf) edgeFile most (edgeTest both (placeIn ids)) s r
+edges-refused both most ids s r = file-refused (twoOf identOf identOf) edgeFile most (edgeTest both (placeIn ids)) s r
 
 -- ---- the arcs of an edge list, by identifiers
 or-four : (a b c d : Bool) → (a || (b || (c || d))) ≡ ((a || c) || (b || d))
@@ -146,15 +121,14 @@ module _ (limits : Limits) (mode : ℕ) (room : Room) (vertices edges : List ℕ
 
   valid : Valid both (length (g .ids)) es
   valid =
-      valid-edges (g .ids) (ok .goodVertices .rise) both first (ok .list)
-      (values-accepted edgeFile (limits .edges) (edgeTest both (placeIn (g .ids))) 0 first (linesOf edgeLine edges) (ok .list)
-      (edges-accepted both (limits .edges) (g .ids) edges (ok .list) .1 (ok .goodEdges)) (omega arith) .passes)
+      valid-file (g .ids) (ok .goodVertices .rise) both (limits .edges) edges (ok .list)
+      (edges-accepted both (limits .edges) (g .ids) edges (ok .list) .1 (ok .goodEdges))
 
   abbrev stored : Graph
   stored =
       storedGraph (length (g .ids)) (arcs both es) (padZ (room .ids) (g .ids)) (room .outOffsets) (room .outTargets) (room .inOffsets) (room .inSources)
 
-  -- "what it stores": the answer is the graph's size, and the areas hold it
+  -- the answer is the graph's size, and the areas hold it
   pub load-answer : outcome .answer ≡ gives (sizeOf g)
   unfolding loadCall outcomeOf
   load-answer = ap (λ x. said sizeOf x) h
@@ -194,7 +168,7 @@ module _ (limits : Limits) (mode : ℕ) (room : Room) (vertices edges : List ℕ
       let b = edges-accepted both (limits .edges) (g .ids) edges list .1 fine in
       cc
 
-  -- "w is in u's outward part exactly where the edge file has that arc", and u in w's inward part
+  -- w is in u's outward part exactly where the edge file has that arc, and u in w's inward part
   pub load-outward : (list : List (ℤ × ℤ)) → GoodEdges both (limits .edges) (g .ids) edges list → (u w : ℕ) → u < length (g .ids) → w < length (g .ids)
       → mem w (outward graph u) ≡ listsArc both list (getD (g .ids) u (pos 0)) (getD (g .ids) w (pos 0))
   load-outward list fine u w hu hw =

@@ -8,10 +8,11 @@ use lib.ListN.{length}
 use Rattle.basis.specs.declared.refusal.Refusal.{Refusal}
 use Rattle.basis.specs.Refusal.{Said, vertexFile, edgeFile}
 use Rattle.basis.proofs.Saids.{Either, Any, either-refused, either-cond, refused-onward}
+use Rattle.text.proofs.Files.{Met}
 use Rattle.graph.specs.Arcs.{arcs}
 use Rattle.graph.specs.Find.{placeIn}
 use Rattle.lists.specs.Files.{identifiers, edgesOf, allNumbered}
-use Rattle.lists.proofs.Refused.{Met, vertices-met, edges-met}
+use Rattle.lists.proofs.Refused.{vertices-met, edges-met}
 use Rattle.load.specs.declared.Limits.{Limits}
 use Rattle.load.specs.Load.{Room, isUndirected, vertexRoom, arcRoom, withRoom, arcsRead, listsRead, loaded}
 

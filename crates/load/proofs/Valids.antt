@@ -9,18 +9,21 @@ use lib.ListN.{length, getD}
 use lib.Dec.{ltb, eqb}
 use lib.IntN.{ℤ, pos}
 use lib.Signed.{ltZ}
+use Rattle.basis.specs.Refusal.{gives, edgeFile}
 use Rattle.basis.specs.Order.{sameZ, risingZ}
 use Rattle.basis.proofs.Tests.{clash}
 use Rattle.basis.proofs.Orders.{signed-order, less-places, same-places}
+use Rattle.text.specs.Word.{identOf}
+use Rattle.text.specs.Line.{twoOf}
+use Rattle.text.specs.File.{Before, first, after, Passes}
+use Rattle.text.proofs.Files.{file-accepted}
 use Rattle.graph.specs.Arcs.{Arc}
 use Rattle.graph.specs.Find.{placeIn, isThere}
 use Rattle.graph.specs.declared.find.Found.{Found}
 use Rattle.graph.specs.declared.find.Found.the-variants.{At, Missing}
 use Rattle.graph.proofs.Finds.{place-at}
 use Rattle.store.proofs.Order.{Fine, Smaller, Lex, Valid, lex-cons}
-use Rattle.lists.specs.Lines.{Before, after}
-use Rattle.lists.specs.Files.{isAbove, numberOf, edgeTest, numbered, allNumbered}
-use Rattle.load.specs.Good.{Passes}
+use Rattle.lists.specs.Files.{isAbove, numberOf, edgeTest, edgesOf, numbered, allNumbered}
 
 -- ---- what the test of an edge says
 pub record Tested (both : Bool) (ids : List ℤ) (before : Before (ℤ × ℤ)) (e : ℤ × ℤ) : Type 0 where
@@ -100,7 +103,7 @@ module _ (ids : List ℤ) (rise : risingZ ids ≡ true) where
         lex-of (numbered (placeIn ids) d) (numbered (placeIn ids) e)
         (rw (less-numbers (d .0) (e .0) (s .from) (t .from), same-numbers (d .0) (e .0) (s .from) (t .from), less-numbers (d .1) (e .1) (s .to) (t .to)) at (t .above))
 
-    pub valid-edges : (before : Before (ℤ × ℤ)) (es : List (ℤ × ℤ)) → Passes (edgeTest both (placeIn ids)) before es → Valid both (length ids) (allNumbered (placeIn ids) es)
+    valid-edges : (before : Before (ℤ × ℤ)) (es : List (ℤ × ℤ)) → Passes (edgeTest both (placeIn ids)) before es → Valid both (length ids) (allNumbered (placeIn ids) es)
     valid-edges before [] p = record { fine = tt; small = tt; pairs = tt }
     valid-edges before (e ∷ []) p =
         let t = test-passed both ids before e (p .0) in
@@ -114,3 +117,7 @@ module _ (ids : List ℤ) (rise : risingZ ids ≡ true) where
           small = (small-edge both before d s, v .small);
           pairs = lex-cons (numbered (placeIn ids) d) (numbered (placeIn ids) e) (allNumbered (placeIn ids) es) (lex-edge before d e s t) (v .pairs);
         }
+
+    -- the edges of a file that was accepted
+    pub valid-file : (most : ℕ) (s : List ℕ) (es : List (ℤ × ℤ)) → edgesOf both most (placeIn ids) s ≡ gives es → Valid both (length ids) (allNumbered (placeIn ids) es)
+    valid-file most s es e = valid-edges first es (file-accepted (twoOf identOf identOf) edgeFile most (edgeTest both (placeIn ids)) s es .0 e .pass)

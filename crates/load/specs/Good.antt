@@ -1,43 +1,23 @@
 -- 01 "Lists": the files that a load accepts, said of their bytes and of the identifiers in them, with no word on how they are read.
-use Prim.Native.Nat.{ℕ, _+_, _≤_, _<_}
+use Prim.Native.Nat.{ℕ, _≤_, _<_}
 use mathlib.Core.Path.{_≡_}
 use mathlib.Core.Bool.{Bool, true, false, not, _&&_, _||_}
-use mathlib.Core.List.{List, [], _∷_, _++_}
+use mathlib.Core.List.{List, [], _∷_}
 use lib.IntN.{ℤ}
 use lib.ListN.{length}
 use lib.Signed.{ltZ}
-use Rattle.basis.specs.Refusal.{at}
-use Rattle.basis.specs.declared.refusal.Refusal.{Refusal}
 use Rattle.basis.specs.Order.{sameZ, risingBy, risingZ}
-use Rattle.basis.specs.Scan.{each, mem}
-use Rattle.text.specs.Word.{Word, value, identOf}
-use Rattle.text.specs.Line.{lf, twoOf}
+use Rattle.basis.specs.Scan.{each}
+use Rattle.text.specs.Word.{identOf}
+use Rattle.text.specs.Line.{twoOf}
+use Rattle.text.specs.File.{FileSays}
 use Rattle.graph.specs.declared.Size.{Size}
 use Rattle.graph.specs.Arcs.{arcs}
 use Rattle.graph.specs.Sound.{Graph, lent}
 use Rattle.graph.specs.Find.{placeIn, isThere}
 use Rattle.load.specs.declared.Limits.{Limits}
-use Rattle.lists.specs.Lines.{Line, good, Before, after, faultOf}
 use Rattle.lists.specs.Files.{abovePair, allNumbered}
 use Rattle.load.specs.Load.{Lists, Room, isUndirected, Outcome}
-
--- "A line is ended by one LF": the bytes of a file with the given lines
-abbrev pub joined : List (List ℕ) → List ℕ
-joined [] = []
-joined (w ∷ ws) = w ++ lf ∷ joined ws
-
--- each line has no LF in it, is well formed and in range, and says its value
-abbrev pub Says : {A : Type 0} → (List ℕ → Word A) → List (List ℕ) → List A → Type 0
-Says word [] [] = Unit {0}
-Says word [] (v ∷ vs) = ⊥
-Says word (w ∷ ws) [] = ⊥
-Says word (w ∷ ws) (v ∷ vs) = (mem lf w ≡ false) × (word w ≡ value v) × Says word ws vs
-
--- a file is some lines, each "ended by one LF", that say the given values in order
-pub record FileSays {A : Type 0} (word : List ℕ → Word A) (s : List ℕ) (vs : List A) : Type 0 where
-  pub words : List (List ℕ)
-  pub whole : s ≡ joined words
-  pub values : Says word words vs
 
 -- a vertex file that lists the identifiers: at most so many, "Vertex lines strictly rise as signed numbers."
 pub record GoodVertices (most : ℕ) (s : List ℕ) (ids : List ℤ) : Type 0 where
@@ -80,28 +60,3 @@ listsArc both es a b = hasEdge es a b || (both && hasEdge es b a)
 -- the graph in the five areas after a load
 abbrev pub graphLeft : Size → Outcome → Graph
 graphLeft size o = lent size (o .ids) (o .outOffsets) (o .outTargets) (o .inOffsets) (o .inSources)
-
--- lines that all have values
-abbrev pub allGood : {A : Type 0} → List A → List (Line A)
-allGood [] = []
-allGood (v ∷ vs) = good v ∷ allGood vs
-
--- each passes a test after the one before it
-abbrev pub Passes : {A : Type 0} → (Before A → A → ℕ) → Before A → List A → Type 0
-Passes test before [] = Unit {0}
-Passes test before (v ∷ vs) = (test before v ≡ 0) × Passes test (after v) vs
-
--- the last of some lines
-abbrev pub lastOf : {A : Type 0} → Before A → List A → Before A
-lastOf before [] = before
-lastOf before (v ∷ vs) = lastOf (after v) vs
-
--- the first line at fault: the lines before it have values and pass, and it has a fault, whose number and line the refusal says
-pub record FirstFault {A : Type 0} (file most : ℕ) (test : Before A → A → ℕ) (k : ℕ) (before : Before A) (ls : List (Line A)) (r : Refusal) : Type 0 where
-  pub passed : List A
-  pub faulty : Line A
-  pub rest : List (Line A)
-  pub lines : ls ≡ allGood passed ++ faulty ∷ rest
-  pub pass : Passes test before passed
-  pub isFault : faultOf file most test (k + length passed) (lastOf before passed) faulty ≡ 0 → ⊥
-  pub refusal : r ≡ at (faultOf file most test (k + length passed) (lastOf before passed) faulty) file (k + length passed + 1)

@@ -5,6 +5,7 @@ use mathlib.Core.List.{List, [], _∷_}
 use Rattle.basis.specs.Area.{column}
 use Rattle.basis.specs.Scan.{every, each, mem}
 use Rattle.text.specs.Line.{lineBy, twoOf}
+use Rattle.text.specs.File.{linesFrom, valuesFrom}
 use Rattle.text.specs.Scan.{hasAt, runAt, countAt, identAt, fieldAt, restAt}
 use Rattle.text.specs.Word.{within}
 use Rattle.write.specs.Decimal.{digits, decimal, signedText}
@@ -12,7 +13,6 @@ use Rattle.graph.specs.Find.{placeFrom, bisect}
 use Rattle.graph.specs.Part.{between, partOf}
 use Rattle.graph.specs.Sound.{soundIds, soundOffsets, soundSide, mirrored, soundSides, soundGraph}
 use Rattle.lists.specs.Files.{edgeTest}
-use Rattle.lists.specs.Lines.{linesFrom, valuesFrom}
 use Rattle.load.specs.Load.{arcsRead, listsRead, loaded, outcomeOf, loadCall}
 use Rattle.kernels.specs.Answer.{kernelSays}
 use Rattle.bfs.specs.Call.{bfsSays, bfsCall}

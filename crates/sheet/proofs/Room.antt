@@ -15,9 +15,9 @@ use Rattle.basis.proofs.Alls.{All, all-take, all-pad}
 use Rattle.basis.specs.Limits.{deskVertices, deskEdges}
 use Rattle.text.specs.Word.{Word, identOf, countOf}
 use Rattle.text.specs.Line.{LineSaid, line, none, fault, lf, lineBy}
+use Rattle.text.specs.File.{Says}
 use Rattle.text.proofs.Places.{Small, ident-small, LineHas, line-any}
 use Rattle.load.specs.Load.{Lists, loaded, sizeOf, outcomeOf, loadCall, desk, deskRoom}
-use Rattle.load.specs.Good.{Says}
 use Rattle.load.proofs.Refused.{load-turned}
 use Rattle.plan.specs.Lines.{lfs, sheetFault, inSheet, sheetLine}
 use Rattle.plan.specs.Jobs.{jobOf}

@@ -10,4 +10,5 @@ pub mod Words
 pub mod Lines
 pub mod Places
 pub mod Saids
+pub mod Files
 pub mod Examples

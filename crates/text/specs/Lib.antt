@@ -1,6 +1,7 @@
--- The text layer's meaning, in reading order: words, lines of words, and then what the code scans from a place.
+-- The text layer's meaning, in reading order: words, lines of words, files of lines, and then what the code scans from a place.
 pub mod Word
 pub mod Decimal
 pub mod Line
+pub mod File
 pub mod Stop
 pub mod Scan

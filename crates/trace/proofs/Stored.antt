@@ -6,7 +6,6 @@ use native.Mathlib.Omega.{arith}
 use native.Mathlib.Decide.{decLt}
 use lib.ListN.{length}
 use lib.Seq.{take-at, take-all}
-use Rattle.basis.specs.Refusal.{edgeFile}
 use Rattle.basis.specs.Area.{pad, padZ}
 use Rattle.basis.proofs.Areas.{pad-full}
 use Rattle.basis.proofs.Alls.{All}
@@ -19,15 +18,12 @@ use Rattle.store.proofs.Passes.{length-backward}
 use Rattle.store.proofs.Built.{offsets-length}
 use Rattle.store.proofs.Meaning.{start-all, part-stored, storedGraph}
 use Rattle.load.specs.declared.Limits.{Limits}
-use Rattle.lists.specs.Lines.{first, linesOf}
 use Rattle.graph.specs.Find.{placeIn}
-use Rattle.lists.specs.Files.{edgeTest, allNumbered}
+use Rattle.lists.specs.Files.{allNumbered}
 use Rattle.load.specs.Load.{Lists, Room, isUndirected}
 use Rattle.load.specs.Good.{GoodLoad}
 use Rattle.load.proofs.Accepts.{edges-accepted}
-use Rattle.load.proofs.Values.{values-accepted}
-use Rattle.load.proofs.Valids.{valid-edges}
-use Rattle.text.specs.Line.{edgeLine}
+use Rattle.load.proofs.Valids.{valid-file}
 use Rattle.trace.specs.Host.{graphOf}
 
 -- a vertex's part, in areas with room or without
@@ -51,9 +47,8 @@ areaGraph room g = storedGraph (length (g .ids)) (g .arcs) (padZ (room .ids) (g 
 module _ (limits : Limits) (mode : ℕ) (room : Room) (vertices edges : List ℕ) (g : Lists) (ok : GoodLoad limits mode room vertices edges g) where
   valid : Valid (isUndirected mode) (length (g .ids)) (allNumbered (placeIn (g .ids)) (ok .list))
   valid =
-      valid-edges (g .ids) (ok .goodVertices .rise) (isUndirected mode) first (ok .list)
-      (values-accepted edgeFile (limits .edges) (edgeTest (isUndirected mode) (placeIn (g .ids))) 0 first (linesOf edgeLine edges) (ok .list)
-      (edges-accepted (isUndirected mode) (limits .edges) (g .ids) edges (ok .list) .1 (ok .goodEdges)) (omega arith) .passes)
+      valid-file (g .ids) (ok .goodVertices .rise) (isUndirected mode) (limits .edges) edges (ok .list)
+      (edges-accepted (isUndirected mode) (limits .edges) (g .ids) edges (ok .list) .1 (ok .goodEdges))
 
   fine : All (Fine (length (g .ids))) (g .arcs)
   fine = rw (ok .arcsAre) (arcs-join (isUndirected mode) (length (g .ids)) (allNumbered (placeIn (g .ids)) (ok .list)) (valid .fine))
