@@ -8,5 +8,6 @@ pub mod NumberLines
 pub mod DecimalLines
 pub mod Judging
 pub mod Meaning
+pub mod Claims
 pub mod Listing
 pub mod Examples

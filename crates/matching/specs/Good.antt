@@ -1,12 +1,19 @@
 -- 01 "Claims and verdicts": when a claim's values match, and at which place they first do not, with no word on how they are judged.
-use Prim.Native.Nat.{ℕ, _≤_, _<_}
+use Prim.Native.Nat.{ℕ, suc, _≤_, _<_}
 use mathlib.Core.Path.{_≡_}
 use mathlib.Core.Bool.{Bool, true, false}
 use mathlib.Core.Logic.{_↔_}
 use mathlib.Core.List.{List}
 use lib.IntN.{ℤ, pos}
 use lib.ListN.{length, getD}
-use Rattle.matching.specs.Verdict.{sameKind}
+use Rattle.basis.specs.declared.refusal.Refusal.{Refusal}
+use Rattle.basis.specs.Refusal.{Said, gives, refuses, claimFile}
+use Rattle.basis.specs.Order.{sameZ}
+use Rattle.text.specs.Word.{Word, identOf}
+use Rattle.text.specs.Line.{twoOf}
+use Rattle.text.specs.File.{noTest, GoodFile, FirstFault}
+use Rattle.matching.specs.Claim.{idsOf, valuesOf}
+use Rattle.matching.specs.Verdict.{Verdict, matched, incompleteAt, mismatchAt, sameKind}
 
 -- the least number that has P
 pub record Least (P : ℕ → Type 0) (i : ℕ) : Type 0 where
@@ -41,3 +48,32 @@ pub record Disagrees (labels claims : List ℤ) (i : ℕ) : Type 0 where
   pub earlier : ℕ
   pub isEarlier : earlier < i
   pub unlike : sameKind labels claims i earlier ≡ false
+
+-- a claim of at most so many lines, "identifier, one space, value", on vertices with these identifiers
+module _ {A : Type 0} (word : List ℕ → Word A) (most : ℕ) (ids : List ℤ) where
+  -- the bytes of a claim that names the identifiers in order, with values that match
+  pub record GoodClaim (Matches : List A → Type 0) (s : List ℕ) : Type 0 where
+    pub lines : List (ℤ × A)
+    pub file : GoodFile (twoOf identOf word) most noTest s lines
+    pub complete : idsOf lines ≡ ids
+    pub matches : Matches (valuesOf lines)
+
+  -- those of one whose place i is "the first line whose identifier isn't the graph's at that place, or the first missing or surplus line"
+  pub record IncompleteClaim (i : ℕ) (s : List ℕ) : Type 0 where
+    pub lines : List (ℤ × A)
+    pub file : GoodFile (twoOf identOf word) most noTest s lines
+    pub first : Least (Differs sameZ (pos 0) (pos 0) ids (idsOf lines)) i
+
+  -- those of a complete one whose values first mismatch at place i
+  pub record MismatchClaim (Wrong : List A → ℕ → Type 0) (i : ℕ) (s : List ℕ) : Type 0 where
+    pub lines : List (ℤ × A)
+    pub file : GoodFile (twoOf identOf word) most noTest s lines
+    pub complete : idsOf lines ≡ ids
+    pub first : Least (Wrong (valuesOf lines)) i
+
+  -- what is said of a claim's bytes, where values match or are wrong at a place: each answer exactly where the bytes are of its kind; line i + 1 is place i
+  pub record Judges (Matches : List A → Type 0) (Wrong : List A → ℕ → Type 0) (s : List ℕ) (said : Said Verdict) : Type 0 where
+    pub accepted : (said ≡ gives matched) ↔ GoodClaim Matches s
+    pub incomplete : (i : ℕ) → (said ≡ gives (incompleteAt (suc i))) ↔ IncompleteClaim i s
+    pub mismatched : (i : ℕ) → (said ≡ gives (mismatchAt (suc i))) ↔ MismatchClaim Wrong i s
+    pub refused : (r : Refusal) → (said ≡ refuses r) ↔ FirstFault (twoOf identOf word) claimFile most noTest s r
