@@ -5,7 +5,7 @@ use Rattle.basis.specs.Scan.{every, each, mem}
 use Rattle.text.specs.Word.{within}
 use Rattle.text.specs.Decimal.{digitOf, pastPoint, wholeIsGood, signedPower, powerAt, partsOf, fractionOf, decimalOf}
 use Rattle.text.specs.Line.{lineBy, twoOf}
-use Rattle.text.specs.File.{linesFrom as files-linesFrom, valuesFrom}
+use Rattle.text.specs.File.{linesFrom, valuesFrom}
 use Rattle.graph.specs.Find.{placeFrom}
 use Rattle.graph.specs.Part.{between, partOf}
 use Rattle.graph.specs.Sound.{soundIds, soundOffsets, soundSide, mirrored, soundSides, soundGraph}
@@ -24,7 +24,6 @@ use Rattle.lcc.specs.Promise.{room, lccSays, lccCall}
 use Rattle.lists.specs.Files.{edgeTest}
 use Rattle.load.specs.Load.{arcsRead, listsRead, loaded, outcomeOf, loadCall}
 use Rattle.matching.specs.Close.{isClose}
-use Rattle.matching.specs.Claim.{linesFrom}
 use Rattle.matching.specs.Verdict.{firstLine, sameKind, agrees, failingLine, unlikeLine, judgedBy}
 use Rattle.matching.specs.Calls.{numbersCall, nearWithin, coefficientsSays}
 use Rattle.book.specs.Rules.{walk, walkFrom, above, mergeable, mergeHeads, linkHeads, headsOf, decide, openBook, writeBook, joinBook, groupCount, tally}
@@ -33,5 +32,5 @@ use Rattle.book.specs.Series.{after, run}
 use Rattle.cases.specs.Cases.{cases, computeds, expecteds}
 
 pub checked : computeds cases ≡ expecteds cases
-unfolding column every each mem within digitOf pastPoint wholeIsGood signedPower powerAt partsOf fractionOf decimalOf lineBy twoOf edgeTest files-linesFrom valuesFrom arcsRead listsRead loaded outcomeOf loadCall placeFrom between partOf soundIds soundOffsets soundSide mirrored soundSides soundGraph kernelSays leastFrom ends ring depthOf bfsSays bfsCall beside chain firstFrom first labelOf wcc-roomFor wcc-leftBy wccCall times mostTimes standing mostCommon smallest smallestOr nextLabel around labelsAt nextAt oneRound rounds cdlpOf goodRounds cdlp-roomFor cdlp-leftBy cdlpCall commonCount euclid gcdOf lowest those neighbours arcsFrom coefficientAmong numerator denominator room lccSays lccCall isClose linesFrom firstLine sameKind agrees failingLine unlikeLine judgedBy numbersCall nearWithin coefficientsSays walk walkFrom above mergeable mergeHeads linkHeads headsOf decide openBook writeBook joinBook groupCount tally nextIn fits two after run
+unfolding column every each mem within digitOf pastPoint wholeIsGood signedPower powerAt partsOf fractionOf decimalOf lineBy twoOf edgeTest linesFrom valuesFrom arcsRead listsRead loaded outcomeOf loadCall placeFrom between partOf soundIds soundOffsets soundSide mirrored soundSides soundGraph kernelSays leastFrom ends ring depthOf bfsSays bfsCall beside chain firstFrom first labelOf wcc-roomFor wcc-leftBy wccCall times mostTimes standing mostCommon smallest smallestOr nextLabel around labelsAt nextAt oneRound rounds cdlpOf goodRounds cdlp-roomFor cdlp-leftBy cdlpCall commonCount euclid gcdOf lowest those neighbours arcsFrom coefficientAmong numerator denominator room lccSays lccCall isClose firstLine sameKind agrees failingLine unlikeLine judgedBy numbersCall nearWithin coefficientsSays walk walkFrom above mergeable mergeHeads linkHeads headsOf decide openBook writeBook joinBook groupCount tally nextIn fits two after run
 checked = refl

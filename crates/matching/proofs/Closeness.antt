@@ -68,10 +68,10 @@ same-test {a} {b} {c} {d} f g = go (leb c d) refl
     go true e = le-leb a b (g (leb-true c d e))
     go false e = lt-leb a b (lt-of-not-le (λ h. not-le-of-lt (leb-false c d e) (f h)))
 
-cancel : (x y c : ℕ) → 0 < c → leb (x * c) (y * c) ≡ leb x y
+pub cancel : (x y c : ℕ) → 0 < c → leb (x * c) (y * c) ≡ leb x y
 cancel x y c p = same-test (λ h. le-of-mul-le-mul-right h p) (λ h. mul-le-mul-right c h)
 
-window : (x y : ℕ) → leb (10000 * apart x y) x ≡ (leb (9999 * x) (10000 * y) && leb (10000 * y) (10001 * x))
+pub window : (x y : ℕ) → leb (10000 * apart x y) x ≡ (leb (9999 * x) (10000 * y) && leb (10000 * y) (10001 * x))
 window x y = go (leb (9999 * x) (10000 * y)) (leb (10000 * y) (10001 * x)) refl refl
   where
     go : (p q : Bool) → leb (9999 * x) (10000 * y) ≡ p → leb (10000 * y) (10001 * x) ≡ q → leb (10000 * apart x y) x ≡ (p && q)
@@ -79,7 +79,7 @@ window x y = go (leb (9999 * x) (10000 * y)) (leb (10000 * y) (10001 * x)) refl 
     go true false e f = lt-leb (10000 * apart x y) x (omega (arith, leb-true (9999 * x) (10000 * y) e, leb-false (10000 * y) (10001 * x) f))
     go false q e f = lt-leb (10000 * apart x y) x (omega (arith, leb-false (9999 * x) (10000 * y) e))
 
-ten-pos : (k : ℕ) → 0 < 10 ^ k
+pub ten-pos : (k : ℕ) → 0 < 10 ^ k
 ten-pos k = one-le-pow k 10 (omega arith)
 
 -- ---- the powers cancelled: more are taken away than put on, or as many

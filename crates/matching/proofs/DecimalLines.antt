@@ -19,11 +19,13 @@ use Rattle.basis.specs.Scan.{orElse}
 use Rattle.text.specs.Word.{identOf}
 use Rattle.text.specs.Decimal.{decimalOf}
 use Rattle.text.specs.Line.{line, twoOf, coefficientLine, coefficientSays}
+use Rattle.text.specs.File.{noTest}
 use Rattle.text.specs.declared.decimal.Decimal.{Decimal}
 use Rattle.text.specs.declared.line.Cursor.{Cursor}
 use Rattle.text.specs.declared.line.CoefficientLine.{CoefficientLine}
 use Rattle.text.specs.declared.line.CoefficientLine.the-variants as CL
-use Rattle.text.proofs.Places.{line-moves, coefficient-range}
+use Rattle.text.proofs.Places.{coefficient-range}
+use Rattle.text.proofs.Files.{Passed, passed-none, passed-next, passed-end, passed-fault, passed-full, passed-over}
 use Rattle.matching.specs.declared.judged.Judged.{Judged}
 use Rattle.matching.specs.Close.{isClose}
 use Rattle.matching.specs.Claim.{coefficientLines, idsOf, valuesOf}
@@ -31,7 +33,7 @@ use Rattle.matching.specs.Verdict.{Verdict, Fraction, incompleteLine, ve
 use Rattle.matching.specs.Calls.{nearWithin, farWithin, fractionAt, fractions, coefficientsSays}
 use Rattle.matching.specs.Steps.{placeLine, coverStep, nearStep, endLine}
 use Rattle.matching.proofs.FirstLines.{bits-back, Against, against-none, against-next, against-end}
-use Rattle.matching.proofs.Readings.{Passed, passed-none, passed-next, passed-end, passed-fault, passed-full, passed-over, ids-more, values-more}
+use Rattle.matching.proofs.Readings.{ids-more, values-more}
 use Rattle.matching.proofs.NumberLines.{end-zero}
 
 -- ---- one fraction and one decimal
@@ -51,7 +53,7 @@ module _ (a b : ℕ) (s : Decimal) where
 -- ---- the lines: k of them are done, up to a place
 pub record Decimals (most : ℕ) (ids : List ℤ) (nums dens : List ℕ) (s : List ℕ) (place k incomplete mismatch : ℕ) : Type 0 where
   pub done : List (ℤ × Decimal)
-  pub passed : Passed (coefficientLine s) (length s) most done place k
+  pub passed : Passed (twoOf identOf decimalOf) claimFile most noTest s done place k
   pub covers : Against sameZ ids (idsOf done) k incomplete
   pub nears : Against nearWithin (fractions (length ids) nums dens) (valuesOf done) k mismatch
 
@@ -69,7 +71,7 @@ module _ (most : ℕ) (ids : List ℤ) (nums dens : List ℕ) (s : List ℕ) whe
   decimals-none =
       record {
         done = [];
-        passed = passed-none (coefficientLine s) (length s) most;
+        passed = passed-none (twoOf identOf decimalOf) claimFile most noTest s;
         covers = against-none sameZ ids;
         nears = against-none nearWithin (fractions (length ids) nums dens);
       }
@@ -97,40 +99,40 @@ module _ (most : ℕ) (ids : List ℤ) (nums dens : List ℕ) (s : List ℕ) whe
         by (suc i) q = rw (covered, ← q)
 
     -- the line at the place
-    module _ (l : k < most) {x : CoefficientLine} (e : coefficientSays x ≡ coefficientLine s place) where
+    module _ {x : CoefficientLine} (e : coefficientSays x ≡ coefficientLine s place) where
       pub decimals-end : (c : Cursor) → x ≡ CL.End c → (i : ℕ) → i ≡ endLine (length ids) k incomplete
           → (j : Judged) → says j ≡ gives (verdictOf i mismatch) → says j ≡ judgedBy ids (farWithin (fractions (length ids) nums dens)) (coefficientLines most s)
-      decimals-end c q = ended (passed-end (coefficientLine s) (length s) most (h .passed) l (c .at) (sym e ∙ ap coefficientSays q))
+      decimals-end c q = ended (passed-end (twoOf identOf decimalOf) claimFile most noTest s (h .passed) (c .at) (sym e ∙ ap coefficientSays q))
 
-      pub decimals-fault : (n : ℕ) (c : Cursor) → x ≡ CL.Fault n c → (r : Refusal) → r ≡ at n claimFile (k + 1)
-          → refuses r ≡ judgedBy ids (farWithin (fractions (length ids) nums dens)) (coefficientLines most s)
-      unfolding judgedBy
-      decimals-fault n c q r p = rw (passed-fault (coefficientLine s) (length s) most (h .passed) l n (c .at) (sym e ∙ ap coefficientSays q), p)
+      module _ (l : k < most) where
+        pub decimals-fault : (n : ℕ) (c : Cursor) → x ≡ CL.Fault n c → (r : Refusal) → r ≡ at n claimFile (k + 1)
+            → refuses r ≡ judgedBy ids (farWithin (fractions (length ids) nums dens)) (coefficientLines most s)
+        unfolding judgedBy
+        decimals-fault n c q r p = rw (passed-fault (twoOf identOf decimalOf) claimFile most noTest s (h .passed) l n (c .at) (sym e ∙ ap coefficientSays q), p)
 
-      pub decimals-next : (id : ℤ) (d : Decimal) (c : Cursor) → x ≡ CL.Line id d c
-          → {i : ℕ} → i ≡ coverStep ids k (toZ w64 (ofZ w64 id)) incomplete → {m : ℕ} → m ≡ nearStep (length ids) nums dens k d mismatch
-          → Decimals most ids nums dens s (c .at) (k + 1) i m
-      decimals-next id d c q r r′ =
-          record {
-            done = h .done ++ ((id, d) ∷ []);
-            passed = passed-next (coefficientLine s) (length s) most (h .passed) l (id, d) (c .at) here (line-moves (twoOf identOf decimalOf) s place (coefficientSays x) e (id, d) (c .at) (ap coefficientSays q) .forward);
-            covers = rw (ids-more (h .done) (id, d), r, bits-back id (coefficient-range s place id d (c .at) here)) (against-next sameZ ids (pos 0) (idsOf (h .done)) k incomplete (h .covers) id);
-            nears = rw (values-more (h .done) (id, d), r′, ← placed (length ids) nums dens k d) (against-next nearWithin (fractions (length ids) nums dens) (0, 0) (valuesOf (h .done)) k mismatch (h .nears) d);
-          }
-        where
-          here : coefficientLine s place ≡ line (id, d) (c .at)
-          here = sym e ∙ ap coefficientSays q
+        pub decimals-next : (id : ℤ) (d : Decimal) (c : Cursor) → x ≡ CL.Line id d c
+            → {i : ℕ} → i ≡ coverStep ids k (toZ w64 (ofZ w64 id)) incomplete → {m : ℕ} → m ≡ nearStep (length ids) nums dens k d mismatch
+            → Decimals most ids nums dens s (c .at) (k + 1) i m
+        decimals-next id d c q r r′ =
+            record {
+              done = h .done ++ ((id, d) ∷ []);
+              passed = passed-next (twoOf identOf decimalOf) claimFile most noTest s (h .passed) l (id, d) (c .at) here refl;
+              covers = rw (ids-more (h .done) (id, d), r, bits-back id (coefficient-range s place id d (c .at) here)) (against-next sameZ ids (pos 0) (idsOf (h .done)) k incomplete (h .covers) id);
+              nears = rw (values-more (h .done) (id, d), r′, ← placed (length ids) nums dens k d) (against-next nearWithin (fractions (length ids) nums dens) (0, 0) (valuesOf (h .done)) k mismatch (h .nears) d);
+            }
+          where
+            here : coefficientLine s place ≡ line (id, d) (c .at)
+            here = sym e ∙ ap coefficientSays q
 
-    -- no line more is allowed
-    module _ (l : most ≤ k) where
-      pub decimals-over : place < length s → (r : Refusal) → r ≡ at tooMany claimFile (k + 1)
-          → refuses r ≡ judgedBy ids (farWithin (fractions (length ids) nums dens)) (coefficientLines most s)
-      unfolding judgedBy
-      decimals-over g r p = rw (passed-over (coefficientLine s) (length s) most (h .passed) l g, p)
+    -- no line more is allowed, or none is left
+    pub decimals-over : most ≤ k → place < length s → (r : Refusal) → r ≡ at tooMany claimFile (k + 1)
+        → refuses r ≡ judgedBy ids (farWithin (fractions (length ids) nums dens)) (coefficientLines most s)
+    unfolding judgedBy
+    decimals-over l g r p = rw (passed-over (twoOf identOf decimalOf) claimFile most noTest s (h .passed) l g, p)
 
-      pub decimals-full : length s ≤ place → (i : ℕ) → i ≡ endLine (length ids) k incomplete
-          → (j : Judged) → says j ≡ gives (verdictOf i mismatch) → says j ≡ judgedBy ids (farWithin (fractions (length ids) nums dens)) (coefficientLines most s)
-      decimals-full g = ended (passed-full (coefficientLine s) (length s) most (h .passed) l g)
+    pub decimals-full : length s ≤ place → (i : ℕ) → i ≡ endLine (length ids) k incomplete
+        → (j : Judged) → says j ≡ gives (verdictOf i mismatch) → says j ≡ judgedBy ids (farWithin (fractions (length ids) nums dens)) (coefficientLines most s)
+    decimals-full g = ended (passed-full (twoOf identOf decimalOf) claimFile most noTest s (h .passed) g)
 
   -- ---- the whole call, by the test of room t
   module _ {t : Bool} (e : t ≡ (leb (length ids) (length nums) && leb (length ids) (length dens))) where

@@ -1,11 +1,13 @@
 -- Laws of matching.
 pub mod Closeness
 pub mod FirstLines
+pub mod Leasts
 pub mod Mismatches
 pub mod Readings
 pub mod NumberLines
 pub mod DecimalLines
 pub mod Judging
 pub mod Meaning
+pub mod Claims
 pub mod Listing
 pub mod Examples

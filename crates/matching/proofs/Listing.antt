@@ -2,28 +2,29 @@
 use mathlib.Core.Path.{_≡_, refl, sym, ap, _∙_}
 use mathlib.Core.Bool.{false}
 use mathlib.Core.List.{List, [], _∷_, _++_, map, append-assoc}
-use Prim.Native.Nat.{ℕ, zero, suc, _+_, _≤_}
-use native.Mathlib.Nat.{not-suc-le-zero}
+use Prim.Native.Nat.{ℕ, suc, _≤_}
 use native.Mathlib.Omega.{arith}
-use borrow.Author.Tests.{le-leb, eq-eqb, ne-eqb, eqb-false}
+use borrow.Author.Tests.{eq-eqb, ne-eqb, eqb-false}
 use lib.IntN.{ℤ}
-use lib.ListN.{length, drop, length-drop}
+use lib.ListN.{length}
 use mir.Syntax.{w64}
 use mir.Val.{SFits}
-use Rattle.basis.specs.Refusal.{gives, said}
+use Rattle.basis.specs.Refusal.{gives, claimFile}
 use Rattle.basis.specs.Scan.{mem}
 use Rattle.text.specs.Word.{Word, value, within, identOf}
 use Rattle.text.specs.Decimal.{decimalOf}
 use Rattle.text.specs.Line.{lf, space, past, twoOf, lineBy}
+use Rattle.text.specs.File.{joined, Says, first, noTest}
 use Rattle.text.specs.declared.decimal.Decimal.{Decimal}
-use Rattle.text.proofs.Bytes.{mem-cut, not-head, not-tail, mem-join, upTo-cut, past-stop, past-more, drop-past}
-use Rattle.text.proofs.Lines.{line-end}
+use Rattle.text.proofs.Bytes.{mem-cut, not-head, not-tail, mem-join, upTo-cut, past-stop, past-more}
+use Rattle.text.proofs.Files.{file-accepted, passes-all}
 use Rattle.write.specs.Decimal.{signedText}
 use Rattle.write.proofs.Texts.{signed-without}
-use Rattle.write.proofs.Back.{ident-back, line-back}
-use Rattle.matching.specs.Claim.{linesFrom, numberLines, coefficientLines, idsOf, valuesOf}
+use Rattle.write.proofs.Back.{ident-back}
+use Rattle.matching.specs.Claim.{claimLines, numberLines, coefficientLines, idsOf, valuesOf}
 use Rattle.matching.specs.Verdict.{Fraction, near, unequalLine, unlikeLine, farLine, judgedBy}
-use Rattle.matching.proofs.Meaning.{accepted, Alike, exact-match, epsilon-match, equivalence-match, renamed}
+use Rattle.matching.specs.Good.{Alike}
+use Rattle.matching.proofs.Meaning.{accepted, exact-match, epsilon-match, equivalence-match, renamed}
 
 -- a line to be written: its identifier, its value and the value's bytes
 pub record Line (A : Type 0) : Type 0 where
@@ -73,26 +74,40 @@ module _ {A : Type 0} (word : List ℕ → Word A) (x : Line A) (h : Spelled wor
   unbroken = mem-join lf (signedText (x .id)) (space ∷ x .text) (signed-without (x .id) lf refl) (h .inLine)
 
 -- ---- all lines
-module _ {A : Type 0} (word : List ℕ → Word A) (s : List ℕ) where
-  lines-back : (l : List (Line A)) → AllSpelled word l → (allowed k at : ℕ) → length l ≤ allowed → drop at s ≡ claimText l
-      → linesFrom (lineBy (twoOf identOf word) s) (length s) allowed k at ≡ gives (linesOf l)
-  unfolding linesFrom claimText
-  lines-back [] h zero k at f e = rw (le-leb (length s) at (omega (arith, ap length e, length-drop at s)))
-  lines-back [] h (suc allowed) k at f e = rw (← line-end (twoOf identOf word) s at (omega (arith, ap length e, length-drop at s)), linesFrom)
-  lines-back (x ∷ l) h zero k at f e = absurd (not-suc-le-zero f)
-  lines-back (x ∷ l) h (suc allowed) k at f e =
-      let d : drop at s ≡ lineText word x (h .0) ++ lf ∷ claimText l = e ∙ sym (append-assoc (signedText (x .id)) (space ∷ x .text) (lf ∷ claimText l)) in
-      rw (line-back (twoOf identOf word) (x .id, x .is) (lineText word x (h .0)) (two-back word x (h .0)) (unbroken word x (h .0)) s (claimText l) at d, linesFrom)
-      (ap (said (λ l. (x .id, x .is) ∷ l))
-      (lines-back l (h .1) allowed (k + 1) (at + length (lineText word x (h .0)) + 1) (omega arith) (drop-past s (lineText word x (h .0)) (claimText l) at lf d)))
+abbrev wordsOf : {A : Type 0} → List (Line A) → List (List ℕ)
+wordsOf [] = []
+wordsOf (x ∷ l) = (signedText (x .id) ++ (space ∷ x .text)) ∷ wordsOf l
+
+written : {A : Type 0} (l : List (Line A)) → claimText l ≡ joined (wordsOf l)
+unfolding claimText
+written [] = refl
+written (x ∷ l) = sym (append-assoc (signedText (x .id)) (space ∷ x .text) (lf ∷ claimText l)) ∙ ap (λ (t : List ℕ). (signedText (x .id) ++ (space ∷ x .text)) ++ lf ∷ t) (written l)
+
+spoken : {A : Type 0} (word : List ℕ → Word A) (l : List (Line A)) → AllSpelled word l → Says (twoOf identOf word) (wordsOf l) (linesOf l)
+spoken word [] h = tt
+spoken word (x ∷ l) h = (unbroken word x (h .0), two-back word x (h .0), spoken word l (h .1))
+
+lines-length : {A : Type 0} (l : List (Line A)) → length (linesOf l) ≡ length l
+lines-length [] = refl
+lines-length (x ∷ l) = ap suc (lines-length l)
 
 -- the lines that a claim's text was written from
+lines-back : {A : Type 0} (word : List ℕ → Word A) (most : ℕ) (l : List (Line A)) → AllSpelled word l → length l ≤ most
+    → claimLines (lineBy (twoOf identOf word)) most (claimText l) ≡ gives (linesOf l)
+lines-back word most l h f =
+    file-accepted (twoOf identOf word) claimFile most noTest (claimText l) (linesOf l) .1
+    (record {
+      lines = record { words = wordsOf l; whole = written l; values = spoken word l h };
+      few = omega (arith, lines-length l);
+      pass = passes-all first (linesOf l);
+    })
+
 module _ (most : ℕ) where
   pub numbers-back : (l : List (Line ℤ)) → AllSpelled identOf l → length l ≤ most → numberLines most (claimText l) ≡ gives (linesOf l)
-  numbers-back l h f = lines-back identOf (claimText l) l h most 1 0 f refl
+  numbers-back l h f = lines-back identOf most l h f
 
   pub coefficients-back : (l : List (Line Decimal)) → AllSpelled decimalOf l → length l ≤ most → coefficientLines most (claimText l) ≡ gives (linesOf l)
-  coefficients-back l h f = lines-back decimalOf (claimText l) l h most 1 0 f refl
+  coefficients-back l h f = lines-back decimalOf most l h f
 
 -- ---- a claim that lists the reference output
 abbrev pub listed : List ℤ → List ℤ → List (Line ℤ)

@@ -1,89 +1,134 @@
 -- What the verdicts mean: a complete claim is accepted exactly when it matches, by 000's rule, at every vertex. Assumes nothing.
-use mathlib.Core.Path.{_≡_, refl, sym, ap, _∙_, subst}
-use mathlib.Core.Bool.{Bool, true, false, cond, Bool·beq}
+use mathlib.Core.Path.{_≡_, refl, sym, ap, ap₂, _∙_, subst}
+use mathlib.Core.Bool.{Bool, true, false, cond, Bool·beq, _&&_}
 use mathlib.Core.Logic.{_↔_}
 use mathlib.Core.List.{List, [], _∷_, map}
-use Prim.Native.Nat.{ℕ, zero, suc, _+_, _≤_, _<_}
-use native.Mathlib.Nat.{not-suc-le-zero}
+use Prim.Native.Nat.{ℕ, zero, suc, _*_, _^_, _≤_, _<_}
+use native.Mathlib.Nat.{not-suc-le-zero, mul-pos, pos-of-ne-zero}
 use native.Mathlib.Omega.{arith}
 use native.Mathlib.Decide.{ℕ-discrete, decLt}
-use lib.Dec.{eqb}
-use borrow.Author.Tests.{eqb-true, eqb-false}
+use lib.Dec.{eqb, leb}
+use borrow.Author.Tests.{eq-eqb, eqb-true, eqb-false, le-leb, leb-true}
 use lib.IntN.{ℤ, pos}
 use lib.ListN.{length, getD}
 use lib.Seq.{ext-getD}
 use Rattle.basis.specs.Refusal.{Said, gives}
 use Rattle.basis.specs.Order.{sameZ}
 use Rattle.basis.proofs.Tests.{clash, bool-cases, same-test}
-use Rattle.basis.proofs.Scans.{every-at, every-of}
+use Rattle.basis.proofs.Saids.{given-one}
 use Rattle.basis.proofs.Orders.{signed-order}
 use Rattle.text.specs.declared.decimal.Decimal.{Decimal}
+use Rattle.matching.specs.Close.{apart, isClose}
 use Rattle.matching.specs.Claim.{idsOf, valuesOf}
-use Rattle.matching.specs.Verdict.{Verdict, matched, incompleteAt, mismatchAt, Fraction, near, firstLine, incompleteLine, unequalLine, sameKind, agrees, failingLine, unlikeLine, farLine, verdictOf, judgedBy}
+use Rattle.matching.specs.Verdict.{Verdict, matched, incompleteAt, mismatchAt, Fraction, near, firstLine, incompleteLine, unequalLine, sameKind, unlikeLine, farLine, verdictOf, judgedBy}
+use Rattle.matching.specs.Good.{Least, Alike, Differs, EqualWhere, TwoWay}
+use Rattle.matching.proofs.Closeness.{cancel, window, ten-pos, zero-only}
+use Rattle.matching.proofs.Leasts.{first-least, line-exactly, unlike-none}
 use Rattle.matching.proofs.Readings.{ids-length, values-length}
+
+-- ---- "10,000 times |r-s| at most r": what matches the fraction a / b
+module _ (a b : ℕ) (s : Decimal) where
+  -- "Equality matches"
+  pub equality-matches : a * 10 ^ s .down ≡ b * (s .digits * 10 ^ s .up) → isClose a b s ≡ true
+  unfolding isClose
+  equality-matches e = le-leb (10000 * apart (a * 10 ^ s .down) (b * (s .digits * 10 ^ s .up))) (a * 10 ^ s .down) (omega arith)
+
+  -- "r = 0 matches only zero"; a fraction has a denominator
+  pub zero-matches : 0 < b → a ≡ 0 → (isClose a b s ≡ true) ↔ (s .digits ≡ 0)
+  zero-matches p e =
+      let f : isClose a b s ≡ eqb (s .digits) 0 = ap (λ (x : ℕ). isClose x b s) e ∙ zero-only b (s .digits) (s .up) (s .down) p in
+      (λ t. eqb-true (s .digits) 0 (sym f ∙ t), λ z. f ∙ eq-eqb (s .digits) 0 z)
+
+  -- and a decimal that is zero matches only r = 0
+  pub zero-matched : s .digits ≡ 0 → (isClose a b s ≡ true) ↔ (a ≡ 0)
+  unfolding isClose
+  zero-matched z = (
+    λ t.
+        let h : 10000 * apart (a * 10 ^ s .down) (b * (0 * 10 ^ s .up)) ≤ a * 10 ^ s .down = leb-true _ _ (rw z at t) in
+        let g : a * 10 ^ s .down ≡ 0 = omega arith in
+        bool-cases (eqb a 0) (a ≡ 0) (λ q. eqb-true a 0 q) (λ q. absurd (omega (arith, mul-pos (pos-of-ne-zero (eqb-false a 0 q)) (ten-pos (s .down))))),
+    λ e. equality-matches (rw (e, z) (omega arith)),
+  )
+
+  -- the answer does not change when numerator and denominator are both multiplied
+  pub scaled-alike : (c : ℕ) → 0 < c → isClose (c * a) (c * b) s ≡ isClose a b s
+  unfolding isClose
+  scaled-alike c p =
+      let x = a * 10 ^ s .down in
+      let y = b * (s .digits * 10 ^ s .up) in
+      let lo : 9999 * (c * a * 10 ^ s .down) ≡ 9999 * (a * 10 ^ s .down) * c = omega arith in
+      let md : 10000 * (c * b * (s .digits * 10 ^ s .up)) ≡ 10000 * (b * (s .digits * 10 ^ s .up)) * c = omega arith in
+      let hi : 10001 * (c * a * 10 ^ s .down) ≡ 10001 * (a * 10 ^ s .down) * c = omega arith in
+      window (c * a * 10 ^ s .down) (c * b * (s .digits * 10 ^ s .up))
+      ∙ ap₂ _&&_ (ap₂ leb lo md ∙ cancel (9999 * x) (10000 * y) c p) (ap₂ leb md hi ∙ cancel (10000 * y) (10001 * x) c p)
+      ∙ sym (window x y)
+
+-- so it goes by the number that the fraction is, in lowest terms or not
+pub same-fraction : (a b c d : ℕ) (s : Decimal) → 0 < b → 0 < d → a * d ≡ c * b → isClose a b s ≡ isClose c d s
+same-fraction a b c d s p q e =
+    let x : d * a ≡ b * c = omega arith in
+    let y : d * b ≡ b * d = omega arith in
+    sym (scaled-alike a b s d q) ∙ ap₂ (λ (x y : ℕ). isClose x y s) x y ∙ scaled-alike c d s b p
 
 abbrev pub accepted : Said Verdict
 accepted = gives matched
 
--- ---- two lists that are alike at every place
-pub record Alike {A B : Type 0} (alike : A → B → Bool) (x : A) (y : B) (xs : List A) (ys : List B) : Type 0 where
-  pub long : length xs ≡ length ys
-  pub everywhere : (i : ℕ) → i < length xs → alike (getD xs i x) (getD ys i y) ≡ true
+-- two lists of numbers are alike exactly where they are the same
+pub same-list : (xs ys : List ℤ) → (firstLine sameZ 1 xs ys ≡ 0) ↔ (ys ≡ xs)
+same-list xs ys =
+    let f = line-exactly sameZ (pos 0) (pos 0) xs ys in (
+      λ e.
+          let h = f .0 e in
+          ext-getD (pos 0) ys xs (sym (h .long)) (λ i l. sym (signed-order .same-eq _ _ (h .everywhere i (subst (λ (j : ℕ). i < j) (sym (h .long)) l)))),
+      λ e. f .1 (record { long = sym (ap length e); everywhere = λ i l. rw e (signed-order .same-refl (getD xs i (pos 0))) }),
+    )
 
-module _ {A B : Type 0} (alike : A → B → Bool) (x : A) (y : B) where
-  line-none : (k : ℕ) (xs : List A) (ys : List B) → firstLine alike (k + 1) xs ys ≡ 0 → Alike alike x y xs ys
-  unfolding firstLine
-  line-none k [] [] e = record { long = refl; everywhere = λ i l. absurd (not-suc-le-zero l) }
-  line-none k [] (b ∷ ys) e = absurd (omega arith)
-  line-none k (a ∷ xs) [] e = absurd (omega arith)
-  line-none k (a ∷ xs) (b ∷ ys) e = by (alike a b) refl e (line-none (k + 1) xs ys)
-    where
-      at : alike a b ≡ true → Alike alike x y xs ys → (i : ℕ) → i < suc (length xs) → alike (getD (a ∷ xs) i x) (getD (b ∷ ys) i y) ≡ true
-      at q h zero l = q
-      at q h (suc i) l = h .everywhere i (omega arith)
+-- ---- what a verdict says of the first incomplete line and the first mismatch
+numbered : {v w : Verdict} → _≡_ {A = Said Verdict} (gives v) (gives w) → (v .number ≡ w .number) × (v .line ≡ w .line)
+numbered e = let f = given-one e in (ap (λ (v : Verdict). v .number) f, ap (λ (v : Verdict). v .line) f)
 
-      by : (t : Bool) → alike a b ≡ t → cond t (firstLine alike (k + 1 + 1) xs ys) (k + 1) ≡ 0 → (firstLine alike (k + 1 + 1) xs ys ≡ 0 → Alike alike x y xs ys) → Alike alike x y (a ∷ xs) (b ∷ ys)
-      by true q f h = record { long = ap suc (h f .long); everywhere = at q (h f) }
-      by false q f h = absurd (omega arith)
+match-of : (n m : ℕ) → gives (verdictOf n m) ≡ accepted → (n ≡ 0) × (m ≡ 0)
+match-of zero zero e = (refl, refl)
+match-of zero (suc m) e = absurd (let f = numbered e in omega arith)
+match-of (suc n) m e = absurd (let f = numbered e in omega arith)
 
-  line-all : (k : ℕ) (xs : List A) (ys : List B) → Alike alike x y xs ys → firstLine alike k xs ys ≡ 0
-  unfolding firstLine
-  line-all k [] [] h = refl
-  line-all k [] (b ∷ ys) h = absurd (let e = h .long in omega arith)
-  line-all k (a ∷ xs) [] h = absurd (let e = h .long in omega arith)
-  line-all k (a ∷ xs) (b ∷ ys) h =
-      rw (h .everywhere 0 (omega arith))
-      (line-all (k + 1) xs ys (record { long = let e = h .long in omega arith; everywhere = λ i l. h .everywhere (suc i) (omega arith) }))
+incomplete-of : (n m i : ℕ) → gives (verdictOf n m) ≡ gives (incompleteAt (suc i)) → n ≡ suc i
+incomplete-of zero zero i e = absurd (let f = numbered e in omega arith)
+incomplete-of zero (suc m) i e = absurd (let f = numbered e in omega arith)
+incomplete-of (suc n) m i e = numbered e .1
 
-  pub line-exactly : (xs : List A) (ys : List B) → (firstLine alike 1 xs ys ≡ 0) ↔ (Alike alike x y xs ys)
-  line-exactly xs ys = (line-none 0 xs ys, line-all 1 xs ys)
+mismatch-of : (n m i : ℕ) → gives (verdictOf n m) ≡ gives (mismatchAt (suc i)) → (n ≡ 0) × (m ≡ suc i)
+mismatch-of zero zero i e = absurd (let f = numbered e in omega arith)
+mismatch-of zero (suc m) i e = (refl, numbered e .1)
+mismatch-of (suc n) m i e = absurd (let f = numbered e in omega arith)
 
--- of numbers, that is the same list
-same-list : (xs ys : List ℤ) → (firstLine sameZ 1 xs ys ≡ 0) ↔ (ys ≡ xs)
-same-list xs ys = (
-  λ e.
-      let h = line-none sameZ (pos 0) (pos 0) 0 xs ys e in
-      ext-getD (pos 0) ys xs (sym (h .long)) (λ i l. sym (signed-order .same-eq _ _ (h .everywhere i (subst (λ (j : ℕ). i < j) (sym (h .long)) l)))),
-  λ e.
-      line-all sameZ (pos 0) (pos 0) 1 xs ys
-      (record { long = sym (ap length e); everywhere = λ i l. rw e (signed-order .same-refl (getD xs i (pos 0))) }),
-)
-
--- ---- a complete claim is accepted exactly where no line mismatches
-zero-of : (n m : ℕ) → _≡_ {A = Said Verdict} (gives (verdictOf n m)) accepted → (n ≡ 0) × (m ≡ 0)
-zero-of zero zero e = (refl, refl)
-zero-of zero (suc m) e = absurd (let f : mismatchAt (suc m) ≡ matched = cc in let z : 21 ≡ 0 = ap (λ (v : Verdict). v .number) f in omega arith)
-zero-of (suc n) m e = absurd (let f : incompleteAt (suc n) ≡ matched = cc in let z : 20 ≡ 0 = ap (λ (v : Verdict). v .number) f in omega arith)
-
+-- ---- the verdict on a claim's lines
 module _ {A : Type 0} (ids : List ℤ) (mismatch : List A → ℕ) (l : List (ℤ × A)) where
-  -- "incomplete": every line names the graph's identifier at its place, and none is missing or surplus
+  -- every line names the graph's identifier at its place, and none is missing or surplus
   pub complete-exactly : (incompleteLine ids (idsOf l) ≡ 0) ↔ (idsOf l ≡ ids)
   complete-exactly = same-list ids (idsOf l)
 
   pub accepted-exactly : (judgedBy ids mismatch (gives l) ≡ accepted) ↔ ((idsOf l ≡ ids) × (mismatch (valuesOf l) ≡ 0))
   unfolding judgedBy
   accepted-exactly = (
-    λ e. let z = zero-of (incompleteLine ids (idsOf l)) (mismatch (valuesOf l)) e in (complete-exactly .0 (z .0), z .1),
+    λ e. let z = match-of (incompleteLine ids (idsOf l)) (mismatch (valuesOf l)) e in (complete-exactly .0 (z .0), z .1),
+    λ h. rw (complete-exactly .1 (h .0), h .1),
+  )
+
+  -- "the first line whose identifier isn't the graph's at that place, or the first missing or surplus line": the least such place, counted from 1
+  pub incomplete-exactly : (i : ℕ) → (judgedBy ids mismatch (gives l) ≡ gives (incompleteAt (suc i))) ↔ Least (Differs sameZ (pos 0) (pos 0) ids (idsOf l)) i
+  unfolding judgedBy
+  incomplete-exactly i =
+      let f = first-least sameZ (pos 0) (pos 0) ids (idsOf l) i in (
+        λ e. f .0 (incomplete-of (incompleteLine ids (idsOf l)) (mismatch (valuesOf l)) i e),
+        λ h. rw (f .1 h),
+      )
+
+  -- "Verdict 21, only for a complete claim, is a mismatch at its first line."
+  pub mismatch-exactly : (i : ℕ) → (judgedBy ids mismatch (gives l) ≡ gives (mismatchAt (suc i))) ↔ ((idsOf l ≡ ids) × (mismatch (valuesOf l) ≡ suc i))
+  unfolding judgedBy
+  mismatch-exactly i = (
+    λ e. let z = mismatch-of (incompleteLine ids (idsOf l)) (mismatch (valuesOf l)) i e in (complete-exactly .0 (z .0), z .1),
     λ h. rw (complete-exactly .1 (h .0), h .1),
   )
 
@@ -99,29 +144,7 @@ pub epsilon-match : (any : Decimal) (ids : List ℤ) (reference : List Fraction)
     → (judgedBy ids (farLine reference) (gives l) ≡ accepted) ↔ (Alike near (0, 1) any reference (valuesOf l))
 epsilon-match any ids reference l = by-match ids (farLine reference) l (line-exactly near (0, 1) any reference (valuesOf l))
 
--- ---- "Equivalence match": "a two-way mapping should exists that maps the system's output to be identical to reference output and the inverse of this mapping
--- maps the reference output to be identical to the system's output"
-pub record TwoWay (reference output : List ℤ) : Type 0 where
-  pub there : ℤ → ℤ
-  pub back : ℤ → ℤ
-  pub maps : (i : ℕ) → i < length reference → there (getD output i (pos 0)) ≡ getD reference i (pos 0)
-  pub inverse : (i : ℕ) → i < length reference → back (getD reference i (pos 0)) ≡ getD output i (pos 0)
-
--- the first places that fail a test, none of them
-failing-none : (p : ℕ → Bool) (n i : ℕ) → failingLine p n i ≡ 0 → (j : ℕ) → i ≤ j → j < i + n → p j ≡ true
-unfolding failingLine
-failing-none p zero i e j a b = absurd (omega arith)
-failing-none p (suc n) i e j a b = by (p i) refl e (failing-none p n (i + 1))
-  where
-    by : (t : Bool) → p i ≡ t → cond t (failingLine p n (i + 1)) (i + 1) ≡ 0 → (failingLine p n (i + 1) ≡ 0 → (j : ℕ) → i + 1 ≤ j → j < i + 1 + n → p j ≡ true) → p j ≡ true
-    by true q f h = bool-cases (eqb i j) (p j ≡ true) (λ t. ap p (sym (eqb-true i j t)) ∙ q) (λ t. h f j (let d = eqb-false i j t in omega arith) (omega arith))
-    by false q f h = absurd (omega arith)
-
-failing-all : (p : ℕ → Bool) (n i : ℕ) → ((j : ℕ) → i ≤ j → j < i + n → p j ≡ true) → failingLine p n i ≡ 0
-unfolding failingLine
-failing-all p zero i h = refl
-failing-all p (suc n) i h = rw (h i (omega arith) (omega arith)) (failing-all p n (i + 1) (λ j a b. h j (omega arith) (omega arith)))
-
+-- ---- "Equivalence match"
 -- what stands beside the first z in a list of keys
 beside : List ℤ → List ℤ → ℤ → ℤ
 beside [] vs z = z
@@ -160,28 +183,50 @@ module _ (a b : List ℤ) where
   abbrev Kinds : Type 0
   Kinds = (i j : ℕ) → i < length a → j < length a → sameZ (getD a i (pos 0)) (getD a j (pos 0)) ≡ sameZ (getD b i (pos 0)) (getD b j (pos 0))
 
+  kinds-of : unlikeLine a b ≡ 0 → Kinds
+  unfolding sameKind
+  kinds-of h i j k l =
+      elim (decLt j i) as (λ _. sameZ (getD a i (pos 0)) (getD a j (pos 0)) ≡ sameZ (getD b i (pos 0)) (getD b j (pos 0))) [
+        | yes f ↦ earlier i j k f
+        | no f ↦
+            elim (ℕ-discrete i j) as (λ _. sameZ (getD a i (pos 0)) (getD a j (pos 0)) ≡ sameZ (getD b i (pos 0)) (getD b j (pos 0))) [
+              | yes q ↦ rw q (signed-order .same-refl (getD a j (pos 0)) ∙ sym (signed-order .same-refl (getD b j (pos 0))))
+              | no d ↦ same-sym (getD a i (pos 0)) (getD a j (pos 0)) ∙ earlier j i l (omega arith) ∙ same-sym (getD b j (pos 0)) (getD b i (pos 0))
+            ]
+      ]
+    where
+      earlier : (i j : ℕ) → i < length a → j < i → sameZ (getD a i (pos 0)) (getD a j (pos 0)) ≡ sameZ (getD b i (pos 0)) (getD b j (pos 0))
+      earlier i j k f =
+          sym
+          (beq-eq _ _
+          (bool-cases (sameKind a b i j) (sameKind a b i j ≡ true) (λ t. t)
+          (λ t. absurd (unlike-none a b .0 h i (record { inside = k; earlier = j; isEarlier = f; unlike = t })))))
+
+  kinds-all : Kinds → unlikeLine a b ≡ 0
+  unfolding sameKind
+  kinds-all h =
+      unlike-none a b .1
+      (λ i d. clash (rw (h i (d .earlier) (d .inside) (omega (arith, d .isEarlier, d .inside))) (beq-refl (sameZ (getD b i (pos 0)) (getD b (d .earlier) (pos 0))))) (d .unlike))
+
+  -- "equal claims exactly where components are equal", for labels that are equal where places belong together
+  pub equal-exactly : (n : ℕ) → length a ≡ n → (Together : ℕ → ℕ → Type 0) → EqualWhere n Together a → (unlikeLine a b ≡ 0) ↔ EqualWhere n Together b
+  equal-exactly n e Together same = (
+    λ z i j k l.
+        let h = kinds-of z i j (omega arith) (omega arith) in (
+          λ q. same i j k l .0 (signed-order .same-eq _ _ (h ∙ rw q (signed-order .same-refl (getD b j (pos 0))))),
+          λ p. signed-order .same-eq _ _ (sym h ∙ rw (same i j k l .1 p) (signed-order .same-refl (getD a j (pos 0)))),
+        ),
+    λ f.
+        kinds-all
+        (λ i j k l.
+        let t = same i j (omega arith) (omega arith) in
+        let u = f i j (omega arith) (omega arith) in
+        same-test (sameZ (getD a i (pos 0)) (getD a j (pos 0))) (sameZ (getD b i (pos 0)) (getD b j (pos 0)))
+        (λ q. rw (u .1 (t .0 (signed-order .same-eq _ _ q))) (signed-order .same-refl (getD b j (pos 0))))
+        (λ q. rw (t .1 (u .0 (signed-order .same-eq _ _ q))) (signed-order .same-refl (getD a j (pos 0))))),
+  )
+
   module _ (e : length a ≡ length b) where
-    kinds-of : unlikeLine a b ≡ 0 → Kinds
-    unfolding unlikeLine agrees sameKind
-    kinds-of h i j k l =
-        elim (decLt j i) as (λ _. sameZ (getD a i (pos 0)) (getD a j (pos 0)) ≡ sameZ (getD b i (pos 0)) (getD b j (pos 0))) [
-          | yes f ↦ earlier i j k f
-          | no f ↦
-              elim (ℕ-discrete i j) as (λ _. sameZ (getD a i (pos 0)) (getD a j (pos 0)) ≡ sameZ (getD b i (pos 0)) (getD b j (pos 0))) [
-                | yes q ↦ rw q (signed-order .same-refl (getD a j (pos 0)) ∙ sym (signed-order .same-refl (getD b j (pos 0))))
-                | no d ↦ same-sym (getD a i (pos 0)) (getD a j (pos 0)) ∙ earlier j i l (omega arith) ∙ same-sym (getD b j (pos 0)) (getD b i (pos 0))
-              ]
-        ]
-      where
-        earlier : (i j : ℕ) → i < length a → j < i → sameZ (getD a i (pos 0)) (getD a j (pos 0)) ≡ sameZ (getD b i (pos 0)) (getD b j (pos 0))
-        earlier i j k f = sym (beq-eq _ _ (every-at (sameKind a b i) i j f (failing-none (agrees a b) (length a) 0 h i (omega arith) (omega arith))))
-
-    kinds-all : Kinds → unlikeLine a b ≡ 0
-    unfolding unlikeLine agrees sameKind
-    kinds-all h =
-        failing-all (agrees a b) (length a) 0
-        (λ i k l. every-of (sameKind a b i) i (λ j f. rw (h i j (omega arith) (omega arith)) (beq-refl (sameZ (getD b i (pos 0)) (getD b j (pos 0))))))
-
     two-way : Kinds → TwoWay a b
     two-way h =
         record {

@@ -16,23 +16,24 @@ use Rattle.basis.specs.Refusal.{gives, refuses, at, tooMany, claimFile}
 use Rattle.basis.specs.declared.refusal.Refusal.{Refusal}
 use Rattle.basis.specs.Order.{sameZ}
 use Rattle.basis.proofs.Tests.{bool-cases}
-use Rattle.text.specs.Line.{line, claimLine, edgeSays}
 use Rattle.text.specs.Word.{identOf}
-use Rattle.text.specs.Line.{twoOf}
+use Rattle.text.specs.Line.{line, twoOf, claimLine, edgeSays}
+use Rattle.text.specs.File.{noTest}
 use Rattle.text.specs.declared.line.Cursor.{Cursor}
 use Rattle.text.specs.declared.line.EdgeLine.{EdgeLine}
 use Rattle.text.specs.declared.line.EdgeLine.the-variants as EL
-use Rattle.text.proofs.Places.{line-moves, edge-range}
+use Rattle.text.proofs.Places.{edge-range}
+use Rattle.text.proofs.Files.{Passed, passed-none, passed-next, passed-end, passed-fault, passed-full, passed-over}
 use Rattle.matching.specs.declared.reading.Read.the-variants.{Lines, Fault}
 use Rattle.matching.specs.Claim.{numberLines, idsOf, valuesOf}
 use Rattle.matching.specs.Steps.{coverStep, endLine, ReadOf}
 use Rattle.matching.proofs.FirstLines.{bits-back, Against, against-none, against-next, against-end}
-use Rattle.matching.proofs.Readings.{Passed, passed-none, passed-next, passed-end, passed-fault, passed-full, passed-over, ids-more, values-more}
+use Rattle.matching.proofs.Readings.{ids-more, values-more}
 
 -- k lines are done, up to a place: while none of them is incomplete, they are the first k vertices' lines and their values are kept
 pub record Numbers (most : ℕ) (ids : List ℤ) (s : List ℕ) (size : ℕ) (claimed : List ℤ) (place k incomplete : ℕ) : Type 0 where
   pub done : List (ℤ × ℤ)
-  pub passed : Passed (claimLine s) (length s) most done place k
+  pub passed : Passed (twoOf identOf identOf) claimFile most noTest s done place k
   pub covers : Against sameZ ids (idsOf done) k incomplete
   pub kept : length claimed ≡ size
   pub within : incomplete ≡ 0 → k ≤ length ids
@@ -54,7 +55,7 @@ module _ (most : ℕ) (ids : List ℤ) (s : List ℕ) where
   numbers-none claimed =
       record {
         done = [];
-        passed = passed-none (claimLine s) (length s) most;
+        passed = passed-none (twoOf identOf identOf) claimFile most noTest s;
         covers = against-none sameZ ids;
         kept = refl;
         within = λ e. omega arith;
@@ -81,52 +82,52 @@ module _ (most : ℕ) (ids : List ℤ) (s : List ℕ) where
         }
 
     -- the line at the place
-    module _ (l : k < most) {x : EdgeLine} (e : edgeSays x ≡ claimLine s place) where
+    module _ {x : EdgeLine} (e : edgeSays x ≡ claimLine s place) where
       pub numbers-end : (c : Cursor) → x ≡ EL.End c → {i : ℕ} → i ≡ endLine (length ids) k incomplete → ReadOf most ids s size claimed (Lines i)
-      numbers-end c q = ended (passed-end (claimLine s) (length s) most (h .passed) l (c .at) (sym e ∙ ap edgeSays q))
+      numbers-end c q = ended (passed-end (twoOf identOf identOf) claimFile most noTest s (h .passed) (c .at) (sym e ∙ ap edgeSays q))
 
-      pub numbers-fault : (n : ℕ) (c : Cursor) → x ≡ EL.Fault n c → {r : Refusal} → r ≡ at n claimFile (k + 1) → ReadOf most ids s size claimed (Fault r)
-      numbers-fault n c q p =
-          record {
-            tells = passed-fault (claimLine s) (length s) most (h .passed) l n (c .at) (sym e ∙ ap edgeSays q) ∙ ap refuses (sym p);
-            kept = h .kept;
-          }
+      module _ (l : k < most) where
+        pub numbers-fault : (n : ℕ) (c : Cursor) → x ≡ EL.Fault n c → {r : Refusal} → r ≡ at n claimFile (k + 1) → ReadOf most ids s size claimed (Fault r)
+        numbers-fault n c q p =
+            record {
+              tells = passed-fault (twoOf identOf identOf) claimFile most noTest s (h .passed) l n (c .at) (sym e ∙ ap edgeSays q) ∙ ap refuses (sym p);
+              kept = h .kept;
+            }
 
-      pub numbers-next : (id v : ℤ) (c : Cursor) → x ≡ EL.Line id v c → length ids ≤ size
-          → {i : ℕ} → i ≡ coverStep ids k (toZ w64 (ofZ w64 id)) incomplete → {left : List ℤ} → left ≡ cond (ltb k (length ids)) (set claimed k (toZ w64 (ofZ w64 v))) claimed
-          → Numbers most ids s size left (c .at) (k + 1) i
-      numbers-next id v c q room r r′ =
-          record {
-            done = h .done ++ ((id, v) ∷ []);
-            passed = passed-next (claimLine s) (length s) most (h .passed) l (id, v) (c .at) here (line-moves (twoOf identOf identOf) s place (edgeSays x) e (id, v) (c .at) (ap edgeSays q) .forward);
-            covers = rw (ids-more (h .done) (id, v), r, p) covered;
-            kept = rw r′ kept′;
-            within = λ z. omega (arith, cover-zero ids k (toZ w64 (ofZ w64 id)) incomplete (sym r ∙ z) .1);
-            stored = λ z. rw (r′, values-more (h .done) (id, v)) (stored′ (cover-zero ids k (toZ w64 (ofZ w64 id)) incomplete (sym r ∙ z)));
-          }
-        where
-          here : claimLine s place ≡ line (id, v) (c .at)
-          here = sym e ∙ ap edgeSays q
+        pub numbers-next : (id v : ℤ) (c : Cursor) → x ≡ EL.Line id v c → length ids ≤ size
+            → {i : ℕ} → i ≡ coverStep ids k (toZ w64 (ofZ w64 id)) incomplete → {left : List ℤ} → left ≡ cond (ltb k (length ids)) (set claimed k (toZ w64 (ofZ w64 v))) claimed
+            → Numbers most ids s size left (c .at) (k + 1) i
+        numbers-next id v c q room r r′ =
+            record {
+              done = h .done ++ ((id, v) ∷ []);
+              passed = passed-next (twoOf identOf identOf) claimFile most noTest s (h .passed) l (id, v) (c .at) here refl;
+              covers = rw (ids-more (h .done) (id, v), r, p) covered;
+              kept = rw r′ kept′;
+              within = λ z. omega (arith, cover-zero ids k (toZ w64 (ofZ w64 id)) incomplete (sym r ∙ z) .1);
+              stored = λ z. rw (r′, values-more (h .done) (id, v)) (stored′ (cover-zero ids k (toZ w64 (ofZ w64 id)) incomplete (sym r ∙ z)));
+            }
+          where
+            here : claimLine s place ≡ line (id, v) (c .at)
+            here = sym e ∙ ap edgeSays q
 
-          p : toZ w64 (ofZ w64 id) ≡ id
-          p = bits-back id (edge-range s place id v (c .at) here .0)
+            p : toZ w64 (ofZ w64 id) ≡ id
+            p = bits-back id (edge-range s place id v (c .at) here .0)
 
-          covered : Against sameZ ids (idsOf (h .done) ++ (id ∷ [])) (k + 1) (coverStep ids k id incomplete)
-          covered = against-next sameZ ids (pos 0) (idsOf (h .done)) k incomplete (h .covers) id
+            covered : Against sameZ ids (idsOf (h .done) ++ (id ∷ [])) (k + 1) (coverStep ids k id incomplete)
+            covered = against-next sameZ ids (pos 0) (idsOf (h .done)) k incomplete (h .covers) id
 
-          kept′ : length (cond (ltb k (length ids)) (set claimed k (toZ w64 (ofZ w64 v))) claimed) ≡ size
-          kept′ = bool-cases (ltb k (length ids)) _ (λ t. rw (t, length-set) (h .kept)) (λ t. rw t (h .kept))
+            kept′ : length (cond (ltb k (length ids)) (set claimed k (toZ w64 (ofZ w64 v))) claimed) ≡ size
+            kept′ = bool-cases (ltb k (length ids)) _ (λ t. rw (t, length-set) (h .kept)) (λ t. rw t (h .kept))
 
-          stored′ : (incomplete ≡ 0) × (k < length ids) → take (k + 1) (cond (ltb k (length ids)) (set claimed k (toZ w64 (ofZ w64 v))) claimed) ≡ valuesOf (h .done) ++ (v ∷ [])
-          stored′ f =
-              let g : k < length claimed = omega (arith, h .kept, f .1) in
-              rw (lt-ltb k (length ids) (f .1), add-one k) (take-suc-set claimed k (toZ w64 (ofZ w64 v)) g ∙ ap₂ (λ t x. t ++ (x ∷ [])) (h .stored (f .0)) (bits-back v (edge-range s place id v (c .at) here .1)))
+            stored′ : (incomplete ≡ 0) × (k < length ids) → take (k + 1) (cond (ltb k (length ids)) (set claimed k (toZ w64 (ofZ w64 v))) claimed) ≡ valuesOf (h .done) ++ (v ∷ [])
+            stored′ f =
+                let g : k < length claimed = omega (arith, h .kept, f .1) in
+                rw (lt-ltb k (length ids) (f .1), add-one k) (take-suc-set claimed k (toZ w64 (ofZ w64 v)) g ∙ ap₂ (λ t x. t ++ (x ∷ [])) (h .stored (f .0)) (bits-back v (edge-range s place id v (c .at) here .1)))
 
-    -- no line more is allowed
-    module _ (l : most ≤ k) where
-      pub numbers-over : place < length s → {r : Refusal} → r ≡ at tooMany claimFile (k + 1) → ReadOf most ids s size claimed (Fault r)
-      numbers-over g p =
-          record { tells = passed-over (claimLine s) (length s) most (h .passed) l g ∙ ap refuses (sym p); kept = h .kept }
+    -- no line more is allowed, or none is left
+    pub numbers-over : most ≤ k → place < length s → {r : Refusal} → r ≡ at tooMany claimFile (k + 1) → ReadOf most ids s size claimed (Fault r)
+    numbers-over l g p =
+        record { tells = passed-over (twoOf identOf identOf) claimFile most noTest s (h .passed) l g ∙ ap refuses (sym p); kept = h .kept }
 
-      pub numbers-full : length s ≤ place → {i : ℕ} → i ≡ endLine (length ids) k incomplete → ReadOf most ids s size claimed (Lines i)
-      numbers-full g = ended (passed-full (claimLine s) (length s) most (h .passed) l g)
+    pub numbers-full : length s ≤ place → {i : ℕ} → i ≡ endLine (length ids) k incomplete → ReadOf most ids s size claimed (Lines i)
+    numbers-full g = ended (passed-full (twoOf identOf identOf) claimFile most noTest s (h .passed) g)

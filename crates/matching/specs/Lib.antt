@@ -2,5 +2,6 @@
 pub mod Close
 pub mod Claim
 pub mod Verdict
+pub mod Good
 pub mod Calls
 pub mod Steps

@@ -33,7 +33,7 @@ matched = verdict 0 0
 abbrev pub incompleteAt : ℕ → Verdict
 incompleteAt line = verdict 20 line
 
--- "Verdict 21 .. is a mismatch at its first line"
+-- "Verdict 21, only for a complete claim, is a mismatch at its first line."
 abbrev pub mismatchAt : ℕ → Verdict
 mismatchAt line = verdict 21 line
 

@@ -9,20 +9,20 @@ use lib.ListN.{length, replicate}
 use lib.Dec.{eqb, leb}
 use borrow.Author.Tests.{leb-true, le-leb, eqb-true, eqb-false}
 use Rattle.basis.specs.declared.refusal.Refusal.{Refusal}
-use Rattle.basis.specs.Refusal.{Said, gives, refuses, at, plain, tooMany, noRoom, claimFile, said}
+use Rattle.basis.specs.Refusal.{Said, gives, refuses, plain, noRoom, claimFile}
 use Rattle.basis.specs.Order.{sameZ}
 use Rattle.basis.proofs.Tests.{and-first, and-second, and-both}
 use Rattle.basis.proofs.Areas.{column-length}
-use Rattle.basis.proofs.Saids.{Any}
 use Rattle.text.specs.Word.{Word, identOf}
 use Rattle.text.specs.Decimal.{decimalOf}
-use Rattle.text.specs.Line.{LineSaid, line, none, fault, lineBy, twoOf}
-use Rattle.text.proofs.Places.{LineHas, line-any}
+use Rattle.text.specs.Line.{lineBy, twoOf}
+use Rattle.text.specs.File.{noTest}
+use Rattle.text.proofs.Files.{file-accepted, Met, file-met}
 use Rattle.graph.specs.Sound.{Graph, names, soundGraph, outward}
 use Rattle.graph.proofs.Sounds.{sound-of}
 use Rattle.kernels.specs.Answer.{kernelSays, bfsNumber, wccNumber, cdlpNumber, lccNumber}
 use Rattle.wcc.specs.Component.{labelOf, wccOf}
-use Rattle.matching.specs.Claim.{linesFrom, numberLines, coefficientLines, idsOf, valuesOf}
+use Rattle.matching.specs.Claim.{claimLines, numberLines, coefficientLines, idsOf, valuesOf}
 use Rattle.matching.specs.Verdict.{Verdict, near, firstLine, incompleteLine, agrees, failingLine, unlikeLine, verdictOf, judgedBy}
 use Rattle.matching.proofs.Readings.{ids-length, values-length}
 use Rattle.verdicts.specs.Reference.{Reference, coefficients, bfsReference, wccReference, cdlpReference, lccReference}
@@ -31,34 +31,19 @@ use Rattle.trace.specs.Code.{placed, hostCode, wide, narrow, Small, Read
 use Rattle.trace.specs.Verdict.{threeOf, judgeTold, judgeTells}
 use Rattle.trace.specs.Host.{deskLines, isKernel, referenceFor, judgedAs}
 use Rattle.trace.specs.Steps.{deskJudged}
-use Rattle.trace.proofs.Codes.{readable-given, readable-refused}
 
 -- ---- the lines of a claim
 
--- of a claim whose next line is k, and which may have so many more: the line after its last has room
-module _ {A : Type 0} (word : List ℕ → Word A) (s : List ℕ) (size room : ℕ) where
-  lines-readable : (allowed k place : ℕ) → k + allowed < room → Readable room (linesFrom (lineBy word s) size allowed k place) (λ l. k + length l)
-  unfolding linesFrom
-  lines-readable zero k place h = go (leb size place)
-    where
-      go : (t : Bool) → Readable {A = List A} room (cond t (gives []) (refuses (at tooMany claimFile k))) (λ l. k + length l)
-      go true = readable-given [] (omega arith)
-      go false = readable-refused (at tooMany claimFile k) (omega arith) (record { number = omega arith; file = omega arith; line = omega arith })
-  lines-readable (suc allowed) k place h = go (lineBy word s place) (line-any word s place) (λ next. lines-readable allowed (k + 1) next (omega arith))
-    where
-      more : (v : A) (x : Said (List A)) → Readable room x (λ l. k + 1 + length l) → Readable room (said (λ l. v ∷ l) x) (λ l. k + length l)
-      more v (gives l) f = readable-given (v ∷ l) (let t = f .values l refl in omega arith)
-      more v (refuses r) f = let t = f .refusals r refl in readable-refused r (t .0) (t .1)
-
-      go : (x : LineSaid A) → LineHas Any x → ((next : ℕ) → Readable room (linesFrom (lineBy word s) size allowed (k + 1) next) (λ l. k + 1 + length l))
-          → Readable {A = List A} room (elim x [
-            | line v next ↦ said (λ l. v ∷ l) (linesFrom (lineBy word s) size allowed (k + 1) next)
-            | none p ↦ gives []
-            | fault number p ↦ refuses (at number claimFile k)
-          ]) (λ l. k + length l)
-      go (line v next) f ih = more v (linesFrom (lineBy word s) size allowed (k + 1) next) (ih next)
-      go (none p) f ih = readable-given [] (omega arith)
-      go (fault n p) f ih = readable-refused (at n claimFile k) (omega (arith, f .0)) (record { number = omega (arith, f .1); file = omega arith; line = omega arith })
+-- of a claim that may have so many: the line after its last has room
+module _ {A : Type 0} (word : List ℕ → Word A) (s : List ℕ) (room : ℕ) where
+  lines-readable : (most : ℕ) → 1 + most < room → Readable room (claimLines (lineBy word) most s) (λ l. 1 + length l)
+  lines-readable most h =
+      record {
+        values = λ l e. let f = file-accepted word claimFile most noTest s l .0 e .few in omega arith;
+        refusals = λ r e.
+            let m : Met claimFile most r = rw e at (file-met word claimFile most noTest (λ before v. omega arith) s) in
+            (m .some, record { number = omega (arith, m .low); file = omega (arith, m .inFile); line = omega (arith, m .inLines) });
+      }
 
 -- ---- the line of a verdict
 
@@ -110,10 +95,10 @@ module _ (room : ℕ) (some : 65537 < room) where
 
   module _ (most : ℕ) (few : most ≤ 65536) (g : Graph) (s : List ℕ) (kernel : ℕ) (parameter : ℤ) where
     numbers-readable : Readable room (numberLines most s) (λ l. 1 + length l)
-    numbers-readable = lines-readable (twoOf identOf identOf) s (length s) room most 1 0 (omega arith)
+    numbers-readable = lines-readable (twoOf identOf identOf) s room most (omega arith)
 
     decimals-readable : Readable room (coefficientLines most s) (λ l. 1 + length l)
-    decimals-readable = lines-readable (twoOf identOf decimalOf) s (length s) room most 1 0 (omega arith)
+    decimals-readable = lines-readable (twoOf identOf decimalOf) s room most (omega arith)
 
     wcc-small : soundGraph g ≡ true → Small room (threeOf (judgedBy (names g) (unlikeLine (wccOf g)) (numberLines most s)))
     wcc-small h =

@@ -5,24 +5,27 @@ use mathlib.Core.Logic.{_↔_}
 use mathlib.Core.List.{List, map}
 use Prim.Native.Nat.{ℕ, _≤_}
 use lib.Dec.{eqb}
-use lib.IntN.{ℤ, natAbs}
+use lib.IntN.{ℤ, pos, natAbs}
 use lib.ListN.{length}
-use Rattle.basis.specs.Refusal.{gives}
+use Rattle.basis.specs.Order.{sameZ}
+use Rattle.text.specs.Word.{identOf}
 use Rattle.text.specs.Decimal.{decimalOf}
 use Rattle.text.specs.declared.decimal.Decimal.{Decimal}
 use Rattle.graph.specs.Find.{placeIn, isThere}
-use Rattle.graph.specs.Sound.{Graph, names, soundGraph}
-use Rattle.graph.proofs.Sounds.{Sound, names-length}
+use Rattle.graph.specs.Sound.{Graph, names, outward, soundGraph}
+use Rattle.graph.proofs.Sounds.{Sound, sound-of, names-length}
 use Rattle.kernels.specs.Answer.{kernelSays}
 use Rattle.bfs.specs.Call.{depthsFrom}
-use Rattle.wcc.specs.Component.{wccOf}
-use Rattle.wcc.proofs.Meaning.{wcc-length}
+use Rattle.wcc.specs.Component.{Linked, wccOf}
+use Rattle.wcc.proofs.Meaning.{wcc-length, labels-same}
 use Rattle.cdlp.specs.Promise.{goodRounds}
 use Rattle.cdlp.specs.Rounds.{cdlpOf}
 use Rattle.cdlp.proofs.Runs.{cdlp-length}
-use Rattle.matching.specs.Claim.{numberLines, coefficientLines, idsOf, valuesOf}
+use Rattle.matching.specs.Claim.{idsOf, valuesOf}
 use Rattle.matching.specs.Verdict.{near}
-use Rattle.matching.proofs.Meaning.{accepted, Alike, TwoWay, map-length, exact-match, equivalence-match, epsilon-match}
+use Rattle.matching.specs.Good.{Alike, Differs, Disagrees, EqualWhere, GoodClaim, Judges}
+use Rattle.matching.proofs.Meaning.{accepted, map-length}
+use Rattle.matching.proofs.Claims.{exact-judged, equivalence-judged, epsilon-judged}
 use Rattle.matching.proofs.Listing.{Line, claimText, linesOf, listed, AllFit, AllSpelled, exact-own, equivalence-own, epsilon-own}
 use Rattle.verdicts.specs.Reference.{Reference, coefficients, bfsReference, wccReference, cdlpReference, lccReference}
 use Rattle.verdicts.specs.Call.{roomFor, verdictSays, leftBy, callOn, unknownCall, verdictCall}
@@ -52,25 +55,46 @@ module _ (most : ℕ) (g : Graph) (parameter : ℤ) (s : List ℕ) (R C : List �
   unfolding verdictCall callOn leftBy
   lcc-says = rw (sound, room)
 
--- ---- a complete claim, of lines l, is accepted exactly when it matches at every vertex
-module _ (most : ℕ) (g : Graph) (s : List ℕ) where
-  module _ (l : List (ℤ × ℤ)) (read : numberLines most s ≡ gives l) (complete : idsOf l ≡ names g) where
-    pub bfs-accepted : (root : ℤ) → isThere (placeIn (names g) root) ≡ true
-        → (verdictSays (bfsReference most g s root) true true ≡ accepted) ↔ (valuesOf l ≡ depthsFrom g (placeIn (names g) root))
-    bfs-accepted root e = rw (says-judged (bfsReference most g s root) e, read) (exact-match (names g) (depthsFrom g (placeIn (names g) root)) l complete)
+  -- ---- each answer is given exactly where the claim's bytes are of its kind: accepted, incomplete or a mismatch at a line, refused at its first fault
+  -- "BFS and CDLP: equal numbers."
+  pub bfs-judged : isThere (placeIn (names g) parameter) ≡ true
+      → Judges identOf most (names g) (λ vs. vs ≡ depthsFrom g (placeIn (names g) parameter)) (Differs sameZ (pos 0) (pos 0) (depthsFrom g (placeIn (names g) parameter))) s
+      (verdictCall most g 1 parameter s R C F S T .said)
+  bfs-judged e = rw (bfs-says, says-judged (bfsReference most g s parameter) e) (exact-judged most (names g) (depthsFrom g (placeIn (names g) parameter)) s)
 
-    pub cdlp-accepted : (iterations : ℤ) → goodRounds iterations ≡ true
-        → (verdictSays (cdlpReference most g s iterations) true true ≡ accepted) ↔ (valuesOf l ≡ cdlpOf g (natAbs iterations))
-    cdlp-accepted iterations e = rw (says-judged (cdlpReference most g s iterations) e, read) (exact-match (names g) (cdlpOf g (natAbs iterations)) l complete)
+  pub cdlp-judged : goodRounds parameter ≡ true
+      → Judges identOf most (names g) (λ vs. vs ≡ cdlpOf g (natAbs parameter)) (Differs sameZ (pos 0) (pos 0) (cdlpOf g (natAbs parameter))) s
+      (verdictCall most g 3 parameter s R C F S T .said)
+  cdlp-judged e = rw (cdlp-says, says-judged (cdlpReference most g s parameter) e) (exact-judged most (names g) (cdlpOf g (natAbs parameter)) s)
 
-    pub wcc-accepted : Sound g → (verdictSays (wccReference most g s) true true ≡ accepted) ↔ (TwoWay (wccOf g) (valuesOf l))
-    wcc-accepted sound =
-        rw (says-judged (wccReference most g s) refl, read)
-        (equivalence-match (names g) (wccOf g) l (wcc-length g sound ∙ sym (names-length g sound)) complete)
+  -- "WCC: equal claims exactly where components are equal."
+  pub wcc-judged : Judges identOf most (names g) (EqualWhere (g .vertices) (Linked (g .vertices) (outward g))) (Disagrees (wccOf g)) s
+      (verdictCall most g 2 parameter s R C F S T .said)
+  wcc-judged =
+      rw (wcc-says, says-judged (wccReference most g s) refl)
+      (equivalence-judged most (names g) (wccOf g) (g .vertices) (wcc-length g (sound-of g sound)) (Linked (g .vertices) (outward g)) (labels-same g (sound-of g sound)) s)
 
-  pub lcc-accepted : (any : Decimal) (l : List (ℤ × Decimal)) → coefficientLines most s ≡ gives l → idsOf l ≡ names g
-      → (verdictSays (lccReference most g s) true true ≡ accepted) ↔ (Alike near (0, 1) any (coefficients g) (valuesOf l))
-  lcc-accepted any l read complete = rw (says-judged (lccReference most g s) refl, read) (epsilon-match any (names g) (coefficients g) l complete)
+  -- "LCC: 10,000 times |r-s| at most r, with r the exact fraction and s the exact decimal."
+  pub lcc-judged : (any : Decimal)
+      → Judges decimalOf most (names g) (Alike near (0, 1) any (coefficients g)) (Differs near (0, 1) any (coefficients g)) s
+      (verdictCall most g 4 parameter s R C F S T .said)
+  lcc-judged any = rw (lcc-says, says-judged (lccReference most g s) refl) (epsilon-judged most (names g) any (coefficients g) s)
+
+  -- ---- accepted exactly where it matches: the bytes name the graph's identifiers in order, with values that match, in at most so many lines
+  pub bfs-accepted : isThere (placeIn (names g) parameter) ≡ true
+      → (verdictCall most g 1 parameter s R C F S T .said ≡ accepted) ↔ GoodClaim identOf most (names g) (λ vs. vs ≡ depthsFrom g (placeIn (names g) parameter)) s
+  bfs-accepted e = bfs-judged e .accepted
+
+  pub cdlp-accepted : goodRounds parameter ≡ true
+      → (verdictCall most g 3 parameter s R C F S T .said ≡ accepted) ↔ GoodClaim identOf most (names g) (λ vs. vs ≡ cdlpOf g (natAbs parameter)) s
+  cdlp-accepted e = cdlp-judged e .accepted
+
+  pub wcc-accepted : (verdictCall most g 2 parameter s R C F S T .said ≡ accepted)
+      ↔ GoodClaim identOf most (names g) (EqualWhere (g .vertices) (Linked (g .vertices) (outward g))) s
+  wcc-accepted = wcc-judged .accepted
+
+  pub lcc-accepted : (any : Decimal) → (verdictCall most g 4 parameter s R C F S T .said ≡ accepted) ↔ GoodClaim decimalOf most (names g) (Alike near (0, 1) any (coefficients g)) s
+  lcc-accepted any = lcc-judged any .accepted
 
 -- ---- the claim that lists the kernel's own result is accepted
 module _ (most : ℕ) (g : Graph) (sound : Sound g) (few : g .vertices ≤ most) (fits : AllFit (names g)) where

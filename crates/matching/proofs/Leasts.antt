@@ -1,0 +1,158 @@
+-- A first line is the least place at fault, both ways, and 0 exactly where no place is. Assumes nothing.
+use mathlib.Core.Path.{_≡_, refl, sym, ap, _∙_, subst}
+use mathlib.Core.Bool.{Bool, true, false, cond, _&&_}
+use mathlib.Core.Logic.{_↔_, _⊎_, inl, inr}
+use mathlib.Core.List.{List, [], _∷_}
+use Prim.Native.Nat.{ℕ, zero, suc, _+_, _≤_, _<_}
+use native.Mathlib.Nat.{not-suc-le-zero}
+use native.Mathlib.Omega.{arith}
+use native.Mathlib.Decide.{decLt}
+use lib.Dec.{eqb}
+use lib.IntN.{ℤ}
+use lib.ListN.{length, getD}
+use borrow.Author.Tests.{eqb-true, eqb-false}
+use Rattle.basis.specs.Scan.{every}
+use Rattle.basis.proofs.Tests.{clash, bool-cases}
+use Rattle.basis.proofs.Scans.{every-fail}
+use Rattle.matching.specs.Verdict.{firstLine, sameKind, agrees, failingLine, unlikeLine}
+use Rattle.matching.specs.Good.{Least, Alike, Differs, other, missing, surplus, Disagrees}
+
+-- ---- a line, counted from k on, that is 0 where no place has P and else is that of the least
+abbrev Finds : (ℕ → Type 0) → ℕ → ℕ → Type 0
+Finds P k line = ((line ≡ 0) × ((j : ℕ) → P j → ⊥)) ⊎ ((i : ℕ) × (line ≡ suc (k + i)) × Least P i)
+
+finds-same : {P Q : ℕ → Type 0} {line : ℕ} → ((j : ℕ) → P j → Q j) → ((j : ℕ) → Q j → P j) → Finds P 0 line → Finds Q 0 line
+finds-same f g (inl h) = inl (h .0, λ j q. h .1 j (g j q))
+finds-same f g (inr h) = inr (h .0, h .1, record { here = f (h .0) (h .2 .here); least = λ j q. h .2 .least j (g j q) })
+
+module _ {P : ℕ → Type 0} {line : ℕ} where
+  finds-exactly : Finds P 0 line → (i : ℕ) → (line ≡ suc i) ↔ Least P i
+  finds-exactly (inl h) i = (λ e. absurd (omega (arith, h .0)), λ l. absurd (h .1 i (l .here)))
+  finds-exactly (inr h) i = (
+    λ e. let q : h .0 ≡ i = omega (arith, h .1) in subst (Least P) q (h .2),
+    λ l. omega (arith, h .1, h .2 .least i (l .here), l .least (h .0) (h .2 .here)),
+  )
+
+  finds-none : Finds P 0 line → (line ≡ 0) ↔ ((j : ℕ) → P j → ⊥)
+  finds-none (inl h) = (λ e. h .1, λ n. h .0)
+  finds-none (inr h) = (λ e. absurd (omega (arith, h .1)), λ n. absurd (n (h .0) (h .2 .here)))
+
+-- ---- two lists side by side
+module _ {A B : Type 0} (alike : A → B → Bool) (x : A) (y : B) where
+  abbrev At : List A → List B → ℕ → Type 0
+  At xs ys i = Differs alike x y xs ys i
+
+  none-at : (i : ℕ) → At [] [] i → ⊥
+  none-at i (other p q t) = not-suc-le-zero p
+  none-at i (missing p q) = not-suc-le-zero q
+  none-at i (surplus p q) = not-suc-le-zero q
+
+  module _ {a : A} {b : B} {xs : List A} {ys : List B} where
+    at-later : (i : ℕ) → At xs ys i → At (a ∷ xs) (b ∷ ys) (suc i)
+    at-later i (other p q t) = other (omega arith) (omega arith) t
+    at-later i (missing p q) = missing (omega arith) (omega arith)
+    at-later i (surplus p q) = surplus (omega arith) (omega arith)
+
+    at-tail : (i : ℕ) → At (a ∷ xs) (b ∷ ys) (suc i) → At xs ys i
+    at-tail i (other p q t) = other (omega arith) (omega arith) t
+    at-tail i (missing p q) = missing (omega arith) (omega arith)
+    at-tail i (surplus p q) = surplus (omega arith) (omega arith)
+
+    at-first : alike a b ≡ true → At (a ∷ xs) (b ∷ ys) 0 → ⊥
+    at-first e (other p q t) = clash e t
+    at-first e (missing p q) = not-suc-le-zero p
+    at-first e (surplus p q) = not-suc-le-zero p
+
+  line-finds : (k : ℕ) (xs : List A) (ys : List B) → Finds (At xs ys) k (firstLine alike (k + 1) xs ys)
+  unfolding firstLine
+  line-finds k [] [] = inl (refl, none-at)
+  line-finds k [] (b ∷ ys) = inr (0, omega arith, record { here = surplus (omega arith) (omega arith); least = λ j d. omega arith })
+  line-finds k (a ∷ xs) [] = inr (0, omega arith, record { here = missing (omega arith) (omega arith); least = λ j d. omega arith })
+  line-finds k (a ∷ xs) (b ∷ ys) = by (alike a b) refl (line-finds (k + 1) xs ys)
+    where
+      by : (t : Bool) → alike a b ≡ t → Finds (At xs ys) (k + 1) (firstLine alike (k + 1 + 1) xs ys)
+          → Finds (At (a ∷ xs) (b ∷ ys)) k (cond t (firstLine alike (k + 1 + 1) xs ys) (k + 1))
+      by true q (inl h) = inl (h .0, nowhere)
+        where
+          nowhere : (j : ℕ) → At (a ∷ xs) (b ∷ ys) j → ⊥
+          nowhere zero d = at-first q d
+          nowhere (suc j) d = h .1 j (at-tail j d)
+      by true q (inr h) = inr (suc (h .0), omega (arith, h .1), record { here = at-later (h .0) (h .2 .here); least = later })
+        where
+          later : (j : ℕ) → At (a ∷ xs) (b ∷ ys) j → suc (h .0) ≤ j
+          later zero d = absurd (at-first q d)
+          later (suc j) d = let l = h .2 .least j (at-tail j d) in omega arith
+      by false q h = inr (0, omega arith, record { here = other (omega arith) (omega arith) q; least = λ j d. omega arith })
+
+  module _ (xs : List A) (ys : List B) where
+    -- a first line is the least place at which the second list differs from the first, counted from 1
+    pub first-least : (i : ℕ) → (firstLine alike 1 xs ys ≡ suc i) ↔ Least (Differs alike x y xs ys) i
+    first-least i = finds-exactly (line-finds 0 xs ys) i
+
+    alike-of : ((j : ℕ) → At xs ys j → ⊥) → Alike alike x y xs ys
+    alike-of n =
+        record {
+          long = same;
+          everywhere = λ i l. bool-cases (alike (getD xs i x) (getD ys i y)) _ (λ t. t) (λ t. absurd (n i (other l (omega (arith, same)) t)));
+        }
+      where
+        same : length xs ≡ length ys
+        same =
+            elim (decLt (length xs) (length ys)) as (λ _. length xs ≡ length ys) [
+              | yes f ↦ absurd (n (length xs) (surplus (omega arith) f))
+              | no f ↦
+                  elim (decLt (length ys) (length xs)) as (λ _. length xs ≡ length ys) [
+                    | yes g ↦ absurd (n (length ys) (missing (omega arith) g))
+                    | no g ↦ omega arith
+                  ]
+            ]
+
+    none-differs : Alike alike x y xs ys → (j : ℕ) → At xs ys j → ⊥
+    none-differs h j (other p q t) = clash (h .everywhere j p) t
+    none-differs h j (missing p q) = omega (arith, h .long)
+    none-differs h j (surplus p q) = omega (arith, h .long)
+
+    -- there is none exactly where the two are alike at every place
+    pub line-exactly : (firstLine alike 1 xs ys ≡ 0) ↔ Alike alike x y xs ys
+    line-exactly = let f = finds-none (line-finds 0 xs ys) in (λ e. alike-of (f .0 e), λ h. f .1 (none-differs h))
+
+-- ---- the places from i on that fail a test
+abbrev Fails : (ℕ → Bool) → ℕ → ℕ → ℕ → Type 0
+Fails p n i j = (i ≤ j) × (j < i + n) × (p j ≡ false)
+
+failing-finds : (p : ℕ → Bool) (n i : ℕ) → Finds (Fails p n i) 0 (failingLine p n i)
+unfolding failingLine
+failing-finds p zero i = inl (refl, λ j h. omega (arith, h .0, h .1))
+failing-finds p (suc n) i = by (p i) refl (failing-finds p n (i + 1))
+  where
+    by : (t : Bool) → p i ≡ t → Finds (Fails p n (i + 1)) 0 (failingLine p n (i + 1)) → Finds (Fails p (suc n) i) 0 (cond t (failingLine p n (i + 1)) (i + 1))
+    by true q h =
+        finds-same (λ j f. (omega (arith, f .0), omega (arith, f .1), f .2))
+        (λ j f. (bool-cases (eqb i j) (i + 1 ≤ j) (λ t. clash (ap p (sym (eqb-true i j t)) ∙ q) (f .2)) (λ t. let d = eqb-false i j t in omega (arith, f .0)), omega (arith, f .1), f .2)) h
+    by false q h = inr (i, omega arith, record { here = (omega arith, omega arith, q); least = λ j f. f .0 })
+
+-- ---- lines that disagree in kind with an earlier one
+every-some : (p : ℕ → Bool) (n : ℕ) → every n p ≡ false → (i : ℕ) × (i < n) × (p i ≡ false)
+unfolding every
+every-some p zero e = clash refl e
+every-some p (suc n) e = by (every n p) refl e (every-some p n)
+  where
+    by : (t : Bool) → every n p ≡ t → (t && p n) ≡ false → (every n p ≡ false → (i : ℕ) × (i < n) × (p i ≡ false)) → (i : ℕ) × (i < suc n) × (p i ≡ false)
+    by true q f h = (n, omega arith, f)
+    by false q f h = let r = h q in (r .0, omega (arith, r .1), r .2)
+
+module _ (labels claims : List ℤ) where
+  unlike-finds : Finds (Disagrees labels claims) 0 (unlikeLine labels claims)
+  unfolding unlikeLine agrees
+  unlike-finds =
+      finds-same
+      (λ j f. let r = every-some (sameKind labels claims j) j (f .2) in record { inside = omega (arith, f .1); earlier = r .0; isEarlier = r .1; unlike = r .2 })
+      (λ j d. (omega arith, omega (arith, d .inside), every-fail (sameKind labels claims j) j (d .earlier) (d .isEarlier) (d .unlike)))
+      (failing-finds (agrees labels claims) (length labels) 0)
+
+  -- "The mismatch is the smallest line that disagrees in kind with some earlier line."
+  pub unlike-least : (i : ℕ) → (unlikeLine labels claims ≡ suc i) ↔ Least (Disagrees labels claims) i
+  unlike-least i = finds-exactly unlike-finds i
+
+  pub unlike-none : (unlikeLine labels claims ≡ 0) ↔ ((i : ℕ) → Disagrees labels claims i → ⊥)
+  unlike-none = finds-none unlike-finds
