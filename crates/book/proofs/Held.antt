@@ -2,9 +2,11 @@
 -- Assumes nothing.
 use mathlib.Core.Path.{_≡_, refl, sym, ap, _∙_, subst}
 use mathlib.Core.List.{List, [], _∷_, _++_}
-use mathlib.Core.Bool.{true}
+use mathlib.Core.Bool.{true, cond}
 use Prim.Native.Nat.{ℕ, suc, _≤_, _<_}
 use lib.ListN.{length}
+use lib.Dec.{eqb}
+use Rattle.basis.proofs.Saids.{refused-given}
 use Rattle.basis.specs.Refusal.{Said, gives, refuses}
 use Rattle.book.specs.Rules.{Machine, found, Joining, merged, same, openBook, joinBook, headOf}
 use Rattle.book.specs.Two.{areas, two, twoBook}
@@ -44,17 +46,21 @@ two-open ps ss n l p s =
     subst (λ (k : ℕ). Held twoBook k (openBook twoBook (areas ps ss) .area) []) e (held-open twoBook (areas ps ss) f)
 
 module _ (M : Machine) (L : Faithful M) (n : ℕ) (a : M .Area) (js : List Slip) (H : Held M n a js) where
-  pub held-kept : Kept M n (state a (gives tt) js (H .merges)) (M .view a)
+  pub held-kept : Kept M n (state a (gives tt) js (H .merges))
   held-kept =
-      subst (λ (s : State (M .Area)). Kept M n s (M .view (s .area))) (H .now)
-      (subst (λ (k : ℕ). Kept M k (run M (H .start) (Call.opening ∷ H .calls)) (M .view (run M (H .start) (Call.opening ∷ H .calls) .area))) (H .count)
-      (demand3 M L (H .start) (H .fit) (H .calls)))
+      subst (Kept M n) (H .now) (subst (λ (k : ℕ). Kept M k (run M (H .start) (Call.opening ∷ H .calls))) (H .count) (demand3 M L (H .start) (H .fit) (H .calls)))
 
   pub held-head : (v : ℕ) → v < n → headOf (M .view a) v ≡ gives (found (headAt (M .view a) v) (movesAt (M .view a) v))
   unfolding answer
   held-head v l = let e : Answer.heads (headOf (M .view a) v) ≡ Answer.heads (gives (found (headAt (M .view a) v) (movesAt (M .view a) v))) = held-kept .headed v l in cc
 
   -- a join of vertices of the book is accepted
+  held-accepted : (u v : ℕ) → u < n → v < n → joinBook M a u v .said ≡ gives (cond (eqb (headAt (M .view a) u) (headAt (M .view a) v)) same merged)
+  unfolding answer
+  held-accepted u v k l =
+      let e : Answer.joins (joinBook M a u v .said) ≡ Answer.joins (gives (cond (eqb (headAt (M .view a) u) (headAt (M .view a) v)) same merged)) = held-kept .accepted u v k l in cc
+
+  -- so it is one of the series
   pub held-join : (u v : ℕ) → u < n → v < n → Held M n (joinBook M a u v .area) (slip u v ∷ js)
   held-join u v k l =
       let m = more in
@@ -72,7 +78,7 @@ module _ (M : Machine) (L : Faithful M) (n : ℕ) (a : M .Area) (js : List Slip)
       go : (d : Said Joining) → joinBook M a u v .said ≡ d → (m : ℕ) × (afterJoin u v d b s ≡ state b (gives tt) (slip u v ∷ js) m)
       go (gives merged) e = (suc (H .merges), refl)
       go (gives same) e = (H .merges, refl)
-      go (refuses r) e = absurd (held-kept .accepted u v k l r (unfold answer in ap Answer.joins e))
+      go (refuses r) e = refused-given (sym e ∙ held-accepted u v k l)
 
       more : (m : ℕ) × (after M s (Call.joining u v) ≡ state b (gives tt) (slip u v ∷ js) m)
       more = unfold after in go (joinBook M a u v .said) refl

@@ -1,21 +1,21 @@
 -- Demand 3 of every form of book that meets the equations of `Faithful.antt`. Assumes nothing.
 use mathlib.Core.Path.{_≡_, refl, sym, ap, ap₂, _∙_}
 use mathlib.Core.List.{List, [], _∷_}
-use mathlib.Core.Bool.{true}
+use mathlib.Core.Bool.{Bool, true, false, cond}
 use mathlib.Core.Logic.{_⊎_, inl, inr, _↔_}
 use Prim.Native.Nat.{ℕ, suc, _+_, _^_, _≤_, _<_}
 use native.Mathlib.Omega.{arith}
 use native.Mathlib.Decide.{decLt}
 use lib.Dec.{eqb}
-use Rattle.basis.proofs.Saids.{refused-given}
-use Rattle.basis.specs.declared.refusal.Refusal.{Refusal}
+use borrow.Author.Tests.{eq-eqb, ne-eqb}
 use Rattle.basis.specs.Refusal.{Said, gives, refuses, plain, notThere}
 use Rattle.book.specs.Rules.{View, Machine, found, Step, Joining, merged, same, done, walkFrom, openBook, joinBook, writeBook, decide, largest}
-use Rattle.book.specs.Series.{Call, Answer, State, Linked, Kept, Demand3, after, afterJoin, answer, run, headIn, movesIn, headAt, movesAt, members}
+use Rattle.book.specs.Series.{Call, Answer, State, Linked, Kept, Demand3, after, afterJoin, answer, run, headIn, movesIn, headAt, movesAt, members, shown}
 use Rattle.book.proofs.Walks.{walk-head}
 use Rattle.book.proofs.Powers.{largest-low, largest-high, largest-most}
 use Rattle.book.proofs.Tally.{tally-same, tally-le}
 use Rattle.book.proofs.Faithful.{Faithful}
+use Rattle.book.proofs.Forest.{Whose}
 use Rattle.book.proofs.Book.{Sound, Joins, joins, sound-already, sound-merged, sound-open, join-outside, head-in, walk-is, head-answer, same-answer, size-answer, limit-answer, count-answer, linked-iff, size-group, size-pos}
 
 -- the state's book keeps the invariant
@@ -83,16 +83,26 @@ module _ (M : Machine) (n : ℕ) (s : State (M .Area)) (W : Whole M n s) where
   kept-linked : (u v : ℕ) → u < n → v < n → (headAt (M .view (s .area)) u ≡ headAt (M .view (s .area)) v) ↔ Linked (s .slips) u v
   kept-linked u v k l = rw (head-is u k, head-is v l) (linked-iff n _ _ _ W u v k l)
 
-  kept-accepted : (u v : ℕ) → u < n → v < n → (r : Refusal) → answer M s (Call.joining u v) ≡ Answer.joins (refuses r) → ⊥
+  -- a join of two vertices of the book finds one group where their heads are equal, else it merges two
+  kept-accepted : (u v : ℕ) → u < n → v < n
+      → answer M s (Call.joining u v) ≡ Answer.joins (gives (cond (eqb (headAt (shown M s) u) (headAt (shown M s) v)) same merged))
   unfolding answer joinBook writeBook
-  kept-accepted u v i l r e = go (joins n _ _ _ W u v i l)
+  kept-accepted u v k l = rw (head-is u k, head-is v l) (go (joins n _ _ _ W u v k l))
     where
-      bad : (d : Said Step) → decide (M .view (s .area)) u v ≡ d → writeBook M d (s .area) .said ≡ refuses r
-      bad d f = ap (λ x. writeBook M x (s .area) .said) (sym f) ∙ cc
+      g : ℕ → ℕ
+      g = W .forest .head
 
-      go : Joins n (M .view (s .area)) (s .slips) (s .merges) (W .forest .head) u v → ⊥
-      go (inl t) = refused-given (sym (bad _ (t .0)))
-      go (inr t) = refused-given (sym (bad _ (t .2)))
+      say : (d : Said Step) → decide (shown M s) u v ≡ d → (t : Bool) → eqb (g u) (g v) ≡ t → writeBook M d (s .area) .said ≡ gives (cond t same merged)
+          → Answer.joins (writeBook M (decide (shown M s) u v) (s .area) .said) ≡ Answer.joins (gives (cond (eqb (g u) (g v)) same merged))
+      say d e t f q = rw (e, f) (ap Answer.joins q)
+
+      apart : (t d : ℕ) → (t ≡ d → ⊥) → Whose g u v t d → g u ≡ g v → ⊥
+      apart t d a (inl p) q = a (sym (p .0) ∙ q ∙ p .1)
+      apart t d a (inr p) q = a (sym (p .1) ∙ sym q ∙ p .0)
+
+      go : Joins n (shown M s) (s .slips) (s .merges) g u v → Answer.joins (writeBook M (decide (shown M s) u v) (s .area) .said) ≡ Answer.joins (gives (cond (eqb (g u) (g v)) same merged))
+      go (inl t) = say _ (t .0) true (eq-eqb _ _ (t .1)) refl
+      go (inr t) = say _ (t .2) false (ne-eqb _ _ (apart (t .0) (t .1) (t .3 .apart) (t .4))) refl
 
   size-range : (v : ℕ) → v < n → (0 < members (M .view (s .area)) v) × (members (M .view (s .area)) v ≤ 65536)
   size-range v l = (
@@ -120,7 +130,7 @@ module _ (M : Machine) (n : ℕ) (s : State (M .Area)) (W : Whole M n s) where
       = unfold walkFrom in walk-head (M .view (s .area) .next) (M .view (s .area) .count) 16 0 (W .forest .head v) (head-in n _ _ _ W v l .1) in
       rw (head-is v l) (ap headIn e)
 
-  pub whole-kept : s .latest ≡ gives tt → Kept M n s (M .view (s .area))
+  pub whole-kept : s .latest ≡ gives tt → Kept M n s
   unfolding answer
   whole-kept ready = record {
     opened = ready;
