@@ -1,20 +1,26 @@
 -- What the labels of a sound graph mean: document 000, 2.3.3 and 01's house label. Assumes nothing.
-use Prim.Native.Nat.{ℕ, _<_}
-use mathlib.Core.Path.{_≡_, sym, ap, _∙_}
+use Prim.Native.Nat.{ℕ, _+_, _-_, _≤_, _<_}
+use mathlib.Core.Path.{_≡_, refl, sym, ap, _∙_}
 use mathlib.Core.Logic.{_↔_}
 use mathlib.Core.Bool.{true, false}
+use mathlib.Core.List.{List}
 use native.Mathlib.Omega.{arith}
-use lib.IntN.{pos}
-use lib.ListN.{length, getD}
+use lib.IntN.{ℤ, pos}
+use lib.ListN.{length, getD, List·getD-append}
+use lib.Seq.{getD-append-add}
 use lib.Signed.{ltZ}
 use borrow.Author.Tests.{eqb-true, le-ltb}
+use Rattle.basis.specs.Area.{padZ}
 use Rattle.basis.specs.Order.{sameZ}
 use Rattle.basis.specs.Scan.{mem}
 use Rattle.basis.proofs.Orders.{same-places, less-places, signed-order}
-use Rattle.basis.proofs.Areas.{column-length, column-at}
-use Rattle.graph.specs.Sound.{Graph, outward, inward, names}
-use Rattle.graph.proofs.Sounds.{Sound, outward-below, names-length, arcs-agree}
+use Rattle.basis.proofs.Areas.{column-length, column-at, pad-length, replicate-at}
+use Rattle.graph.specs.Sound.{Graph, outward, inward, names, soundGraph}
+use Rattle.graph.proofs.Sounds.{Sound, sound-of, outward-below, names-length, arcs-agree}
+use Rattle.kernels.specs.Answer.{kernelSays}
 use Rattle.wcc.specs.Component.{Linked, along, back, first, labelOf, wccOf}
+use Rattle.wcc.specs.Promise.{roomFor, leftBy, wccCall, Labelled}
+use Rattle.wcc.proofs.Calls.{first-result}
 use Rattle.wcc.proofs.Firsts.{first-below, first-linked, first-least, first-same}
 
 module _ (g : Graph) (s : Sound g) where
@@ -70,3 +76,29 @@ module _ (g : Graph) (s : Sound g) where
       ap (ltZ (getD (names g) u (pos 0))) (label-at v l)
       ∙ less-places signed-order (pos 0) (names g) (s .idsRise) u f (omega (arith, names-length g s)) (firstIn v l)
       ∙ le-ltb u f (first-least (g .vertices) (outward g) (outward-below g s) u v k l p)
+
+-- ---- the public call
+
+-- For every sound graph and areas with room, the call is answered, and the result area holds what `Labelled` says.
+pub wcc-call : (g : Graph) (R : List ℤ) (P S : List ℕ) → soundGraph g ≡ true → roomFor (g .vertices) R P S ≡ true → Labelled g (length R) (wccCall g R P S)
+unfolding wccCall leftBy kernelSays
+wcc-call g R P S t r = rw (t, r) (record {
+  answered = refl;
+  whole = pad-length (pos 0) (length R) (wccOf g) fits;
+  same = λ u v k l. rw (at u k, at v l) (labels-same g s u v k l);
+  member = λ u k. rw (at u k) (labels-member g s u k);
+  least = λ u v k l p. rw (at u k) (labels-least g s v u l k p);
+  beyond = λ v k.
+      let q : v ≡ length (wccOf g) + (v - length (wccOf g)) = omega (arith, wcc-length g s) in
+      ap (λ (i : ℕ). getD (padZ (length R) (wccOf g)) i (pos 0)) q
+      ∙ getD-append-add (wccOf g) _ (v - length (wccOf g)) (pos 0) ∙ replicate-at (pos 0) (length R - length (wccOf g)) (v - length (wccOf g));
+})
+  where
+    s : Sound g
+    s = sound-of g t
+
+    fits : length (wccOf g) ≤ length R
+    fits = omega (arith, wcc-length g s, first-result (g .vertices) R P S r R refl)
+
+    at : (v : ℕ) → v < g .vertices → getD (padZ (length R) (wccOf g)) v (pos 0) ≡ getD (wccOf g) v (pos 0)
+    at v l = List·getD-append (wccOf g) _ (pos 0) v (omega (arith, wcc-length g s))
