@@ -3,17 +3,19 @@ use mathlib.Core.Path.{_≡_}
 use mathlib.Core.List.{List, [], _∷_, List·Memᴰ}
 use mathlib.Core.Bool.{Bool, true, cond}
 use mathlib.Core.Logic.{_↔_}
-use Prim.Native.Nat.{ℕ, suc, _-_, _^_, _≤_, _<_}
-use lib.ListN.{length}
+use Prim.Native.Nat.{ℕ, suc, _+_, _-_, _^_, _≤_, _<_}
+use lib.ListN.{length, take}
 use lib.Dec.{eqb}
 use Rattle.basis.specs.Refusal.{Said, gives, refuses}
-use Rattle.book.specs.Rules.{View, Machine, Found, found, Joining, merged, same, tally, walkFrom, openBook, joinBook, headOf, sameGroup, groupSize, groupCount, stepLimit}
+use Rattle.basis.specs.Scan.{allBelow}
+use Rattle.book.specs.Rules.{View, Machine, Found, found, Joining, merged, same, Each, all, stopped, tally, walkFrom, openBook, joinBook, joinEach, headOf, sameGroup, groupSize, groupCount, stepLimit}
 use Rattle.book.specs.Two.{Areas, twoBook}
 
 -- a call of the book
 pub data Call : Type 0 where
   opening : Call
   joining : ℕ → ℕ → Call
+  joiningEach : ℕ → List ℕ → Call
   heading : ℕ → Call
   comparing : ℕ → ℕ → Call
   sizing : ℕ → Call
@@ -24,6 +26,7 @@ pub data Call : Type 0 where
 pub data Answer : Type 0 where
   opens : Said (Unit {0}) → Answer
   joins : Said Joining → Answer
+  joinsEach : Each → Answer
   heads : Said Found → Answer
   compares : Said Bool → Answer
   reads : Said ℕ → Answer
@@ -60,10 +63,30 @@ afterJoin u v (gives merged) a s = state a (s .latest) (slip u v ∷ s .slips) (
 afterJoin u v (gives same) a s = state a (s .latest) (slip u v ∷ s .slips) (s .merges)
 afterJoin u v (refuses r) a s = state a (s .latest) (s .slips) (s .merges)
 
+-- joins of u with each of a list are put on it one after the other
+unfoldable pub putEach : ℕ → List ℕ → List Slip → List Slip
+putEach u [] js = js
+putEach u (w ∷ ws) js = putEach u ws (slip u w ∷ js)
+
+-- the members of a list that were joined, by what the joins with each of them said
+abbrev pub joinedOf : List ℕ → Each → List ℕ
+joinedOf ws (all merges) = ws
+joinedOf ws (stopped joined merges r) = take joined ws
+
+-- and how many of these joins merged two groups
+abbrev pub mergesOf : Each → ℕ
+mergesOf (all merges) = merges
+mergesOf (stopped joined merges r) = merges
+
+-- of the joins of u with each of a list those accepted are put on the list, and those counted that merged
+abbrev pub afterEach : {B : Type 0} → ℕ → List ℕ → Each → B → State B → State B
+afterEach u ws e a s = state a (s .latest) (putEach u (joinedOf ws e) (s .slips)) (s .merges + mergesOf e)
+
 -- the state that a call leaves
 unfoldable pub after : (M : Machine) → State (M .Area) → Call → State (M .Area)
 after M s opening = let d = openBook M (s .area) in afterOpen (d .said) (d .area) s
 after M s (joining u v) = let d = joinBook M (s .area) u v in afterJoin u v (d .said) (d .area) s
+after M s (joiningEach u ws) = let d = joinEach M (s .area) u ws in afterEach u ws (d .said) (d .area) s
 after M s (heading v) = s
 after M s (comparing u v) = s
 after M s (sizing v) = s
@@ -79,11 +102,17 @@ run M s (c ∷ cs) = run M (after M s c) cs
 unfoldable pub answer : (M : Machine) → State (M .Area) → Call → Answer
 answer M s opening = opens (openBook M (s .area) .said)
 answer M s (joining u v) = joins (joinBook M (s .area) u v .said)
+answer M s (joiningEach u ws) = joinsEach (joinEach M (s .area) u ws .said)
 answer M s (heading v) = heads (headOf (M .view (s .area)) v)
 answer M s (comparing u v) = compares (sameGroup (M .view (s .area)) u v)
 answer M s (sizing v) = reads (groupSize (M .view (s .area)) v)
 answer M s counting = reads (groupCount (M .view (s .area)))
 answer M s (limiting v) = reads (stepLimit (M .view (s .area)) v)
+
+-- u joined with each of a list, by a call each
+unfoldable pub joinings : ℕ → List ℕ → List Call
+joinings u [] = []
+joinings u (w ∷ ws) = joining u w ∷ joinings u ws
 
 -- "a chain of joins accepted in that series links them"
 pub data Linked (js : List Slip) : ℕ → ℕ → Type 0 where
@@ -128,6 +157,9 @@ pub record Kept (M : Machine) (n : ℕ) (s : State (M .Area)) : Type 0 where
   pub count : shown M s .count ≡ n
   -- "refuses no join of its vertices": a join of two of them finds one group where their heads are equal, and merges two where they differ
   pub accepted : (u v : ℕ) → u < n → v < n → answer M s (joining u v) ≡ joins (gives (cond (eqb (headAt (shown M s) u) (headAt (shown M s) v)) same merged))
+  -- and so of joins of a vertex with each of a list: all are accepted, as many merge as when they are made by a call each, and the book is left the same
+  pub all-accepted : (u : ℕ) (ws : List ℕ) → u < n → allBelow n ws ≡ true
+      → (answer M s (joiningEach u ws) ≡ joinsEach (all (run M s (joinings u ws) .merges - s .merges))) × (after M s (joiningEach u ws) ≡ run M s (joinings u ws))
   -- "After any series of calls since its latest opening, refused ones included, two vertices have the same head exactly when a chain of joins accepted in that series links them."
   pub linked : (u v : ℕ) → u < n → v < n → (headAt (shown M s) u ≡ headAt (shown M s) v) ↔ Linked (s .slips) u v
   -- and the same-group call says so
