@@ -63,7 +63,7 @@ afterJoin u v (gives merged) a s = state a (s .latest) (slip u v ∷ s .slips) (
 afterJoin u v (gives same) a s = state a (s .latest) (slip u v ∷ s .slips) (s .merges)
 afterJoin u v (refuses r) a s = state a (s .latest) (s .slips) (s .merges)
 
--- joins of u with each of a list are put on it one after the other
+-- the joins of u with each of a list, put one after the other on the list of those accepted
 unfoldable pub putEach : ℕ → List ℕ → List Slip → List Slip
 putEach u [] js = js
 putEach u (w ∷ ws) js = putEach u ws (slip u w ∷ js)
@@ -78,7 +78,7 @@ abbrev pub mergesOf : Each → ℕ
 mergesOf (all merges) = merges
 mergesOf (stopped joined merges r) = merges
 
--- of the joins of u with each of a list those accepted are put on the list, and those counted that merged
+-- of the joins of u with each of a list those accepted are put on that list, and those counted that merged
 abbrev pub afterEach : {B : Type 0} → ℕ → List ℕ → Each → B → State B → State B
 afterEach u ws e a s = state a (s .latest) (putEach u (joinedOf ws e) (s .slips)) (s .merges + mergesOf e)
 
@@ -157,7 +157,7 @@ pub record Kept (M : Machine) (n : ℕ) (s : State (M .Area)) : Type 0 where
   pub count : shown M s .count ≡ n
   -- "refuses no join of its vertices": a join of two of them finds one group where their heads are equal, and merges two where they differ
   pub accepted : (u v : ℕ) → u < n → v < n → answer M s (joining u v) ≡ joins (gives (cond (eqb (headAt (shown M s) u) (headAt (shown M s) v)) same merged))
-  -- and so of joins of a vertex with each of a list: all are accepted, as many merge as when they are made by a call each, and the book is left the same
+  -- nor any of the joins of a vertex with each of a list: it says that all were accepted, and how many merged; they do what they do by a call each
   pub all-accepted : (u : ℕ) (ws : List ℕ) → u < n → allBelow n ws ≡ true
       → (answer M s (joiningEach u ws) ≡ joinsEach (all (run M s (joinings u ws) .merges - s .merges))) × (after M s (joiningEach u ws) ≡ run M s (joinings u ws))
   -- "After any series of calls since its latest opening, refused ones included, two vertices have the same head exactly when a chain of joins accepted in that series links them."

@@ -33,7 +33,7 @@ held-arcs n out inside a H zero l = H
 held-arcs n out inside a H (suc k) l =
     held-each twoBook faithful-two n (joinArcs out k a) (slipsOf out k) (held-arcs n out inside a H k (omega arith)) k (out k) (omega arith) (inside k (omega arith))
 
--- the joins along the arcs of each vertex are accepted, all of them: what the code does not look at says nothing else
+-- and in a book just opened the joins along the arcs of each vertex are all accepted: the answer that the code does not look at is no refusal
 pub arcs-accepted : (n : ℕ) (out : ℕ → List ℕ) → ((u : ℕ) → u < n → allBelow n (out u) ≡ true) → (a : Areas) → Held twoBook n a [] → (u : ℕ) → u < n
     → (m : ℕ) × (joinEach twoBook (joinArcs out u a) u (out u) .said ≡ all m)
 arcs-accepted n out inside a H u l = held-all twoBook faithful-two n (joinArcs out u a) (slipsOf out u) (held-arcs n out inside a H u (omega arith)) u (out u) l (inside u l)
