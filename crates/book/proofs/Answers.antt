@@ -1,17 +1,22 @@
--- Laws of the answers: what an answer says determines it, a refused call changes nothing, a vertex joined to itself merges nothing. Assumes nothing.
-use mathlib.Core.Path.{_≡_, refl, sym, ap, _∙_}
+-- Laws of the answers: what an answer says determines it, a refused call changes nothing, a vertex joined to itself merges nothing, joins with each of a list stand up to the refused one. Assumes nothing.
+use mathlib.Core.Path.{_≡_, refl, sym, ap, ap₂, _∙_}
+use mathlib.Core.List.{List, [], _∷_}
 use mathlib.Core.Bool.{Bool, true, false, cond}
-use Prim.Native.Nat.{ℕ}
+use Prim.Native.Nat.{ℕ, suc, _+_}
+use native.Mathlib.Omega.{arith}
+use lib.ListN.{take}
+use Rattle.basis.proofs.Tests.{no-case}
 use Rattle.basis.proofs.Saids.{one-of, refused-given, given-one}
 use Rattle.basis.specs.declared.refusal.Refusal.{Refusal}
 use Rattle.basis.specs.Refusal.{Said, gives, refuses, plain, noRoom, onward}
 use Rattle.book.specs.declared.Opened.{Opened}
 use Rattle.book.specs.declared.Joined.{Joined}
+use Rattle.book.specs.declared.JoinedEach.{JoinedEach}
 use Rattle.book.specs.declared.Headed.{Headed}
 use Rattle.book.specs.declared.Compared.{Compared}
 use Rattle.book.specs.declared.Reading.{Reading}
-use Rattle.book.specs.Rules.{Found, Heads, Step, already, merge, Joining, merged, same, Machine, Done, done, headsOf, linkHeads, decide, openBook, writeBook, joinBook}
-use Rattle.book.specs.Says.{saysOpened, saysJoined, saysHeaded, saysCompared, saysReading}
+use Rattle.book.specs.Rules.{Found, Heads, Step, already, merge, Joining, merged, same, Machine, Done, done, headsOf, linkHeads, decide, openBook, writeBook, joinBook, Each, all, stopped, EachDone, eachDone, counted, behind, andOn, joinEach}
+use Rattle.book.specs.Says.{saysOpened, saysJoined, saysJoinedEach, saysHeaded, saysCompared, saysReading}
 use Rattle.book.proofs.Calls.{heads-inside}
 use Rattle.book.proofs.Joins.{link-already}
 
@@ -39,6 +44,17 @@ joined-back (Joined.Refused r) = refl
 
 pub one-joined : (a b : Joined) → saysJoined a ≡ saysJoined b → a ≡ b
 one-joined = one-of saysJoined joined joined-back
+
+abbrev joinedEach : Each → JoinedEach
+joinedEach (all merges) = JoinedEach.All merges
+joinedEach (stopped joined merges r) = JoinedEach.Stopped joined merges r
+
+joinedEach-back : (a : JoinedEach) → joinedEach (saysJoinedEach a) ≡ a
+joinedEach-back (JoinedEach.All merges) = refl
+joinedEach-back (JoinedEach.Stopped joined merges r) = refl
+
+pub one-joinedEach : (a b : JoinedEach) → saysJoinedEach a ≡ saysJoinedEach b → a ≡ b
+one-joinedEach = one-of saysJoinedEach joinedEach joinedEach-back
 
 abbrev headed : Said Found → Headed
 headed (gives f) = Headed.Head (f .head) (f .moves)
@@ -108,3 +124,61 @@ module _ (M : Machine) (a : M .Area) where
           let q : p .first ≡ p .second = ap (λ (f : Found). f .head) (given-one (sym (t .2) ∙ t .3)) in
           ap (λ s. writeBook M (onward s (linkHeads (M .view a))) a .area) e ∙ ap (λ d. writeBook M d a .area) (link-already (M .view a) (p .first) (p .second) q)
       go (refuses r) e = ap (λ s. writeBook M (onward s (linkHeads (M .view a))) a .area) e
+
+-- ---- joins of one vertex with each of a list
+
+-- what a join adds to those that merged
+abbrev pub mergesBy : Joining → ℕ
+mergesBy merged = 1
+mergesBy same = 0
+
+module _ (M : Machine) (u : ℕ) where
+  module _ (a : M .Area) (w : ℕ) (ws : List ℕ) where
+    -- the first join, and those behind it
+    pub each-said : (j : Joining) → joinBook M a u w .said ≡ gives j → joinEach M a u (w ∷ ws) ≡ behind 1 (mergesBy j) (joinEach M (joinBook M a u w .area) u ws)
+    unfolding joinEach andOn
+    each-said merged e = ap (λ (d : Said Joining). andOn d (joinBook M a u w .area) (joinEach M (joinBook M a u w .area) u ws)) e
+    each-said same e = ap (λ (d : Said Joining). andOn d (joinBook M a u w .area) (joinEach M (joinBook M a u w .area) u ws)) e
+
+    pub each-stopped : (r : Refusal) → joinBook M a u w .said ≡ refuses r → joinEach M a u (w ∷ ws) ≡ eachDone (stopped 0 0 r) (joinBook M a u w .area)
+    unfolding joinEach andOn
+    each-stopped r e = ap (λ (d : Said Joining). andOn d (joinBook M a u w .area) (joinEach M (joinBook M a u w .area) u ws)) e
+
+  -- where they stop, those before the refused one stand, it changes nothing, and none behind it is made
+  pub each-stands : (a : M .Area) (ws : List ℕ) (k m : ℕ) (r : Refusal) → joinEach M a u ws .said ≡ stopped k m r
+      → joinEach M a u (take k ws) ≡ eachDone (all m) (joinEach M a u ws .area)
+  unfolding joinEach behind
+  each-stands a [] k m r e = no-case cc
+  each-stands a (w ∷ ws) k m r e = first (joinBook M a u w .said) refl (λ i n q f. each-stands b ws i n q f)
+    where
+      b : M .Area
+      b = joinBook M a u w .area
+
+      Stands : Type 0
+      Stands = joinEach M a u (take k (w ∷ ws)) ≡ eachDone (all m) (joinEach M a u (w ∷ ws) .area)
+
+      Behind : Type 0
+      Behind = (i n : ℕ) (q : Refusal) → joinEach M b u ws .said ≡ stopped i n q → joinEach M b u (take i ws) ≡ eachDone (all n) (joinEach M b u ws .area)
+
+      rest : (j : Joining) → joinBook M a u w .said ≡ gives j → Behind → (x : Each) → joinEach M b u ws .said ≡ x → Stands
+      rest j d ih (all n) f =
+          let z : all (n + mergesBy j) ≡ stopped k m r = ap (counted 1 (mergesBy j)) (sym f) ∙ sym (ap (λ (y : EachDone (M .Area)). y .said) (each-said a w ws j d)) ∙ e in
+          no-case cc
+      rest j d ih (stopped i n q) f =
+          let z : stopped (i + 1) (n + mergesBy j) q ≡ stopped k m r
+          = ap (counted 1 (mergesBy j)) (sym f) ∙ sym (ap (λ (y : EachDone (M .Area)). y .said) (each-said a w ws j d)) ∙ e in
+          let p : i + 1 ≡ k = cc in
+          let t : k ≡ suc i = omega arith in
+          let o : n + mergesBy j ≡ m = cc in
+          ap (λ (y : ℕ). joinEach M a u (take y (w ∷ ws))) t ∙ each-said a w (take i ws) j d ∙ ap (behind 1 (mergesBy j)) (ih i n q f)
+          ∙ ap₂ (λ (y : ℕ) (c : M .Area). eachDone (all y) c) o (sym (ap (λ (y : EachDone (M .Area)). y .area) (each-said a w ws j d)))
+
+      first : (d : Said Joining) → joinBook M a u w .said ≡ d → Behind → Stands
+      first (gives j) d ih = rest j d ih (joinEach M b u ws .said) refl
+      first (refuses q) d ih =
+          let s = each-stopped a w ws q d in
+          let z : stopped 0 0 q ≡ stopped k m r = sym (ap (λ (y : EachDone (M .Area)). y .said) s) ∙ e in
+          let p : k ≡ 0 = cc in
+          let o : _≡_ {A = ℕ} 0 m = cc in
+          ap (λ (y : ℕ). joinEach M a u (take y (w ∷ ws))) p
+          ∙ ap₂ (λ (y : ℕ) (c : M .Area). eachDone (all y) c) o (sym (ap (λ (y : EachDone (M .Area)). y .area) s ∙ join-unchanged M a u w q d))

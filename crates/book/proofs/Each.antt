@@ -1,23 +1,25 @@
 -- Laws of the joins of one vertex with each of a list, for each `return` of the code and for a turn of its loop. Assumes nothing.
-use mathlib.Core.Path.{_≡_, refl, sym, ap, _∙_, subst}
+use mathlib.Core.Path.{_≡_, refl, sym, ap, ap₂, _∙_, subst}
 use mathlib.Core.List.{List, [], _∷_}
-use mathlib.Core.Bool.{Bool, true, false, not}
+use mathlib.Core.Bool.{Bool, true, false, not, cond}
 use mathlib.Core.Logic.{_⊎_, inl, inr}
 use Prim.Native.Nat.{ℕ, suc, _+_, _*_, _/_, _%_, _≤_, _<_}
 use native.Mathlib.Omega.{arith}
 use native.Mathlib.Numerals.{add-one}
 use native.Mathlib.Decide.{ℕ-discrete}
 use lib.ListN.{length, getD, set, drop, drop-of-length-le}
+use lib.Dec.{eqb}
 use lib.Seq.{drop-cons, getD-set-same, getD-set-other}
 use Rattle.basis.specs.declared.refusal.Refusal.{Refusal}
-use Rattle.basis.specs.Refusal.{Said, gives, refuses, plain, noRoom, notThere, unsound, onward}
+use Rattle.basis.specs.Refusal.{Said, gives, refuses, plain, noRoom, notThere, unsound, onward, check}
 use Rattle.basis.proofs.Tests.{held}
 use Rattle.book.specs.declared.Joined.{Joined}
 use Rattle.book.specs.declared.Pair.{Pair}
-use Rattle.book.specs.Rules.{stop, to, heads, Step, already, merge, Joining, merged, same, Machine, Done, done, above, mergeable, walkFrom, headsOf, linkHeads, decide, writeBook, joinBook, joinEach}
+use Rattle.book.specs.declared.joining.Carried.{Carried}
+use Rattle.book.specs.Rules.{stop, to, heads, Step, already, merge, Joining, merged, same, Machine, Done, done, above, mergeable, mergeHeads, walkFrom, headsOf, linkHeads, decide, writeBook, joinBook, Each, all, stopped, EachDone, eachDone, counted, behind, andOn, joinEach}
 use Rattle.book.specs.Two.{Areas, areas, nextIn, fits, two, twoBook}
 use Rattle.book.specs.Says.{saysJoined}
-use Rattle.book.specs.Steps.{saysWalked, saysPair, linkTwo, Walking}
+use Rattle.book.specs.Steps.{saysWalked, saysPair, linkTwo, Walking, saysCarried, carriedOn}
 use Rattle.basis.proofs.Saids.{refused-given}
 use Rattle.book.proofs.Checks.{fits-of, fits-same, fits-within}
 use Rattle.book.proofs.Calls.{heads-unlent, heads-missing, heads-missing2, heads-below}
@@ -27,46 +29,101 @@ use Rattle.book.proofs.Carried.{carried-other, carried-under}
 use Rattle.book.proofs.Walked.{heads-late, heads-late2, heads-end}
 use Rattle.book.proofs.Joins.{merge-above, merge-below, link-already, link-unsound, link-merges, two-linked, two-first, two-second}
 
--- ---- a join whose heads are not found changes nothing
+-- ---- a join whose heads are not found is refused
 module _ (M : Machine) (a : M .Area) (u : ℕ) where
-  join-lost : (w : ℕ) (r : Refusal) → refuses r ≡ headsOf (M .view a) u w → a ≡ joinBook M a u w .area
+  join-lost : (w : ℕ) (r : Refusal) → refuses r ≡ headsOf (M .view a) u w → done (refuses r) a ≡ joinBook M a u w
   unfolding joinBook decide writeBook
-  join-lost w r e = ap (λ s. writeBook M (onward s (linkHeads (M .view a))) a .area) e
+  join-lost w r e = ap (λ s. writeBook M (onward s (linkHeads (M .view a))) a) e
 
-  -- where no join of u changes anything, all of them change nothing
-  each-lost : ((w : ℕ) → a ≡ joinBook M a u w .area) → (ws : List ℕ) → a ≡ joinEach M a u ws
-  unfolding joinEach
-  each-lost h [] = refl
-  each-lost h (w ∷ ws) = each-lost h ws ∙ ap (λ (x : M .Area). joinEach M x u ws) (h w)
+  -- where every join of u is refused, the first one of a list is
+  each-lost : (r : Refusal) → ((w : ℕ) → done (refuses r) a ≡ joinBook M a u w) → (ws : List ℕ) → (length ws ≡ 0 → ⊥) → eachDone (stopped 0 0 r) a ≡ joinEach M a u ws
+  unfolding joinEach andOn
+  each-lost r h [] e = absurd (e refl)
+  each-lost r h (w ∷ ws) e = ap (λ (d : Done Joining (M .Area)). andOn (d .said) (d .area) (joinEach M (d .area) u ws)) (h w)
 
 -- ---- the code's `join_each`
 module _ (ps ss : List ℕ) (u : ℕ) (t : Bool) (e : t ≡ fits ps ss) where
-  pub each-unlent : (ws : List ℕ) → not t ≡ true → areas ps ss ≡ joinEach twoBook (areas ps ss) u ws
-  unfolding two
-  each-unlent ws f = each-lost twoBook (areas ps ss) u (λ w. join-lost twoBook (areas ps ss) u w (plain noRoom) (heads-unlent (two ps ss) u w t e _ f refl)) ws
+  module _ (ws : List ℕ) (k : length ws ≡ 0 → ⊥) (x : Refusal) where
+    pub each-unlent : not t ≡ true → x ≡ plain noRoom → eachDone (stopped 0 0 x) (areas ps ss) ≡ joinEach twoBook (areas ps ss) u ws
+    unfolding two
+    each-unlent f p = each-lost twoBook (areas ps ss) u x (λ w. join-lost twoBook (areas ps ss) u w x (heads-unlent (two ps ss) u w t e x f p)) ws k
 
-  pub each-missing : (ws : List ℕ) → not t ≡ false → length ps ≤ u → areas ps ss ≡ joinEach twoBook (areas ps ss) u ws
-  unfolding two
-  each-missing ws f l = each-lost twoBook (areas ps ss) u (λ w. join-lost twoBook (areas ps ss) u w (plain notThere) (heads-missing (two ps ss) u w t e _ f l refl)) ws
+    pub each-missing : not t ≡ false → length ps ≤ u → x ≡ plain notThere → eachDone (stopped 0 0 x) (areas ps ss) ≡ joinEach twoBook (areas ps ss) u ws
+    unfolding two
+    each-missing f l p = each-lost twoBook (areas ps ss) u x (λ w. join-lost twoBook (areas ps ss) u w x (heads-missing (two ps ss) u w t e x f l p)) ws k
 
   pub walking-start : (at : ℕ) → not t ≡ false → u < length ps → saysWalked at ≡ walkFrom (nextIn ps) (length ps) u → Walking ps ss u at
   walking-start at f l p = record { lent = held t _ e f; inside = l; walk = p }
 
-pub each-none : (a : Areas) (u : ℕ) (ws : List ℕ) → length ws ≡ 0 → a ≡ joinEach twoBook a u ws
+pub each-none : (a : Areas) (u : ℕ) (ws : List ℕ) → length ws ≡ 0 → eachDone (all 0) a ≡ joinEach twoBook a u ws
 unfolding joinEach
 each-none a u [] e = refl
 each-none a u (w ∷ ws) e = absurd (omega arith)
 
--- what is left of the list after a turn, and after the last
-module _ (a b : Areas) (u : ℕ) (ws : List ℕ) (i : ℕ) where
-  pub each-more : (c : Areas) → i < length ws → c ≡ joinBook twoBook b u (getD ws i 0) .area → joinEach twoBook b u (drop i ws) ≡ a → joinEach twoBook c u (drop (i + 1) ws) ≡ a
-  unfolding joinEach
-  each-more c l e f =
-      rw add-one (ap (λ (x : Areas). joinEach twoBook x u (drop (suc i) ws)) e ∙ ap (joinEach twoBook b u) (sym (drop-cons ws i 0 l)) ∙ f)
+-- series behind series
+pub behind-none : {B : Type 0} (e : EachDone B) → behind 0 0 e ≡ e
+unfolding behind
+behind-none e = ap (λ (x : Each). eachDone x (e .area)) (go (e .said))
+  where
+    go : (x : Each) → counted 0 0 x ≡ x
+    go (all m) = let p : m + 0 ≡ m = omega arith in ap all p
+    go (stopped k m r) =
+        let p : m + 0 ≡ m = omega arith in
+        let q : k + 0 ≡ k = omega arith in
+        ap₂ (λ x y. stopped x y r) q p
 
-  pub each-end : length ws ≤ i → joinEach twoBook b u (drop i ws) ≡ a → b ≡ a
-  unfolding joinEach
-  each-end l e = ap (joinEach twoBook b u) (sym (drop-of-length-le ws l)) ∙ e
+behind-more : (k m j l : ℕ) (e : EachDone Areas) → behind k m (behind j l e) ≡ behind (k + j) (m + l) e
+unfolding behind
+behind-more k m j l e = ap (λ (x : Each). eachDone x (e .area)) (go (e .said))
+  where
+    go : (x : Each) → counted k m (counted j l x) ≡ counted (k + j) (m + l) x
+    go (all n) = let p : n + l + m ≡ n + (m + l) = omega arith in ap all p
+    go (stopped i n r) =
+        let p : n + l + m ≡ n + (m + l) = omega arith in
+        let q : i + j + k ≡ i + (k + j) = omega arith in
+        ap₂ (λ x y. stopped x y r) q p
+
+-- a turn of the loop, where i members were joined and m of the joins merged, and its end
+module _ (a : EachDone Areas) (b : Areas) (u : ℕ) (ws : List ℕ) (i m : ℕ) (f : behind i m (joinEach twoBook b u (drop i ws)) ≡ a) where
+  pub each-end : length ws ≤ i → eachDone (all m) b ≡ a
+  unfolding joinEach behind
+  each-end l =
+      let p : m ≡ 0 + m = omega arith in
+      ap (λ (k : ℕ). eachDone (all k) b) p ∙ ap (λ (x : List ℕ). behind i m (joinEach twoBook b u x)) (sym (drop-of-length-le ws l)) ∙ f
+
+  module _ (l : i < length ws) (c : Areas) (r : Carried) (e : done (saysCarried r) c ≡ joinBook twoBook b u (getD ws i 0)) where
+    turned : (s : Said Joining) → saysCarried r ≡ s → behind i m (andOn s c (joinEach twoBook c u (drop (i + 1) ws))) ≡ a
+    unfolding joinEach
+    turned s q =
+        rw add-one (ap (λ (x : Said Joining). behind i m (andOn x c (joinEach twoBook c u (drop (suc i) ws)))) (sym q)
+        ∙ ap (λ (d : Done Joining Areas). behind i m (andOn (d .said) (d .area) (joinEach twoBook (d .area) u (drop (suc i) ws)))) e
+        ∙ ap (λ (x : List ℕ). behind i m (joinEach twoBook b u x)) (sym (drop-cons ws i 0 l)) ∙ f)
+
+    pub each-merged : (on : ℕ) → r ≡ Carried.Merged on → behind (i + 1) (m + 1) (joinEach twoBook c u (drop (i + 1) ws)) ≡ a
+    unfolding andOn
+    each-merged on q = sym (behind-more i m 1 1 _) ∙ turned (gives merged) (ap saysCarried q)
+
+    pub each-already : r ≡ Carried.Already → behind (i + 1) m (joinEach twoBook c u (drop (i + 1) ws)) ≡ a
+    unfolding andOn
+    each-already q =
+        let z : m ≡ m + 0 = omega arith in
+        ap (λ (k : ℕ). behind (i + 1) k (joinEach twoBook c u (drop (i + 1) ws))) z ∙ sym (behind-more i m 1 0 _) ∙ turned (gives same) (ap saysCarried q)
+
+    pub each-refused : (number : ℕ) (x : Refusal) → r ≡ Carried.Refused number → x ≡ plain number → eachDone (stopped i m x) c ≡ a
+    unfolding andOn behind
+    each-refused number x q p =
+        let k : i ≡ 0 + i = omega arith in
+        let n : m ≡ 0 + m = omega arith in
+        ap₂ (λ (y z : ℕ). eachDone (stopped y z x) c) k n ∙ ap (λ (y : Refusal). eachDone (stopped (0 + i) (0 + m) y) c) p
+        ∙ turned (refuses (plain number)) (ap saysCarried q)
+
+-- the walk that is carried on
+module _ (ps ss : List ℕ) (u at : ℕ) (r : Carried) (x : Walking ps ss u (carriedOn at r)) where
+  pub walking-on : (on : ℕ) → r ≡ Carried.Merged on → Walking ps ss u on
+  walking-on on q = subst (λ (y : Carried). Walking ps ss u (carriedOn at y)) q x
+
+  pub walking-stays : r ≡ Carried.Already → Walking ps ss u at
+  walking-stays q = subst (λ (y : Carried). Walking ps ss u (carriedOn at y)) q x
 
 -- ---- a link that merges two heads: one goes under the other
 abbrev Hung : List ℕ → ℕ → ℕ → List ℕ → Type 0
@@ -104,6 +161,25 @@ module _ (ps ss : List ℕ) (g h : ℕ) (ps₁ ss₁ : List ℕ) (e : done (give
       same? : Dec (g ≡ h) → (g ≡ h → ⊥) × Hung ps g h ps₁
       same? (yes q) = let z : _≡_ {A = Said Joining} (gives merged) (gives same) = ap said-of (written _ (link-already (two ps ss) g h q)) in absurd (let y : _≡_ {A = ℕ} 0 1 = cc in omega arith)
       same? (no d) = may? d (mergeable (two ps ss .count) a b) refl
+
+-- a link is refused for a damaged size alone
+size-refusal : (t k : Bool) (x z : Step) (y : Refusal) → cond t (gives x) (check k unsound (gives z)) ≡ refuses y → y ≡ plain unsound
+size-refusal true k x z y e = refused-given (sym e)
+size-refusal false true x z y e = refused-given (sym e)
+size-refusal false false x z y e = cc
+
+link-refusal : (ps ss : List ℕ) (g h : ℕ) (c : Areas) (y : Refusal) → done (refuses y) c ≡ linkTwo ps ss g h → y ≡ plain unsound
+unfolding linkTwo writeBook linkHeads
+link-refusal ps ss g h c y e =
+    let a = two ps ss .size g in
+    let b = two ps ss .size h in
+    size-refusal (eqb g h) (mergeable (two ps ss .count) a b) already (mergeHeads a b g h) y
+    (go (linkHeads (two ps ss) (heads g h)) (sym (ap (λ (d : Done Joining Areas). d .said) e)))
+  where
+    go : (d : Said Step) → writeBook twoBook d (areas ps ss) .said ≡ refuses y → d ≡ refuses y
+    go (gives already) q = refused-given (sym q)
+    go (gives (merge top under total)) q = refused-given (sym q)
+    go (refuses r) q = cc
 
 -- a head is its own parent
 head-is : (ps : List ℕ) (v : ℕ) → nextIn ps v ≡ stop → getD ps v 0 ≡ v
@@ -143,17 +219,17 @@ module _ (ps ss : List ℕ) (u at : ℕ) (x : Walking ps ss u at) where
       walking-refused y f = walking-kept (saysJoined r) _ e (λ q. refused-given (sym (ap saysJoined f) ∙ q))
 
   module _ (w : ℕ) where
-    pub next-missing : length ps ≤ w → areas ps ss ≡ joinBook twoBook (areas ps ss) u w .area
+    pub next-missing : length ps ≤ w → done (refuses (plain notThere)) (areas ps ss) ≡ joinBook twoBook (areas ps ss) u w
     unfolding two
     next-missing l = join-lost twoBook (areas ps ss) u w (plain notThere) (heads-missing2 (two ps ss) u w true (sym (x .lent)) _ refl (x .inside) l refl)
 
     module _ (l : w < length ps) where
-      pub next-late : 16 < at / 65536 → areas ps ss ≡ joinBook twoBook (areas ps ss) u w .area
+      pub next-late : 16 < at / 65536 → done (refuses (plain unsound)) (areas ps ss) ≡ joinBook twoBook (areas ps ss) u w
       unfolding two
       next-late m = join-lost twoBook (areas ps ss) u w (plain unsound) (heads-late (two ps ss) true (sym (x .lent)) refl u w (x .inside) l at (x .walk) _ m refl)
 
       module _ (m : at / 65536 ≤ 16) (to : ℕ) (q : saysWalked to ≡ walkFrom (nextIn ps) (length ps) w) where
-        pub next-late2 : 16 < to / 65536 → areas ps ss ≡ joinBook twoBook (areas ps ss) u w .area
+        pub next-late2 : 16 < to / 65536 → done (refuses (plain unsound)) (areas ps ss) ≡ joinBook twoBook (areas ps ss) u w
         unfolding two
         next-late2 n =
             join-lost twoBook (areas ps ss) u w (plain unsound) (heads-late2 (two ps ss) true (sym (x .lent)) refl u w (x .inside) l at (x .walk) m to q _ n refl)
@@ -172,9 +248,24 @@ module _ (ps ss : List ℕ) (u at : ℕ) (x : Walking ps ss u at) where
           pub next-second : to % 65536 < length ps
           next-second = two-second ps ss u w _ both _ _ refl
 
-          pub next-linked : (s : Said Joining) (ps₁ ss₁ : List ℕ) → done s (areas ps₁ ss₁) ≡ linkTwo ps ss (at % 65536) (to % 65536)
-              → areas ps₁ ss₁ ≡ joinBook twoBook (areas ps ss) u w .area
-          next-linked s ps₁ ss₁ e = ap (λ (b : Done Joining Areas). b .area) (two-linked ps ss u w _ both _ _ refl (done s (areas ps₁ ss₁)) e)
+          -- what the link says is what the join says
+          module _ (ps₁ ss₁ : List ℕ) (r : Joined) (e : done (saysJoined r) (areas ps₁ ss₁) ≡ linkTwo ps ss (at % 65536) (to % 65536)) where
+            said : (s : Joined) → r ≡ s → done (saysJoined s) (areas ps₁ ss₁) ≡ linkTwo ps ss (at % 65536) (to % 65536)
+            said s f = ap (λ (y : Joined). done (saysJoined y) (areas ps₁ ss₁)) (sym f) ∙ e
+
+            linked : (s : Joined) → r ≡ s → done (saysJoined s) (areas ps₁ ss₁) ≡ joinBook twoBook (areas ps ss) u w
+            linked s f = two-linked ps ss u w _ both _ _ refl _ (said s f)
+
+            pub next-merged : r ≡ Joined.Merged → done (gives merged) (areas ps₁ ss₁) ≡ joinBook twoBook (areas ps ss) u w
+            next-merged = linked Joined.Merged
+
+            pub next-already : r ≡ Joined.Already → done (gives same) (areas ps₁ ss₁) ≡ joinBook twoBook (areas ps ss) u w
+            next-already = linked Joined.Already
+
+            pub next-refused : (y : Refusal) → r ≡ Joined.Refused y → done (refuses (plain unsound)) (areas ps₁ ss₁) ≡ joinBook twoBook (areas ps ss) u w
+            next-refused y f =
+                ap (λ (z : Refusal). done (refuses z) (areas ps₁ ss₁)) (sym (link-refusal ps ss (at % 65536) (to % 65536) (areas ps₁ ss₁) y (said (Joined.Refused y) f)))
+                ∙ linked (Joined.Refused y) f
 
           -- where they merge, u's head stays or goes under the other
           module _ (ps₁ ss₁ : List ℕ) (i : length ps₁ ≡ length ps) (j : length ss₁ ≡ length ss) (r : Joined) (f : r ≡ Joined.Merged)

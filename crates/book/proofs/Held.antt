@@ -3,12 +3,13 @@
 use mathlib.Core.Path.{_≡_, refl, sym, ap, _∙_, subst}
 use mathlib.Core.List.{List, [], _∷_, _++_}
 use mathlib.Core.Bool.{true}
-use Prim.Native.Nat.{ℕ, suc, _≤_, _<_}
+use Prim.Native.Nat.{ℕ, _+_, _-_, _≤_, _<_}
 use lib.ListN.{length}
-use Rattle.basis.specs.Refusal.{Said, gives, refuses}
-use Rattle.book.specs.Rules.{Machine, found, Joining, merged, same, openBook, joinBook, headOf}
+use Rattle.basis.specs.Refusal.{gives}
+use Rattle.basis.specs.Scan.{allBelow}
+use Rattle.book.specs.Rules.{Machine, found, Each, all, openBook, joinEach, headOf}
 use Rattle.book.specs.Two.{areas, two, twoBook}
-use Rattle.book.specs.Series.{Call, Answer, Slip, slip, State, state, Kept, after, afterJoin, answer, run, headAt, movesAt}
+use Rattle.book.specs.Series.{Call, Answer, Slip, State, state, Kept, putEach, after, afterEach, joinings, answer, run, headAt, movesAt}
 use Rattle.book.proofs.Checks.{fits-of}
 use Rattle.book.proofs.Faithful.{Faithful}
 use Rattle.book.proofs.Series.{open-is, demand3}
@@ -44,35 +45,39 @@ two-open ps ss n l p s =
     subst (λ (k : ℕ). Held twoBook k (openBook twoBook (areas ps ss) .area) []) e (held-open twoBook (areas ps ss) f)
 
 module _ (M : Machine) (L : Faithful M) (n : ℕ) (a : M .Area) (js : List Slip) (H : Held M n a js) where
-  pub held-kept : Kept M n (state a (gives tt) js (H .merges)) (M .view a)
+  pub held-kept : Kept M n (state a (gives tt) js (H .merges))
   held-kept =
-      subst (λ (s : State (M .Area)). Kept M n s (M .view (s .area))) (H .now)
-      (subst (λ (k : ℕ). Kept M k (run M (H .start) (Call.opening ∷ H .calls)) (M .view (run M (H .start) (Call.opening ∷ H .calls) .area))) (H .count)
-      (demand3 M L (H .start) (H .fit) (H .calls)))
+      subst (Kept M n) (H .now) (subst (λ (k : ℕ). Kept M k (run M (H .start) (Call.opening ∷ H .calls))) (H .count) (demand3 M L (H .start) (H .fit) (H .calls)))
 
   pub held-head : (v : ℕ) → v < n → headOf (M .view a) v ≡ gives (found (headAt (M .view a) v) (movesAt (M .view a) v))
   unfolding answer
   held-head v l = let e : Answer.heads (headOf (M .view a) v) ≡ Answer.heads (gives (found (headAt (M .view a) v) (movesAt (M .view a) v))) = held-kept .headed v l in cc
 
-  -- a join of vertices of the book is accepted
-  pub held-join : (u v : ℕ) → u < n → v < n → Held M n (joinBook M a u v .area) (slip u v ∷ js)
-  held-join u v k l =
-      let m = more in
-      record { start = H .start; fit = H .fit; count = H .count; calls = H .calls ++ (Call.joining u v ∷ []); merges = m .0; now = before ∙ m .1 }
+  -- joins of a vertex of the book with others are accepted
+  pub held-all : (u : ℕ) (ws : List ℕ) → u < n → allBelow n ws ≡ true → (m : ℕ) × (joinEach M a u ws .said ≡ all m)
+  unfolding answer
+  held-all u ws k b =
+      let s = state a (gives tt) js (H .merges) in
+      let m = run M s (joinings u ws) .merges - H .merges in
+      let e : Answer.joinsEach (joinEach M a u ws .said) ≡ Answer.joinsEach (all m) = held-kept .all-accepted u ws k b .0 in
+      (m, cc)
+
+  -- so they are of the series
+  pub held-each : (u : ℕ) (ws : List ℕ) → u < n → allBelow n ws ≡ true → Held M n (joinEach M a u ws .area) (putEach u ws js)
+  held-each u ws k b = record {
+    start = H .start;
+    fit = H .fit;
+    count = H .count;
+    calls = H .calls ++ (c ∷ []);
+    merges = H .merges + t .0;
+    now = run-snoc M (H .start) (Call.opening ∷ H .calls) c ∙ ap (λ (s : State (M .Area)). after M s c) (H .now) ∙ last;
+  }
     where
-      b : M .Area
-      b = joinBook M a u v .area
+      c : Call
+      c = Call.joiningEach u ws
 
-      s : State (M .Area)
-      s = state a (gives tt) js (H .merges)
+      t : (m : ℕ) × (joinEach M a u ws .said ≡ all m)
+      t = held-all u ws k b
 
-      before : run M (H .start) (Call.opening ∷ (H .calls ++ (Call.joining u v ∷ []))) ≡ after M s (Call.joining u v)
-      before = run-snoc M (H .start) (Call.opening ∷ H .calls) (Call.joining u v) ∙ ap (λ (s : State (M .Area)). after M s (Call.joining u v)) (H .now)
-
-      go : (d : Said Joining) → joinBook M a u v .said ≡ d → (m : ℕ) × (afterJoin u v d b s ≡ state b (gives tt) (slip u v ∷ js) m)
-      go (gives merged) e = (suc (H .merges), refl)
-      go (gives same) e = (H .merges, refl)
-      go (refuses r) e = absurd (held-kept .accepted u v k l r (unfold answer in ap Answer.joins e))
-
-      more : (m : ℕ) × (after M s (Call.joining u v) ≡ state b (gives tt) (slip u v ∷ js) m)
-      more = unfold after in go (joinBook M a u v .said) refl
+      last : after M (state a (gives tt) js (H .merges)) c ≡ state (joinEach M a u ws .area) (gives tt) (putEach u ws js) (H .merges + t .0)
+      last = unfold after in ap (λ (x : Each). afterEach u ws x (joinEach M a u ws .area) (state a (gives tt) js (H .merges))) (t .1)

@@ -3,6 +3,7 @@ use mathlib.Core.Bool.{Bool, true, false, cond, _&&_}
 use mathlib.Core.List.{List, [], _∷_}
 use Prim.Native.Nat.{ℕ, zero, suc, _+_, _^_}
 use lib.Dec.{leb, ltb, eqb}
+use Rattle.basis.specs.declared.refusal.Refusal.{Refusal}
 use Rattle.basis.specs.Refusal.{Said, gives, refuses, plain, noRoom, unsound, notThere, onward, check}
 
 -- "A head is its own parent": a walk stops at a head, and goes from any other vertex to its parent
@@ -181,7 +182,39 @@ writeBook M (refuses r) a = done (refuses r) a
 unfoldable pub joinBook : (M : Machine) → M .Area → ℕ → ℕ → Done Joining (M .Area)
 joinBook M a u v = writeBook M (decide (M .view a) u v) a
 
--- "WCC stands on this book": the areas after u was joined with each vertex of a list, one after the other; "Refused book calls change nothing"
-unfoldable pub joinEach : (M : Machine) → M .Area → ℕ → List ℕ → M .Area
-joinEach M a u [] = a
-joinEach M a u (w ∷ ws) = joinEach M (joinBook M a u w .area) u ws
+-- ---- joining one vertex with each of a list
+
+-- what such a series of joins says: all were accepted, and how many merged two groups; or how many were accepted before the first that was refused,
+-- how many of those merged two groups, and its refusal
+pub data Each : Type 0 where
+  all : ℕ → Each
+  stopped : ℕ → ℕ → Refusal → Each
+
+-- what it says, and the areas as it leaves them
+pub record EachDone (B : Type 0) : Type 0 where
+  pub said : Each
+  pub area : B
+
+-- the same, by its fields in order
+abbrev pub eachDone : {B : Type 0} → Each → B → EachDone B
+eachDone e a = record { said = e; area = a }
+
+-- the numbers of a series that stands behind k accepted joins, m of which merged two groups
+abbrev pub counted : ℕ → ℕ → Each → Each
+counted k m (all merges) = all (merges + m)
+counted k m (stopped joined merges r) = stopped (joined + k) (merges + m) r
+
+-- such a series behind them
+unfoldable pub behind : {B : Type 0} → ℕ → ℕ → EachDone B → EachDone B
+behind k m e = eachDone (counted k m (e .said)) (e .area)
+
+-- a join that left the area a, and the series behind it: "Refused book calls change nothing", and nothing is joined behind a refused join
+unfoldable pub andOn : {B : Type 0} → Said Joining → B → EachDone B → EachDone B
+andOn (gives merged) a e = behind 1 1 e
+andOn (gives same) a e = behind 1 0 e
+andOn (refuses r) a e = eachDone (stopped 0 0 r) a
+
+-- "WCC stands on this book": u joined with each vertex of a list, one after the other, up to the first join that is refused
+unfoldable pub joinEach : (M : Machine) → M .Area → ℕ → List ℕ → EachDone (M .Area)
+joinEach M a u [] = eachDone (all 0) a
+joinEach M a u (w ∷ ws) = let d = joinBook M a u w in andOn (d .said) (d .area) (joinEach M (d .area) u ws)

@@ -2,9 +2,10 @@
 use mathlib.Core.Bool.{Bool, true, false}
 use Prim.Native.Nat.{ℕ}
 use Rattle.basis.specs.Refusal.{Said, gives, refuses}
-use Rattle.book.specs.Rules.{Found, found, Joining, merged, same}
+use Rattle.book.specs.Rules.{Found, found, Joining, merged, same, Each, all, stopped}
 use Rattle.book.specs.declared.Opened.{Opened}
 use Rattle.book.specs.declared.Joined.{Joined}
+use Rattle.book.specs.declared.JoinedEach.{JoinedEach}
 use Rattle.book.specs.declared.Headed.{Headed}
 use Rattle.book.specs.declared.Compared.{Compared}
 use Rattle.book.specs.declared.Reading.{Reading}
@@ -19,6 +20,11 @@ abbrev pub saysJoined : Joined → Said Joining
 saysJoined Joined.Merged = gives merged
 saysJoined Joined.Already = gives same
 saysJoined (Joined.Refused r) = refuses r
+
+-- all joins of a series were accepted, or it stopped at one that was refused
+abbrev pub saysJoinedEach : JoinedEach → Each
+saysJoinedEach (JoinedEach.All merges) = all merges
+saysJoinedEach (JoinedEach.Stopped joined merges r) = stopped joined merges r
 
 -- the head and the moves
 abbrev pub saysHeaded : Headed → Said Found

@@ -1,20 +1,21 @@
 -- A series of calls on one book, and demand 3: what holds after every series.
 use mathlib.Core.Path.{_≡_}
 use mathlib.Core.List.{List, [], _∷_, List·Memᴰ}
-use mathlib.Core.Bool.{Bool, true}
+use mathlib.Core.Bool.{Bool, true, cond}
 use mathlib.Core.Logic.{_↔_}
-use Prim.Native.Nat.{ℕ, suc, _-_, _^_, _≤_, _<_}
-use lib.ListN.{length}
+use Prim.Native.Nat.{ℕ, suc, _+_, _-_, _^_, _≤_, _<_}
+use lib.ListN.{length, take}
 use lib.Dec.{eqb}
-use Rattle.basis.specs.declared.refusal.Refusal.{Refusal}
 use Rattle.basis.specs.Refusal.{Said, gives, refuses}
-use Rattle.book.specs.Rules.{View, Machine, Found, found, Joining, merged, same, tally, walkFrom, openBook, joinBook, headOf, sameGroup, groupSize, groupCount, stepLimit}
+use Rattle.basis.specs.Scan.{allBelow}
+use Rattle.book.specs.Rules.{View, Machine, Found, found, Joining, merged, same, Each, all, stopped, tally, walkFrom, openBook, joinBook, joinEach, headOf, sameGroup, groupSize, groupCount, stepLimit}
 use Rattle.book.specs.Two.{Areas, twoBook}
 
 -- a call of the book
 pub data Call : Type 0 where
   opening : Call
   joining : ℕ → ℕ → Call
+  joiningEach : ℕ → List ℕ → Call
   heading : ℕ → Call
   comparing : ℕ → ℕ → Call
   sizing : ℕ → Call
@@ -25,6 +26,7 @@ pub data Call : Type 0 where
 pub data Answer : Type 0 where
   opens : Said (Unit {0}) → Answer
   joins : Said Joining → Answer
+  joinsEach : Each → Answer
   heads : Said Found → Answer
   compares : Said Bool → Answer
   reads : Said ℕ → Answer
@@ -61,10 +63,30 @@ afterJoin u v (gives merged) a s = state a (s .latest) (slip u v ∷ s .slips) (
 afterJoin u v (gives same) a s = state a (s .latest) (slip u v ∷ s .slips) (s .merges)
 afterJoin u v (refuses r) a s = state a (s .latest) (s .slips) (s .merges)
 
+-- the joins of u with each of a list, put one after the other on the list of those accepted
+unfoldable pub putEach : ℕ → List ℕ → List Slip → List Slip
+putEach u [] js = js
+putEach u (w ∷ ws) js = putEach u ws (slip u w ∷ js)
+
+-- the members of a list that were joined, by what the joins with each of them said
+abbrev pub joinedOf : List ℕ → Each → List ℕ
+joinedOf ws (all merges) = ws
+joinedOf ws (stopped joined merges r) = take joined ws
+
+-- and how many of these joins merged two groups
+abbrev pub mergesOf : Each → ℕ
+mergesOf (all merges) = merges
+mergesOf (stopped joined merges r) = merges
+
+-- of the joins of u with each of a list those accepted are put on that list, and those counted that merged
+abbrev pub afterEach : {B : Type 0} → ℕ → List ℕ → Each → B → State B → State B
+afterEach u ws e a s = state a (s .latest) (putEach u (joinedOf ws e) (s .slips)) (s .merges + mergesOf e)
+
 -- the state that a call leaves
 unfoldable pub after : (M : Machine) → State (M .Area) → Call → State (M .Area)
 after M s opening = let d = openBook M (s .area) in afterOpen (d .said) (d .area) s
 after M s (joining u v) = let d = joinBook M (s .area) u v in afterJoin u v (d .said) (d .area) s
+after M s (joiningEach u ws) = let d = joinEach M (s .area) u ws in afterEach u ws (d .said) (d .area) s
 after M s (heading v) = s
 after M s (comparing u v) = s
 after M s (sizing v) = s
@@ -80,13 +102,19 @@ run M s (c ∷ cs) = run M (after M s c) cs
 unfoldable pub answer : (M : Machine) → State (M .Area) → Call → Answer
 answer M s opening = opens (openBook M (s .area) .said)
 answer M s (joining u v) = joins (joinBook M (s .area) u v .said)
+answer M s (joiningEach u ws) = joinsEach (joinEach M (s .area) u ws .said)
 answer M s (heading v) = heads (headOf (M .view (s .area)) v)
 answer M s (comparing u v) = compares (sameGroup (M .view (s .area)) u v)
 answer M s (sizing v) = reads (groupSize (M .view (s .area)) v)
 answer M s counting = reads (groupCount (M .view (s .area)))
 answer M s (limiting v) = reads (stepLimit (M .view (s .area)) v)
 
--- "a chain of accepted joins links them"
+-- u joined with each of a list, by a call each
+unfoldable pub joinings : ℕ → List ℕ → List Call
+joinings u [] = []
+joinings u (w ∷ ws) = joining u w ∷ joinings u ws
+
+-- "a chain of joins accepted in that series links them"
 pub data Linked (js : List Slip) : ℕ → ℕ → Type 0 where
   itself : (v : ℕ) → Linked js v v
   by : (u v : ℕ) → List·Memᴰ (slip u v) js → Linked js u v
@@ -115,39 +143,47 @@ movesAt w v = movesIn (walkFrom (w .next) (w .count) v)
 abbrev pub members : View → ℕ → ℕ
 members w v = tally (λ x. eqb (headAt w x) (headAt w v)) (w .count)
 
--- What holds of a book of n vertices in state s, whose areas show w; the words are those of demand 3.
-pub record Kept (M : Machine) (n : ℕ) (s : State (M .Area)) (w : View) : Type 0 where
-  -- "A group book of up to 65,536 vertices opens": the latest opening was accepted
+-- what a state's areas show
+abbrev pub shown : (M : Machine) → State (M .Area) → View
+shown M s = M .view (s .area)
+
+-- What holds of a book of n vertices in state s, sentence by sentence of demand 3:
+-- "Take a group book of up to 65,536 vertices, lent whole to each of its own calls and written only by them."
+pub record Kept (M : Machine) (n : ℕ) (s : State (M .Area)) : Type 0 where
+  -- "It opens, and from then on refuses no join of its vertices.": the latest opening was accepted
   pub opened : s .latest ≡ gives tt
   -- it is well lent still, and its vertices are those opened
-  pub fit : w .fit ≡ true
-  pub count : w .count ≡ n
-  -- "and from then on refuses no join of its vertices"
-  pub accepted : (u v : ℕ) → u < n → v < n → (r : Refusal) → answer M s (joining u v) ≡ joins (refuses r) → ⊥
-  -- "two vertices have the same head exactly when a chain of accepted joins links them"
-  pub linked : (u v : ℕ) → u < n → v < n → (headAt w u ≡ headAt w v) ↔ Linked (s .slips) u v
+  pub fit : shown M s .fit ≡ true
+  pub count : shown M s .count ≡ n
+  -- "refuses no join of its vertices": a join of two of them finds one group where their heads are equal, and merges two where they differ
+  pub accepted : (u v : ℕ) → u < n → v < n → answer M s (joining u v) ≡ joins (gives (cond (eqb (headAt (shown M s) u) (headAt (shown M s) v)) same merged))
+  -- nor any of the joins of a vertex with each of a list: it says that all were accepted, and how many merged; they do what they do by a call each
+  pub all-accepted : (u : ℕ) (ws : List ℕ) → u < n → allBelow n ws ≡ true
+      → (answer M s (joiningEach u ws) ≡ joinsEach (all (run M s (joinings u ws) .merges - s .merges))) × (after M s (joiningEach u ws) ≡ run M s (joinings u ws))
+  -- "After any series of calls since its latest opening, refused ones included, two vertices have the same head exactly when a chain of joins accepted in that series links them."
+  pub linked : (u v : ℕ) → u < n → v < n → (headAt (shown M s) u ≡ headAt (shown M s) v) ↔ Linked (s .slips) u v
   -- and the same-group call says so
-  pub compared : (u v : ℕ) → u < n → v < n → answer M s (comparing u v) ≡ compares (gives (eqb (headAt w u) (headAt w v)))
-  -- the head call gives that head, with the moves of the walk to it
-  pub headed : (v : ℕ) → v < n → answer M s (heading v) ≡ heads (gives (found (headAt w v) (movesAt w v)))
+  pub compared : (u v : ℕ) → u < n → v < n → answer M s (comparing u v) ≡ compares (gives (eqb (headAt (shown M s) u) (headAt (shown M s) v)))
+  -- "the same head": the head call gives it, with the moves of the walk to it
+  pub headed : (v : ℕ) → v < n → answer M s (heading v) ≡ heads (gives (found (headAt (shown M s) v) (movesAt (shown M s) v)))
   -- a head is a vertex of the book, and its own head
-  pub inside : (v : ℕ) → v < n → headAt w v < n
-  pub settled : (v : ℕ) → v < n → headAt w (headAt w v) ≡ headAt w v
-  -- the size call gives the number of vertices with that head
-  pub sized : (v : ℕ) → v < n → answer M s (sizing v) ≡ reads (gives (members w v))
-  -- "a walk to the head takes at most k steps, k the largest with 2^k at most the group's size": k is what the step limit call gives
+  pub inside : (v : ℕ) → v < n → headAt (shown M s) v < n
+  pub settled : (v : ℕ) → v < n → headAt (shown M s) (headAt (shown M s) v) ≡ headAt (shown M s) v
+  -- "the group's size": the size call gives the number of vertices with that head
+  pub sized : (v : ℕ) → v < n → answer M s (sizing v) ≡ reads (gives (members (shown M s) v))
+  -- "The walk from a vertex to its head takes at most k steps, where k is the largest whole number with 2 to the k no more than the group's size.":
+  -- k is what the step limit call gives
   pub limited : (v : ℕ) → v < n
-      → (k : ℕ) × (answer M s (limiting v) ≡ reads (gives k)) × (2 ^ k ≤ members w v) × (members w v < 2 ^ suc k) × (movesAt w v ≤ k)
-  -- "the group count is the vertices less the joins that merged"
+      → (k : ℕ) × (answer M s (limiting v) ≡ reads (gives k)) × (2 ^ k ≤ members (shown M s) v) × (members (shown M s) v < 2 ^ suc k) × (movesAt (shown M s) v ≤ k)
+  -- "The group count is the vertices opened less the series' joins that merged two groups."
   pub counted : (answer M s counting ≡ reads (gives (n - s .merges))) × (s .merges ≤ n)
 
--- Demand 3, for every form of book: areas that are well lent, of any content and in any state before; "After any series of calls since its latest
--- opening, refused ones included": an opening and every list of calls after it, further openings among them.
+-- Demand 3, for every form of book: areas that are well lent, of any content and in any state before;
+-- "any series of calls since its latest opening, refused ones included": an opening and every list of calls after it, further openings among them.
 abbrev pub Demand3 : Machine → Type 0
-Demand3 M = (s : State (M .Area)) → M .view (s .area) .fit ≡ true → (cs : List Call)
-    → Kept M (M .view (s .area) .count) (run M s (opening ∷ cs)) (M .view (run M s (opening ∷ cs) .area))
+Demand3 M = (s : State (M .Area)) → M .view (s .area) .fit ≡ true → (cs : List Call) → Kept M (M .view (s .area) .count) (run M s (opening ∷ cs))
 
--- the same of two areas of one length, "up to 65,536"
+-- the same of two areas of one length, "of up to 65,536 vertices"
 abbrev pub Demand3Two : Type 0
 Demand3Two = (s : State Areas) → length (s .area .parents) ≤ 65536 → length (s .area .sizes) ≡ length (s .area .parents) → (cs : List Call)
-    → Kept twoBook (length (s .area .parents)) (run twoBook s (opening ∷ cs)) (twoBook .view (run twoBook s (opening ∷ cs) .area))
+    → Kept twoBook (length (s .area .parents)) (run twoBook s (opening ∷ cs))

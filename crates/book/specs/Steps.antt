@@ -5,10 +5,11 @@ use mathlib.Core.List.{List}
 use Prim.Native.Nat.{ℕ, _/_, _%_, _<_}
 use lib.ListN.{length}
 use lib.Dec.{leb}
-use Rattle.basis.specs.Refusal.{Said, gives, refuses, unsound, check}
-use Rattle.book.specs.Rules.{Found, found, walkFrom, Heads, heads, Joining, merge, Done, linkHeads, writeBook}
+use Rattle.basis.specs.Refusal.{Said, gives, refuses, plain, unsound, check}
+use Rattle.book.specs.Rules.{Found, found, walkFrom, Heads, heads, Joining, merged, same, merge, Done, linkHeads, writeBook}
 use Rattle.book.specs.Two.{Areas, areas, nextIn, fits, two, twoBook}
 use Rattle.book.specs.declared.Pair.{Pair}
+use Rattle.book.specs.declared.joining.Carried.{Carried}
 
 -- the number of a walk: 65,536 times its moves, and its head; above 16 moves it does not end
 unfoldable pub saysWalked : ℕ → Said Found
@@ -32,3 +33,15 @@ pub record Walking (ps ss : List ℕ) (u at : ℕ) : Type 0 where
   pub lent : fits ps ss ≡ true
   pub inside : u < length ps
   pub walk : saysWalked at ≡ walkFrom (nextIn ps) (length ps) u
+
+-- what a join says that carries the walk of its first vertex on
+abbrev pub saysCarried : Carried → Said Joining
+saysCarried (Carried.Merged at) = gives merged
+saysCarried Carried.Already = gives same
+saysCarried (Carried.Refused number) = refuses (plain number)
+
+-- the number of that walk then, if it was `at`
+abbrev pub carriedOn : ℕ → Carried → ℕ
+carriedOn at (Carried.Merged on) = on
+carriedOn at Carried.Already = at
+carriedOn at (Carried.Refused number) = at

@@ -1,5 +1,6 @@
 // Joining the groups of two vertices.
 use super::Joined;
+use super::JoinedEach;
 use super::MOST_MOVES;
 use super::MOST_VERTICES;
 use super::Pair;
@@ -7,14 +8,16 @@ use super::heads;
 use super::walk;
 use super::well_lent;
 use basis::Refusal;
+use basis::refusal::NO_ROOM;
+use basis::refusal::NOT_THERE;
 use basis::refusal::UNSOUND;
 ghost use mathlib.Core.Path.{_≡_};
 ghost use Prim.Native.Nat.{_<_};
 ghost use lib.ListN.{length};
-ghost use Rattle.book.specs.Rules.{done, joinBook, joinEach, above, mergeable};
+ghost use Rattle.book.specs.Rules.{done, eachDone, joinBook, joinEach, above, mergeable};
 ghost use Rattle.book.specs.Two.{areas, twoBook};
-ghost use Rattle.book.specs.Says.{saysJoined};
-ghost use Rattle.book.specs.Steps.{linkTwo, hangTwo, Walking};
+ghost use Rattle.book.specs.Says.{saysJoined, saysJoinedEach};
+ghost use Rattle.book.specs.Steps.{linkTwo, hangTwo, Walking, saysCarried, carriedOn};
 
 // Puts the head `under` under the head `top`, whose size becomes `total`. The old head's size entry stays.
 fn hang(
@@ -89,53 +92,84 @@ pub fn join(parents: &mut [usize], sizes: &mut [usize], u: usize, v: usize) -> J
     }
 }
 
-// Joins u, whose walk is `at`, with w; the walk of u in the areas as they then stand, which is one move longer where u's head went under the other.
-// It takes u for the contract alone.
-fn join_next(parents: &mut [usize], sizes: &mut [usize], u: usize, at: usize, w: usize) -> usize
+// A join that carries the walk of its first vertex on: the walk then, where it merged two groups; or that it found one; or the number of its refusal.
+enum Carried {
+    Merged(usize),
+    Already,
+    Refused(usize),
+}
+
+// Joins u, whose walk is `at`, with w; the walk is one move longer where u's head went under the other. It takes u for the contract alone.
+fn join_next(parents: &mut [usize], sizes: &mut [usize], u: usize, at: usize, w: usize) -> Carried
     requires { ⌜ Walking (now parents) (now sizes) u at ⌝ }
-    ensures { λ r. ⌜ (areas (now (parents .exit)) (now (sizes .exit)) ≡ joinBook twoBook (areas (now (parents .entry)) (now (sizes .entry))) u w .area) × Walking (now (parents .exit)) (now (sizes .exit)) u r ⌝ }
+    ensures { λ r. ⌜
+        (done (saysCarried r) (areas (now (parents .exit)) (now (sizes .exit)))
+        ≡ joinBook twoBook (areas (now (parents .entry)) (now (sizes .entry))) u w)
+        × Walking (now (parents .exit)) (now (sizes .exit)) u (carriedOn at r) ⌝ }
 {
     if parents.len() <= w {
-        return at;
+        return Carried::Refused(NOT_THERE);
     }
     if MOST_MOVES < at / MOST_VERTICES {
-        return at;
+        return Carried::Refused(UNSOUND);
     }
     let to = walk(parents, w);
     if MOST_MOVES < to / MOST_VERTICES {
-        return at;
+        return Carried::Refused(UNSOUND);
     }
     let g = at % MOST_VERTICES;
     let h = to % MOST_VERTICES;
     match link(parents, sizes, g, h) {
         Joined::Merged => {
             if parents[g] == g {
-                return at;
+                return Carried::Merged(at);
             }
-            (at / MOST_VERTICES + 1) * MOST_VERTICES + h
+            let longer = (at / MOST_VERTICES + 1) * MOST_VERTICES + h;
+            Carried::Merged(longer)
         }
-        Joined::Already => at,
-        Joined::Refused(_) => at,
+        Joined::Already => Carried::Already,
+        Joined::Refused(_) => Carried::Refused(UNSOUND),
     }
 }
 
-// Joins u with each of the others, one after the other; a join that is refused changes nothing. u is walked from once, and its walk carried from join to join.
-pub fn join_each(parents: &mut [usize], sizes: &mut [usize], u: usize, others: &[usize])
-    ensures { λ _. ⌜ areas (now (parents .exit)) (now (sizes .exit)) ≡ joinEach twoBook (areas (now (parents .entry)) (now (sizes .entry))) u (now (others .entry)) ⌝ }
+// Joins u with each of the others, one after the other, up to the first join that is refused: those before it stand, and it changes nothing.
+// u is walked from once, and its walk carried from join to join.
+pub fn join_each(
+    parents: &mut [usize],
+    sizes: &mut [usize],
+    u: usize,
+    others: &[usize],
+) -> JoinedEach
+    ensures { λ r. ⌜
+        eachDone (saysJoinedEach r) (areas (now (parents .exit)) (now (sizes .exit)))
+        ≡ joinEach twoBook (areas (now (parents .entry)) (now (sizes .entry))) u (now (others .entry)) ⌝ }
 {
     if others.len() == 0 {
-        return;
+        return JoinedEach::All(0);
     }
     if !well_lent(parents, sizes) {
-        return;
+        return JoinedEach::Stopped(0, 0, Refusal::plain(NO_ROOM));
     }
     if parents.len() <= u {
-        return;
+        return JoinedEach::Stopped(0, 0, Refusal::plain(NOT_THERE));
     }
     let mut at = walk(parents, u);
+    let mut merges: usize = 0;
     let mut i: usize = 0;
     while i < others.len() {
-        at = join_next(parents, sizes, u, at, others[i]);
-        i += 1;
+        match join_next(parents, sizes, u, at, others[i]) {
+            Carried::Merged(on) => {
+                at = on;
+                merges += 1;
+                i += 1;
+            }
+            Carried::Already => {
+                i += 1;
+            }
+            Carried::Refused(number) => {
+                return JoinedEach::Stopped(i, merges, Refusal::plain(number));
+            }
+        }
     }
+    JoinedEach::All(merges)
 }

@@ -6,6 +6,7 @@ use print::compared;
 use print::filled;
 use print::headed;
 use print::joined;
+use print::joined_each;
 use print::number;
 use print::opened;
 use print::reading;
@@ -148,6 +149,44 @@ fn unlike() {
     stayed(filled(&p, 7) && filled(&s, 9));
 }
 
+// A vertex joined with each of a list, behind the words that say what it shows; then what the areas hold.
+fn join_each(shows: &[u8], parents: [usize; 4], sizes: [usize; 4], u: usize, others: &[usize]) {
+    let mut p = parents;
+    let mut s = sizes;
+    words(shows);
+    words(b"join ");
+    number(u);
+    words(b" with each: ");
+    joined_each(book::joining::join_each(&mut p, &mut s, u, others));
+    words(b": parents");
+    area(p);
+    words(b", sizes");
+    area(s);
+    words(b"\n");
+}
+
+fn lists() {
+    join_each(b"with 1, 0, 3: ", [0, 1, 2, 3], [1, 1, 1, 1], 0, &[1, 0, 3]);
+    join_each(b"with none: ", [9, 9, 9, 9], [0, 0, 0, 0], 7, &[]);
+    join_each(b"with 1, 4, 3: ", [0, 1, 2, 3], [1, 1, 1, 1], 0, &[1, 4, 3]);
+    join_each(b"vertex 4 of four: ", [0, 1, 2, 3], [1, 1, 1, 1], 4, &[0]);
+    join_each(
+        b"a zero size behind one group: ",
+        [0, 1, 0, 3],
+        [2, 0, 1, 1],
+        0,
+        &[2, 1, 3],
+    );
+}
+
+fn unlike_lists() {
+    let mut p = [7usize; 4];
+    let mut s = [9usize; 3];
+    words(b"areas of 4 and 3: join 0 with each: ");
+    joined_each(book::joining::join_each(&mut p, &mut s, 0, &[1, 2]));
+    stayed(filled(&p, 7) && filled(&s, 9));
+}
+
 fn main() {
     worked();
     sound();
@@ -155,4 +194,6 @@ fn main() {
     damaged_sizes();
     path();
     unlike();
+    lists();
+    unlike_lists();
 }

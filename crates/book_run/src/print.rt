@@ -3,6 +3,7 @@ use basis::Refusal;
 use book::Compared;
 use book::Headed;
 use book::Joined;
+use book::JoinedEach;
 use book::Opened;
 use book::Reading;
 
@@ -35,6 +36,24 @@ pub fn joined(answer: Joined) {
         Joined::Merged => words(b"merged"),
         Joined::Already => words(b"one group already"),
         Joined::Refused(r) => refused(r),
+    }
+}
+
+pub fn joined_each(answer: JoinedEach) {
+    match answer {
+        JoinedEach::All(merges) => {
+            words(b"all, ");
+            number(merges);
+            words(b" merged");
+        }
+        JoinedEach::Stopped(before, merges, r) => {
+            words(b"stopped after ");
+            number(before);
+            words(b", ");
+            number(merges);
+            words(b" merged: ");
+            refused(r);
+        }
     }
 }
 

@@ -8,58 +8,50 @@ use native.Mathlib.Nat.{not-suc-le-zero, le-of-suc-le-suc, eq-or-lt-of-le}
 use native.Mathlib.Omega.{arith}
 use lib.IntN.{ℤ}
 use lib.ListN.{length}
-use lib.Dec.{ltb}
-use borrow.Author.Tests.{ltb-true}
 use Rattle.basis.specs.Refusal.{Said}
-use Rattle.basis.specs.Scan.{each, allBelow, mem}
-use Rattle.basis.proofs.Tests.{and-first, and-second}
+use Rattle.basis.specs.Scan.{allBelow, mem}
 use Rattle.basis.proofs.Scans.{mem-none-of, mem-head, mem-tail, mem-cases}
-use Rattle.book.specs.Rules.{Done, done, openBook, joinBook, joinEach}
+use Rattle.book.specs.Rules.{Done, done, all, openBook, joinEach}
 use Rattle.book.specs.Two.{Areas, areas, two, twoBook}
-use Rattle.book.specs.Series.{Slip, slip, headIn, headAt}
+use Rattle.book.specs.Series.{Slip, slip, putEach, headIn, headAt}
 use Rattle.book.specs.Series as series
 use Rattle.book.proofs.TwoBook.{faithful-two}
-use Rattle.book.proofs.Held.{Held, two-open, held-join, held-kept, held-head}
+use Rattle.book.proofs.Held.{Held, two-open, held-all, held-each, held-kept, held-head}
 use Rattle.wcc.specs.Component.{Linked, itself, along, back, on, labels}
 use Rattle.wcc.specs.Steps.{headHere, joinArcs, marked, takenOver, Within, Exact}
 use Rattle.wcc.proofs.Passes.{Heads, labels-are}
 
 -- ---- the joins along the arcs, the latest first
-slipsPart : ℕ → List ℕ → List Slip → List Slip
-slipsPart u [] js = js
-slipsPart u (w ∷ ws) js = slipsPart u ws (slip u w ∷ js)
-
 slipsOf : (ℕ → List ℕ) → ℕ → List Slip
 slipsOf out zero = []
-slipsOf out (suc u) = slipsPart u (out u) (slipsOf out u)
-
-held-part : (n : ℕ) (a : Areas) (js : List Slip) → Held twoBook n a js → (u : ℕ) (ws : List ℕ) → u < n → allBelow n ws ≡ true → Held twoBook n (joinEach twoBook a u ws) (slipsPart u ws js)
-unfolding joinEach slipsPart each
-held-part n a js H u [] l b = H
-held-part n a js H u (w ∷ ws) l b =
-    held-part n (joinBook twoBook a u w .area) (slip u w ∷ js) (held-join twoBook faithful-two n a js H u w l (ltb-true w n (and-first (ltb w n) (allBelow n ws) b))) u ws l
-    (and-second (ltb w n) (allBelow n ws) b)
+slipsOf out (suc u) = putEach u (out u) (slipsOf out u)
 
 held-arcs : (n : ℕ) (out : ℕ → List ℕ) → ((u : ℕ) → u < n → allBelow n (out u) ≡ true) → (a : Areas) → Held twoBook n a [] → (k : ℕ) → k ≤ n
     → Held twoBook n (joinArcs out k a) (slipsOf out k)
 unfolding joinArcs slipsOf
 held-arcs n out inside a H zero l = H
-held-arcs n out inside a H (suc k) l = held-part n (joinArcs out k a) (slipsOf out k) (held-arcs n out inside a H k (omega arith)) k (out k) (omega arith) (inside k (omega arith))
+held-arcs n out inside a H (suc k) l =
+    held-each twoBook faithful-two n (joinArcs out k a) (slipsOf out k) (held-arcs n out inside a H k (omega arith)) k (out k) (omega arith) (inside k (omega arith))
+
+-- and in a book just opened the joins along the arcs of each vertex are all accepted: the answer that the code does not look at is no refusal
+pub arcs-accepted : (n : ℕ) (out : ℕ → List ℕ) → ((u : ℕ) → u < n → allBelow n (out u) ≡ true) → (a : Areas) → Held twoBook n a [] → (u : ℕ) → u < n
+    → (m : ℕ) × (joinEach twoBook (joinArcs out u a) u (out u) .said ≡ all m)
+arcs-accepted n out inside a H u l = held-all twoBook faithful-two n (joinArcs out u a) (slipsOf out u) (held-arcs n out inside a H u (omega arith)) u (out u) l (inside u l)
 
 -- ---- they are the arcs
-part-old : (u : ℕ) (ws : List ℕ) (js : List Slip) (s : Slip) → List·Memᴰ s js → List·Memᴰ s (slipsPart u ws js)
-unfolding slipsPart
+part-old : (u : ℕ) (ws : List ℕ) (js : List Slip) (s : Slip) → List·Memᴰ s js → List·Memᴰ s (putEach u ws js)
+unfolding putEach
 part-old u [] js s m = m
 part-old u (w ∷ ws) js s m = part-old u ws (slip u w ∷ js) s (List·Memᴰ·tail m)
 
-part-new : (u : ℕ) (ws : List ℕ) (js : List Slip) (w : ℕ) → mem w ws ≡ true → List·Memᴰ (slip u w) (slipsPart u ws js)
-unfolding slipsPart
+part-new : (u : ℕ) (ws : List ℕ) (js : List Slip) (w : ℕ) → mem w ws ≡ true → List·Memᴰ (slip u w) (putEach u ws js)
+unfolding putEach
 part-new u [] js w t = absurd (mem-none-of w t)
 part-new u (x ∷ ws) js w t =
     ⊎-elim (λ e. part-old u ws (slip u x ∷ js) (slip u w) (List·Memᴰ·head (ap (slip u) e))) (part-new u ws (slip u x ∷ js) w) (mem-cases w x ws t)
 
-part-mem : (u : ℕ) (ws : List ℕ) (js : List Slip) (x y : ℕ) → List·Memᴰ (slip x y) (slipsPart u ws js) → List·Memᴰ (slip x y) js ⊎ ((x ≡ u) × (mem y ws ≡ true))
-unfolding slipsPart
+part-mem : (u : ℕ) (ws : List ℕ) (js : List Slip) (x y : ℕ) → List·Memᴰ (slip x y) (putEach u ws js) → List·Memᴰ (slip x y) js ⊎ ((x ≡ u) × (mem y ws ≡ true))
+unfolding putEach
 part-mem u [] js x y m = inl m
 part-mem u (w ∷ ws) js x y m =
     ⊎-elim
@@ -76,7 +68,7 @@ module _ (out : ℕ → List ℕ) where
   slips-new zero u w l a = absurd (not-suc-le-zero l)
   slips-new (suc k) u w l a =
       ⊎-elim
-      (λ e. subst (λ (x : ℕ). List·Memᴰ (slip x w) (slipsPart k (out k) (slipsOf out k))) (sym e) (part-new k (out k) (slipsOf out k) w (subst (λ (x : ℕ). mem w (out x) ≡ true) e a)))
+      (λ e. subst (λ (x : ℕ). List·Memᴰ (slip x w) (putEach k (out k) (slipsOf out k))) (sym e) (part-new k (out k) (slipsOf out k) w (subst (λ (x : ℕ). mem w (out x) ≡ true) e a)))
       (λ h. part-old k (out k) (slipsOf out k) (slip u w) (slips-new k u w h a))
       (eq-or-lt-of-le (le-of-suc-le-suc l))
 

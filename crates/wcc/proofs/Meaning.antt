@@ -1,29 +1,32 @@
 -- What the labels of a sound graph mean: document 000, 2.3.3 and 01's house label. Assumes nothing.
-use Prim.Native.Nat.{ℕ, _<_}
-use mathlib.Core.Path.{_≡_, sym, ap, _∙_}
+use Prim.Native.Nat.{ℕ, _+_, _-_, _≤_, _<_}
+use mathlib.Core.Path.{_≡_, refl, sym, ap, _∙_}
 use mathlib.Core.Logic.{_↔_}
 use mathlib.Core.Bool.{true, false}
+use mathlib.Core.List.{List}
 use native.Mathlib.Omega.{arith}
-use lib.IntN.{pos}
-use lib.ListN.{length, getD}
+use lib.IntN.{ℤ, pos}
+use lib.ListN.{length, getD, List·getD-append}
+use lib.Seq.{getD-append-add}
 use lib.Signed.{ltZ}
 use borrow.Author.Tests.{eqb-true, le-ltb}
+use Rattle.basis.specs.Area.{padZ}
 use Rattle.basis.specs.Order.{sameZ}
 use Rattle.basis.specs.Scan.{mem}
 use Rattle.basis.proofs.Orders.{same-places, less-places, signed-order}
-use Rattle.basis.proofs.Areas.{column-length, column-at}
-use Rattle.graph.specs.Sound.{Graph, outward, inward, names}
-use Rattle.graph.proofs.Sounds.{Sound, outward-below, names-length, arcs-agree}
-use Rattle.wcc.specs.Component.{Linked, along, back, first, labelOf, wccOf}
+use Rattle.basis.proofs.Areas.{column-length, column-at, pad-length, replicate-at}
+use Rattle.graph.specs.Sound.{Graph, outward, inward, names, soundGraph}
+use Rattle.graph.proofs.Sounds.{Sound, sound-of, outward-below, names-length, arcs-agree}
+use Rattle.kernels.specs.Answer.{kernelSays}
+use Rattle.wcc.specs.Component.{along, back, first, labelOf, wccOf}
+use Rattle.wcc.specs.Promise.{roomFor, leftBy, wccCall}
+use Rattle.wcc.specs.Meaning.{LinkedIn, Done, Called}
+use Rattle.wcc.proofs.Calls.{first-result}
 use Rattle.wcc.proofs.Firsts.{first-below, first-linked, first-least, first-same}
 
 module _ (g : Graph) (s : Sound g) where
-  -- a chain of the graph's arcs, followed either way, links two vertices
-  abbrev pub LinkedIn : ℕ → ℕ → Type 0
-  LinkedIn u v = Linked (g .vertices) (outward g) u v
-
   -- the inward arcs are among them
-  pub inward-linked : (u w : ℕ) → u < g .vertices → w < g .vertices → mem u (inward g w) ≡ true → LinkedIn w u
+  pub inward-linked : (u w : ℕ) → u < g .vertices → w < g .vertices → mem u (inward g w) ≡ true → LinkedIn g w u
   inward-linked u w k l m = back (along k (arcs-agree g s u w k l .1 m))
 
   pub wcc-length : length (wccOf g) ≡ g .vertices
@@ -46,7 +49,7 @@ module _ (g : Graph) (s : Sound g) where
       ∙ signed-order .same-refl (getD (names g) i (pos 0)))
 
   -- "Two vertices belong to the same component, and thus have the same label, if there exists a path between these vertices": exactly then
-  pub labels-same : (u v : ℕ) → u < g .vertices → v < g .vertices → (getD (wccOf g) u (pos 0) ≡ getD (wccOf g) v (pos 0)) ↔ LinkedIn u v
+  pub labels-same : (u v : ℕ) → u < g .vertices → v < g .vertices → (getD (wccOf g) u (pos 0) ≡ getD (wccOf g) v (pos 0)) ↔ LinkedIn g u v
   labels-same u v k l =
       let same = first-same (g .vertices) (outward g) (outward-below g s) u v k l in (
         λ e. same .0 (names-apart _ _ (firstIn u k) (firstIn v l) (sym (label-at u k) ∙ e ∙ label-at v l)),
@@ -55,7 +58,7 @@ module _ (g : Graph) (s : Sound g) where
 
   -- "the smallest identifier of the component": it is the identifier of a member
   pub labels-member : (v : ℕ) → v < g .vertices
-      → (u : ℕ) × (u < g .vertices) × LinkedIn u v × (getD (wccOf g) v (pos 0) ≡ getD (names g) u (pos 0))
+      → (u : ℕ) × (u < g .vertices) × LinkedIn g u v × (getD (wccOf g) v (pos 0) ≡ getD (names g) u (pos 0))
   labels-member v l = (
     first (g .vertices) (outward g) v,
     first-below (g .vertices) (outward g) (outward-below g s) v l,
@@ -64,9 +67,41 @@ module _ (g : Graph) (s : Sound g) where
   )
 
   -- and no member's is smaller
-  pub labels-least : (u v : ℕ) → u < g .vertices → v < g .vertices → LinkedIn u v → ltZ (getD (names g) u (pos 0)) (getD (wccOf g) v (pos 0)) ≡ false
+  pub labels-least : (u v : ℕ) → u < g .vertices → v < g .vertices → LinkedIn g u v → ltZ (getD (names g) u (pos 0)) (getD (wccOf g) v (pos 0)) ≡ false
   labels-least u v k l p =
       let f : ℕ = first (g .vertices) (outward g) v in
       ap (ltZ (getD (names g) u (pos 0))) (label-at v l)
       ∙ less-places signed-order (pos 0) (names g) (s .idsRise) u f (omega (arith, names-length g s)) (firstIn v l)
       ∙ le-ltb u f (first-least (g .vertices) (outward g) (outward-below g s) u v k l p)
+
+-- ---- the public call
+
+module _ (g : Graph) (R : List ℤ) (P S : List ℕ) where
+  call-done : soundGraph g ≡ true → roomFor (g .vertices) R P S ≡ true → Done g R P S (wccCall g R P S)
+  unfolding wccCall leftBy kernelSays
+  call-done t r = rw (t, r) (record {
+    answer = refl;
+    same = λ u v k l. rw (at u k, at v l) (labels-same g s u v k l);
+    member = λ v l. rw (at v l) (labels-member g s v l);
+    least = λ u v k l p. rw (at v l) (labels-least g s u v k l p);
+    whole = pad-length (pos 0) (length R) (wccOf g) fits;
+    beyond = λ v k.
+        let q : v ≡ length (wccOf g) + (v - length (wccOf g)) = omega (arith, wcc-length g s) in
+        ap (λ (i : ℕ). getD (padZ (length R) (wccOf g)) i (pos 0)) q
+        ∙ getD-append-add (wccOf g) _ (v - length (wccOf g)) (pos 0) ∙ replicate-at (pos 0) (length R - length (wccOf g)) (v - length (wccOf g));
+    zeros = (refl, refl);
+  })
+    where
+      s : Sound g
+      s = sound-of g t
+
+      fits : length (wccOf g) ≤ length R
+      fits = omega (arith, wcc-length g s, first-result (g .vertices) R P S r R refl)
+
+      at : (v : ℕ) → v < g .vertices → getD (padZ (length R) (wccOf g)) v (pos 0) ≡ getD (wccOf g) v (pos 0)
+      at v l = List·getD-append (wccOf g) _ (pos 0) v (omega (arith, wcc-length g s))
+
+  -- what the public call means, on every graph and every area
+  pub wcc-call : Called g R P S (wccCall g R P S)
+  unfolding wccCall leftBy kernelSays
+  wcc-call = record { notSound = λ t. rw t; short = λ t r. rw (t, r); done = call-done }

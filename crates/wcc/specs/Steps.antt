@@ -17,7 +17,7 @@ headHere ps ss v = headIn (headOf (two ps ss) v)
 -- the book after the joins along the outward arcs of the first n vertices
 unfoldable pub joinArcs : (ℕ → List ℕ) → ℕ → Areas → Areas
 joinArcs out zero a = a
-joinArcs out (suc u) a = joinEach twoBook (joinArcs out u a) u (out u)
+joinArcs out (suc u) a = joinEach twoBook (joinArcs out u a) u (out u) .area
 
 -- each vertex from n - 1 down to 0 writes its identifier at its head g: the last one written there is the smallest
 unfoldable pub marked : (ℕ → ℕ) → List ℤ → ℕ → List ℤ → List ℤ

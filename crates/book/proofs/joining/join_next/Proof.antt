@@ -1,6 +1,5 @@
 use borrow.Author.Needs.{needs}
-use Rattle.book.proofs.Each.{walking-within, walking-lengths, walking-already, walking-refused, next-missing, next-late, next-late2, next-first, next-first-in, next-second, next-linked, next-top, next-under}
-use borrow.Author.Needs.{needs}
+use Rattle.book.proofs.Each.{walking-within, walking-lengths, walking-already, walking-refused, next-missing, next-late, next-late2, next-first, next-first-in, next-second, next-merged, next-already, next-refused, next-top, next-under}
 use Rattle.book.proofs.joining.join_next.Statement.{statement}
 use Rattle.book.proofs.joining.join_next.Tie as tie
 
@@ -38,16 +37,16 @@ same-length-3 : tie.Need-same-length-3
 same-length-3 c = search needs
 
 returns-4 : tie.Need-returns-4
-returns-4 c = (search next-linked, search next-top)
+returns-4 c = (search next-merged, search next-top)
 
-add-result : tie.Need-add-result
-add-result c = search needs
+add-longer : tie.Need-add-longer
+add-longer c = search needs
 
-mul-result : tie.Need-mul-result
-mul-result c = search needs
+mul-longer : tie.Need-mul-longer
+mul-longer c = search needs
 
-add-result-2 : tie.Need-add-result-2
-add-result-2 c = search needs
+add-longer-2 : tie.Need-add-longer-2
+add-longer-2 c = search needs
 
 enum-told-2 : tie.Need-enum-told-2
 enum-told-2 c = search needs
@@ -62,7 +61,7 @@ same-length-5 : tie.Need-same-length-5
 same-length-5 c = search needs
 
 returns-5 : tie.Need-returns-5
-returns-5 c = (search next-linked, search next-under)
+returns-5 c = (search next-merged, search next-under)
 
 same-length-6 : tie.Need-same-length-6
 same-length-6 c = search needs
@@ -71,7 +70,7 @@ same-length-7 : tie.Need-same-length-7
 same-length-7 c = search needs
 
 returns-6 : tie.Need-returns-6
-returns-6 c = (search next-linked, search walking-already)
+returns-6 c = (search next-already, search walking-already)
 
 same-length-8 : tie.Need-same-length-8
 same-length-8 c = search needs
@@ -80,7 +79,7 @@ same-length-9 : tie.Need-same-length-9
 same-length-9 c = search needs
 
 returns-7 : tie.Need-returns-7
-returns-7 c = (search next-linked, search walking-refused)
+returns-7 c = (search next-refused, search walking-refused)
 
 pub join-next-spec : {M : Type 1} → statement M
 join-next-spec =
@@ -98,9 +97,9 @@ join-next-spec =
     same-length-2
     same-length-3
     returns-4
-    add-result
-    mul-result
-    add-result-2
+    add-longer
+    mul-longer
+    add-longer-2
     enum-told-2
     enum-told-3
     same-length-4

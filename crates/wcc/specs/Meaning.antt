@@ -1,0 +1,40 @@
+-- What a call of the kernel means, apart from how it is computed: 01 "Kernels" and document 000, 2.3.3.
+use Prim.Native.Nat.{ℕ, _≤_, _<_}
+use mathlib.Core.Path.{_≡_}
+use mathlib.Core.Logic.{_↔_}
+use mathlib.Core.Bool.{true, false}
+use mathlib.Core.List.{List}
+use lib.IntN.{ℤ, pos}
+use lib.ListN.{length, getD}
+use lib.Signed.{ltZ}
+use Rattle.basis.specs.Refusal.{gives, refuses, plain, unsound, noRoom}
+use Rattle.basis.specs.Area.{cleared, clearedZ}
+use Rattle.graph.specs.Sound.{Graph, outward, names, soundGraph}
+use Rattle.wcc.specs.Component.{Linked}
+use Rattle.wcc.specs.Promise.{Outcome, outcome, roomFor}
+
+-- a chain of the graph's arcs, "arcs followed either way", links two vertices
+abbrev pub LinkedIn : Graph → ℕ → ℕ → Type 0
+LinkedIn g u v = Linked (g .vertices) (outward g) u v
+
+-- a call that gives the labels: each vertex has its label at its place
+pub record Done (g : Graph) (result : List ℤ) (parents sizes : List ℕ) (o : Outcome) : Type 0 where
+  pub answer : o .said ≡ gives tt
+  -- "Two vertices belong to the same component, and thus have the same label, if there exists a path between these vertices": exactly then
+  pub same : (u v : ℕ) → u < g .vertices → v < g .vertices → (getD (o .result) u (pos 0) ≡ getD (o .result) v (pos 0)) ↔ LinkedIn g u v
+  -- "the smallest identifier of the component": it is the identifier of a member
+  pub member : (v : ℕ) → v < g .vertices → (u : ℕ) × (u < g .vertices) × LinkedIn g u v × (getD (o .result) v (pos 0) ≡ getD (names g) u (pos 0))
+  -- and no member's is smaller
+  pub least : (u v : ℕ) → u < g .vertices → v < g .vertices → LinkedIn g u v → ltZ (getD (names g) u (pos 0)) (getD (o .result) v (pos 0)) ≡ false
+  -- "places beyond the ones used are zero", in an area as long as it was
+  pub whole : length (o .result) ≡ length result
+  pub beyond : (v : ℕ) → g .vertices ≤ v → getD (o .result) v (pos 0) ≡ pos 0
+  -- "working areas are zero throughout"
+  pub zeros : (o .parents ≡ cleared parents) × (o .sizes ≡ cleared sizes)
+
+-- what a call means, refusals included; result, parents and sizes stood in the three areas before it
+pub record Called (g : Graph) (result : List ℤ) (parents sizes : List ℕ) (o : Outcome) : Type 0 where
+  pub notSound : soundGraph g ≡ false → o ≡ outcome (refuses (plain unsound)) (clearedZ result) (cleared parents) (cleared sizes)
+  pub short : soundGraph g ≡ true → roomFor (g .vertices) result parents sizes ≡ false
+      → o ≡ outcome (refuses (plain noRoom)) (clearedZ result) (cleared parents) (cleared sizes)
+  pub done : soundGraph g ≡ true → roomFor (g .vertices) result parents sizes ≡ true → Done g result parents sizes o
