@@ -1,18 +1,33 @@
--- What the definition says, in the words of document 000, 2.3.4, over identifiers. Assumes nothing.
-use Prim.Native.Nat.{ℕ, suc, _+_, _<_}
-use mathlib.Core.Path.{_≡_, refl, sym, ap, _∙_, subst}
-use mathlib.Core.List.{List, [], _∷_}
+-- What the definition says, in the words of document 000, 2.3.4, over identifiers; and what stands in a call's result area. Assumes nothing.
+use Prim.Native.Nat.{ℕ, zero, suc, _+_, _≤_, _<_}
+use mathlib.Core.Path.{_≡_, refl, sym, ap, ap₂, _∙_, subst}
+use mathlib.Core.Bool.{true}
+use mathlib.Core.List.{List, [], _∷_, _++_}
+use native.Mathlib.Nat.{not-suc-le-zero}
+use native.Mathlib.Omega.{arith}
 use lib.IntN.{ℤ, pos}
 use lib.Signed.{ltZ}
-use lib.ListN.{getD}
+use lib.ListN.{length, getD}
+use borrow.Author.Tests.{le-ltb}
 use Rattle.basis.specs.Order.{sameZ}
-use Rattle.basis.proofs.Areas.{column-at}
+use Rattle.basis.specs.Scan.{mem}
+use Rattle.basis.proofs.Tests.{no-case, same-test}
+use Rattle.basis.proofs.Scans.{below-mem}
+use Rattle.basis.proofs.Sets.{rising-starts, starts-same}
+use Rattle.basis.proofs.Areas.{column-at, column-ext}
 use Rattle.basis.proofs.Orders.{signed-order}
-use Rattle.graph.specs.Sound.{Graph, inward, outward, names}
-use Rattle.cdlp.specs.Label.{times, standing, mostCommon, smallestOr, nextLabel}
+use Rattle.graph.specs.Sound.{Graph, inward, outward, names, soundGraph}
+use Rattle.graph.proofs.Sounds.{sound-of, inward-rises, inward-below, outward-rises, outward-below, arcs-agree}
+use Rattle.kernels.specs.Answer.{kernelSays}
+use Rattle.kernels.proofs.Results.{pad-value, pad-behind}
+use Rattle.cdlp.specs.Label.{one, times, standing, mostCommon, smallestOr, nextLabel}
 use Rattle.cdlp.specs.Rounds.{around, labelsAt, nextAt, oneRound, rounds, cdlpOf}
-use Rattle.cdlp.proofs.Labels.{Chosen, next-chosen, chosen-one, times-append}
+use Rattle.cdlp.specs.Promise.{goodRounds, roomFor, leftBy, cdlpCall}
+use Rattle.cdlp.specs.Meaning.{bearers, frequency, Next, Labels, Done, Called, Undirected, heardOnce}
+use Rattle.cdlp.proofs.Labels.{Chosen, next-chosen, chosen-one, times-append, next-twice}
 use Rattle.cdlp.proofs.Lists.{labels-append}
+use Rattle.cdlp.proofs.Runs.{cdlp-length}
+use Rattle.cdlp.proofs.Calls.{allowed-within, roomy-of}
 
 module _ (g : Graph) where
   -- the label of v after k rounds, L_k (v)
@@ -60,3 +75,97 @@ module _ (g : Graph) where
   -- and the only such label
   pub only : (k v : ℕ) → v < g .vertices → (heardBy k v ≡ [] → ⊥) → (x : ℤ) → Chosen sameZ ltZ (heardBy k v) x → x ≡ label (suc k) v
   only k v h e x c = chosen-one signed-order (heardBy k v) x (label (suc k) v) c (settled k v h e)
+
+-- ---- the rule of a round
+-- the labels of a list, by place
+abbrev byPlace : List ℤ → ℕ → ℤ
+byPlace L v = getD L v (pos 0)
+
+bearers-times : (L : List ℤ) (l : ℤ) (us : List ℕ) → bearers (byPlace L) l us ≡ times sameZ l (labelsAt (pos 0) L us)
+unfolding bearers times labelsAt
+bearers-times L l [] = refl
+bearers-times L l (u ∷ us) = ap (λ (k : ℕ). one (sameZ l (byPlace L u)) + k) (bearers-times L l us)
+
+module _ (g : Graph) (k : ℕ) where
+  frequency-times : (v : ℕ) (x : ℤ) → frequency g (label g k) v x ≡ times sameZ x (heardBy g k v)
+  frequency-times v x =
+      let L = cdlpOf g k in
+      ap₂ (λ (a b : ℕ). a + b) (bearers-times L x (inward g v)) (bearers-times L x (outward g v)) ∙ sym (heard-twice g k v x)
+
+  module _ (v : ℕ) (h : v < g .vertices) where
+    heard-none : (x : ℤ) → 0 < times sameZ x (heardBy g k v) → heardBy g k v ≡ [] → ⊥
+    unfolding times
+    heard-none x q n = not-suc-le-zero (rw n at q)
+
+    heard-most : (ls : List ℤ) → heardBy g k v ≡ ls → (x : ℤ) → times sameZ x (heardBy g k v) ≤ times sameZ (label g (suc k) v) (heardBy g k v)
+    unfolding times
+    heard-most [] e x = rw e (omega arith)
+    heard-most (l ∷ ls) e x = settled g k v h (λ n. no-case (let z : l ∷ ls ≡ [] = sym e ∙ n in cc)) .most x
+
+    next-label : Next g (label g k) v (label g (suc k) v)
+    next-label =
+        record {
+          kept = λ a b. alone g k v h (unfold around in ap₂ (λ (s t : List ℕ). s ++ t) a b);
+          most = λ x. rw (frequency-times v x, frequency-times v (label g (suc k) v)) (heard-most (heardBy g k v) refl x);
+          least = λ x p e.
+              settled g k v h (heard-none x (rw (frequency-times v x) at p)) .least x (sym (frequency-times v x) ∙ e ∙ frequency-times v (label g (suc k) v));
+        }
+
+-- labels that agree on the vertices
+labels-same : (g : Graph) (k : ℕ) (L M : ℕ → ℤ) → ((v : ℕ) → v < g .vertices → M v ≡ L v) → Labels g k L → Labels g k M
+labels-same g zero L M e h = λ v l. e v l ∙ h v l
+labels-same g (suc k) L M e h = (h .0, h .1, λ v l. subst (Next g (h .0) v) (sym (e v l)) (h .2 v l))
+
+-- the labels after k rounds are those of the rule
+pub rounds-labels : (g : Graph) (k : ℕ) → Labels g k (label g k)
+rounds-labels g zero = λ v l. ap (λ (L : List ℤ). byPlace L v) (at-first g)
+rounds-labels g (suc k) = (label g k, rounds-labels g k, next-label g k)
+
+-- ---- the call
+module _ (g : Graph) (z : ℤ) (R : List ℤ) (L N C : List ℕ) where
+  call-done : soundGraph g ≡ true → (k : ℕ) → z ≡ pos k → k ≤ 1000 → roomFor (g .vertices) R L N C ≡ true → Done g k R L N C (cdlpCall g z R L N C)
+  unfolding cdlpCall leftBy kernelSays
+  call-done s k e h r =
+      let n = g .vertices in
+      let good : goodRounds (pos k) ≡ true = sym (allowed-within (pos k) (le-ltb k 0 (omega arith)) (le-ltb 1000 k h)) in
+      let len = cdlp-length g (sound-of g s) k in
+      let fit = roomy-of n R L N C r .result in
+      rw (e, s, good, r)
+      (record {
+        answer = refl;
+        values = labels-same g k (label g k) _ (λ v l. pad-value (pos 0) n (length R) (cdlpOf g k) len fit v l) (rounds-labels g k);
+        behind = pad-behind (pos 0) n (length R) (cdlpOf g k) len fit;
+        zeros = (refl, refl, refl);
+      })
+
+  -- what the public call answers and leaves, on every graph, number of rounds and area
+  pub cdlp-call : Called g z R L N C (cdlpCall g z R L N C)
+  unfolding cdlpCall leftBy kernelSays
+  cdlp-call = record { notSound = λ s. rw s; outside = λ s b. rw (s, b); short = λ s b r. rw (s, b, r); done = call-done }
+
+-- ---- an undirected graph
+module _ (g : Graph) (sound : soundGraph g ≡ true) (both : Undirected g) where
+  -- "Note that for undirected graphs, each edge is bidirectional": the incoming neighbours are the outgoing ones
+  pub same-neighbours : (v : ℕ) → v < g .vertices → inward g v ≡ outward g v
+  same-neighbours v l =
+      let s = sound-of g sound in
+      let i = inward g v in let o = outward g v in
+      starts-same (λ j. true) (λ j. true) i o (sym (rising-starts i) ∙ inward-rises g s v l) (sym (rising-starts o) ∙ outward-rises g s v l)
+      (λ w.
+      same-test (mem w i) (mem w o)
+      (λ m. let h = below-mem (g .vertices) i (inward-below g s v l) w m in both w v h l (arcs-agree g s w v h l .1 m))
+      (λ m. let h = below-mem (g .vertices) o (outward-below g s v l) w m in arcs-agree g s w v h l .0 (both v w l h m)))
+
+  -- "If the graph is directed and a neighbor is reachable via both an incoming and outgoing edge, its label will be counted twice": in an undirected graph each
+  -- neighbour is heard twice, and the labels are those of hearing each once
+  pub undirected-once : (k : ℕ) → cdlpOf g k ≡ heardOnce g k
+  unfolding cdlpOf rounds oneRound nextAt around
+  undirected-once zero = refl
+  undirected-once (suc k) =
+      column-ext _ _ (g .vertices)
+      (λ v l.
+      let M = heardOnce g k in
+      ap (λ (K : List ℤ). nextLabel sameZ ltZ (byPlace K v) (labelsAt (pos 0) K (inward g v ++ outward g v))) (undirected-once k)
+      ∙ ap (λ (us : List ℕ). nextLabel sameZ ltZ (byPlace M v) (labelsAt (pos 0) M (us ++ outward g v))) (same-neighbours v l)
+      ∙ ap (nextLabel sameZ ltZ (byPlace M v)) (labels-append (pos 0) M (outward g v) (outward g v))
+      ∙ next-twice signed-order (byPlace M v) (labelsAt (pos 0) M (outward g v)))
