@@ -10,14 +10,14 @@ use lib.Signed.{ltZ}
 use lib.ListN.{length, getD}
 use borrow.Author.Tests.{le-ltb}
 use Rattle.basis.specs.Order.{sameZ}
-use Rattle.basis.specs.Scan.{mem}
+use Rattle.basis.specs.Scan.{allBelow, mem}
 use Rattle.basis.proofs.Tests.{no-case, same-test}
-use Rattle.basis.proofs.Scans.{below-mem}
+use Rattle.basis.proofs.Scans.{below-first, below-rest, below-mem}
 use Rattle.basis.proofs.Sets.{rising-starts, starts-same}
 use Rattle.basis.proofs.Areas.{column-at, column-ext}
 use Rattle.basis.proofs.Orders.{signed-order}
 use Rattle.graph.specs.Sound.{Graph, inward, outward, names, soundGraph}
-use Rattle.graph.proofs.Sounds.{sound-of, inward-rises, inward-below, outward-rises, outward-below, arcs-agree}
+use Rattle.graph.proofs.Sounds.{Sound, sound-of, inward-rises, inward-below, outward-rises, outward-below, arcs-agree}
 use Rattle.kernels.specs.Answer.{kernelSays}
 use Rattle.kernels.proofs.Results.{pad-value, pad-behind}
 use Rattle.cdlp.specs.Label.{one, times, standing, mostCommon, smallestOr, nextLabel}
@@ -120,6 +120,49 @@ labels-same g (suc k) L M e h = (h .0, h .1, λ v l. subst (Next g (h .0) v) (sy
 pub rounds-labels : (g : Graph) (k : ℕ) → Labels g k (label g k)
 rounds-labels g zero = λ v l. ap (λ (L : List ℤ). byPlace L v) (at-first g)
 rounds-labels g (suc k) = (label g k, rounds-labels g k, next-label g k)
+
+-- ---- the rule leaves no choice
+heard-first : (L : ℕ → ℤ) (u : ℕ) (us : List ℕ) → 0 < bearers L (L u) (u ∷ us)
+unfolding bearers
+heard-first L u us = rw (signed-order .same-refl (L u)) (omega arith)
+
+next-one : (g : Graph) (L : ℕ → ℤ) (v : ℕ) (x y : ℤ) → Next g L v x → Next g L v y → x ≡ y
+next-one g L v x y a b = by (inward g v) (outward g v) refl refl
+  where
+    by-heard : (u : ℕ) → 0 < frequency g L v (L u) → x ≡ y
+    by-heard u p =
+        let m = a .most (L u) in
+        let e : frequency g L v x ≡ frequency g L v y = omega (arith, a .most y, b .most x) in
+        signed-order .less-eq x y (b .least x (omega arith) e) (a .least y (omega arith) (sym e))
+
+    by : (i o : List ℕ) → inward g v ≡ i → outward g v ≡ o → x ≡ y
+    by [] [] p q = a .kept p q ∙ sym (b .kept p q)
+    by [] (u ∷ o) p q = by-heard u (let h : 0 < bearers L (L u) (outward g v) = rw q (heard-first L u o) in omega arith)
+    by (u ∷ i) o p q = by-heard u (let h : 0 < bearers L (L u) (inward g v) = rw p (heard-first L u i) in omega arith)
+
+-- it looks at the labels of vertices only
+bearers-same : (n : ℕ) (L M : ℕ → ℤ) → ((u : ℕ) → u < n → L u ≡ M u) → (l : ℤ) (us : List ℕ) → allBelow n us ≡ true → bearers L l us ≡ bearers M l us
+unfolding bearers
+bearers-same n L M e l [] h = refl
+bearers-same n L M e l (u ∷ us) h =
+    ap₂ (λ (z : ℤ) (k : ℕ). one (sameZ l z) + k) (e u (below-first n u us h)) (bearers-same n L M e l us (below-rest n u us h))
+
+next-same : (g : Graph) → Sound g → (L M : ℕ → ℤ) → ((u : ℕ) → u < g .vertices → L u ≡ M u) → (v : ℕ) → v < g .vertices → (x : ℤ) → Next g L v x → Next g M v x
+next-same g s L M e v h x a =
+    let same : (y : ℤ) → frequency g L v y ≡ frequency g M v y = λ y.
+    ap₂ (λ (i j : ℕ). i + j) (bearers-same (g .vertices) L M e y (inward g v) (inward-below g s v h)) (bearers-same (g .vertices) L M e y (outward g v) (outward-below g s v h)) in
+    record {
+      kept = λ p q. a .kept p q ∙ e v h;
+      most = λ y. omega (arith, a .most y, same y, same x);
+      least = λ y p q. a .least y (omega (arith, same y)) (omega (arith, same y, same x));
+    }
+
+-- so these are the only labels after k rounds
+pub labels-only : (g : Graph) → soundGraph g ≡ true → (k : ℕ) (L : ℕ → ℤ) → Labels g k L → (v : ℕ) → v < g .vertices → L v ≡ label g k v
+labels-only g s zero L h v l = h v l ∙ sym (rounds-labels g zero v l)
+labels-only g s (suc k) L h v l =
+    next-one g (label g k) v (L v) (label g (suc k) v)
+    (next-same g (sound-of g s) (h .0) (label g k) (labels-only g s k (h .0) (h .1)) v l (L v) (h .2 v l)) (next-label g k v l)
 
 -- ---- the call
 module _ (g : Graph) (z : ℤ) (R : List ℤ) (L N C : List ℕ) where
