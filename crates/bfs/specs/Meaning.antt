@@ -46,7 +46,9 @@ pub record Done (g : Graph) (root : ℕ) (depth : List ℤ) (queue : List ℕ) (
 -- what a call means, refusals included; depth and queue stood in the two areas before it
 pub record Called (g : Graph) (root : ℤ) (depth : List ℤ) (queue : List ℕ) (o : Outcome) : Type 0 where
   pub notSound : soundGraph g ≡ false → o ≡ outcome (refuses (plain unsound)) (clearedZ depth) (cleared queue)
-  pub missing : soundGraph g ≡ true → ((v : ℕ) → HasName g v root → ⊥) → o ≡ outcome (refuses (plain notThere)) (clearedZ depth) (cleared queue)
+  pub missing : soundGraph g ≡ true → ((v : ℕ) → HasName g v root → ⊥)
+      → o ≡ outcome (refuses (plain notThere)) (clearedZ depth) (cleared queue)
   pub short : soundGraph g ≡ true → (v : ℕ) → HasName g v root → (length depth < g .vertices) ⊎ (length queue < g .vertices)
       → o ≡ outcome (refuses (plain noRoom)) (clearedZ depth) (cleared queue)
-  pub done : soundGraph g ≡ true → (v : ℕ) → HasName g v root → g .vertices ≤ length depth → g .vertices ≤ length queue → Done g v depth queue o
+  pub done : soundGraph g ≡ true → (v : ℕ) → HasName g v root → g .vertices ≤ length depth → g .vertices ≤ length queue
+      → Done g v depth queue o
