@@ -10,20 +10,19 @@ use lib.Signed.{ltZ}
 use lib.ListN.{length, getD}
 use borrow.Author.Tests.{le-ltb}
 use Rattle.basis.specs.Order.{sameZ}
-use Rattle.basis.specs.Scan.{allBelow, mem}
-use Rattle.basis.proofs.Tests.{no-case, same-test}
-use Rattle.basis.proofs.Scans.{below-first, below-rest, below-mem}
-use Rattle.basis.proofs.Sets.{rising-starts, starts-same}
+use Rattle.basis.specs.Scan.{allBelow}
+use Rattle.basis.proofs.Tests.{no-case}
+use Rattle.basis.proofs.Scans.{below-first, below-rest}
 use Rattle.basis.proofs.Areas.{column-at, column-ext}
 use Rattle.basis.proofs.Orders.{signed-order}
-use Rattle.graph.specs.Sound.{Graph, inward, outward, names, soundGraph}
-use Rattle.graph.proofs.Sounds.{Sound, sound-of, inward-rises, inward-below, outward-rises, outward-below, arcs-agree}
+use Rattle.graph.specs.Sound.{Graph, inward, outward, names, soundGraph, Undirected}
+use Rattle.graph.proofs.Sounds.{Sound, sound-of, inward-below, outward-below, same-neighbours}
 use Rattle.kernels.specs.Answer.{kernelSays}
 use Rattle.kernels.proofs.Results.{pad-value, pad-behind}
 use Rattle.cdlp.specs.Label.{one, times, standing, mostCommon, smallestOr, nextLabel}
 use Rattle.cdlp.specs.Rounds.{around, labelsAt, nextAt, oneRound, rounds, cdlpOf}
 use Rattle.cdlp.specs.Promise.{goodRounds, roomFor, leftBy, cdlpCall}
-use Rattle.cdlp.specs.Meaning.{bearers, frequency, Next, Labels, Done, Called, Undirected, heardOnce}
+use Rattle.cdlp.specs.Meaning.{bearers, frequency, Next, Labels, Done, Called, heardOnce}
 use Rattle.cdlp.proofs.Labels.{Chosen, next-chosen, chosen-one, times-append, next-twice}
 use Rattle.cdlp.proofs.Lists.{labels-append}
 use Rattle.cdlp.proofs.Runs.{cdlp-length}
@@ -188,17 +187,6 @@ module _ (g : Graph) (z : ℤ) (R : List ℤ) (L N C : List ℕ) where
 
 -- ---- an undirected graph
 module _ (g : Graph) (sound : soundGraph g ≡ true) (both : Undirected g) where
-  -- "Note that for undirected graphs, each edge is bidirectional": the incoming neighbours are the outgoing ones
-  pub same-neighbours : (v : ℕ) → v < g .vertices → inward g v ≡ outward g v
-  same-neighbours v l =
-      let s = sound-of g sound in
-      let i = inward g v in let o = outward g v in
-      starts-same (λ j. true) (λ j. true) i o (sym (rising-starts i) ∙ inward-rises g s v l) (sym (rising-starts o) ∙ outward-rises g s v l)
-      (λ w.
-      same-test (mem w i) (mem w o)
-      (λ m. let h = below-mem (g .vertices) i (inward-below g s v l) w m in both w v h l (arcs-agree g s w v h l .1 m))
-      (λ m. let h = below-mem (g .vertices) o (outward-below g s v l) w m in arcs-agree g s w v h l .0 (both v w l h m)))
-
   -- "If the graph is directed and a neighbor is reachable via both an incoming and outgoing edge, its label will be counted twice": in an undirected graph each
   -- neighbour is heard twice, and the labels are those of hearing each once
   pub undirected-once : (k : ℕ) → cdlpOf g k ≡ heardOnce g k
@@ -209,6 +197,6 @@ module _ (g : Graph) (sound : soundGraph g ≡ true) (both : Undirected g) where
       (λ v l.
       let M = heardOnce g k in
       ap (λ (K : List ℤ). nextLabel sameZ ltZ (byPlace K v) (labelsAt (pos 0) K (inward g v ++ outward g v))) (undirected-once k)
-      ∙ ap (λ (us : List ℕ). nextLabel sameZ ltZ (byPlace M v) (labelsAt (pos 0) M (us ++ outward g v))) (same-neighbours v l)
+      ∙ ap (λ (us : List ℕ). nextLabel sameZ ltZ (byPlace M v) (labelsAt (pos 0) M (us ++ outward g v))) (same-neighbours g (sound-of g sound) both v l)
       ∙ ap (nextLabel sameZ ltZ (byPlace M v)) (labels-append (pos 0) M (outward g v) (outward g v))
       ∙ next-twice signed-order (byPlace M v) (labelsAt (pos 0) M (outward g v)))

@@ -9,7 +9,6 @@ use lib.ListN.{length, getD}
 use Rattle.basis.specs.Refusal.{gives, refuses, plain, unsound, noRoom, badRounds}
 use Rattle.basis.specs.Area.{cleared, clearedZ}
 use Rattle.basis.specs.Order.{sameZ}
-use Rattle.basis.specs.Scan.{mem}
 use Rattle.graph.specs.Sound.{Graph, inward, outward, names, soundGraph}
 use Rattle.kernels.specs.Result.{ZeroBehind}
 use Rattle.cdlp.specs.Label.{one}
@@ -50,14 +49,11 @@ pub record Done (g : Graph) (k : ℕ) (R : List ℤ) (L N C : List ℕ) (o : Out
 -- what a call means, refusals included; R, L, N and C stood in the result area and the three working areas before it
 pub record Called (g : Graph) (z : ℤ) (R : List ℤ) (L N C : List ℕ) (o : Outcome) : Type 0 where
   pub notSound : soundGraph g ≡ false → o ≡ outcome (refuses (plain unsound)) (clearedZ R) (cleared L) (cleared N) (cleared C)
-  pub outside : soundGraph g ≡ true → goodRounds z ≡ false → o ≡ outcome (refuses (plain badRounds)) (clearedZ R) (cleared L) (cleared N) (cleared C)
+  pub outside : soundGraph g ≡ true → goodRounds z ≡ false
+      → o ≡ outcome (refuses (plain badRounds)) (clearedZ R) (cleared L) (cleared N) (cleared C)
   pub short : soundGraph g ≡ true → goodRounds z ≡ true → roomFor (g .vertices) R L N C ≡ false
       → o ≡ outcome (refuses (plain noRoom)) (clearedZ R) (cleared L) (cleared N) (cleared C)
   pub done : soundGraph g ≡ true → (k : ℕ) → z ≡ pos k → k ≤ mostRounds → roomFor (g .vertices) R L N C ≡ true → Done g k R L N C o
-
--- "For undirected graphs, each edge is bidirectional": an arc leads back wherever one leads out
-abbrev pub Undirected : Graph → Type 0
-Undirected g = (u w : ℕ) → u < g .vertices → w < g .vertices → mem w (outward g u) ≡ true → mem u (outward g w) ≡ true
 
 -- the labels after k rounds in which each neighbour of an undirected graph is heard once
 abbrev pub heardOnce : Graph → ℕ → List ℤ
