@@ -24,7 +24,7 @@ pub record Outcome : Type 0 where
 abbrev pub outcome : Said (Unit {0}) → List ℤ → List ℕ → Outcome
 outcome said depth queue = record { said = said; depth = depth; queue = queue }
 
--- "Kernels check 9, then 10 .., then 8: each result or working area needs n places"
+-- "Kernels check 9, then 10 or 11, then 8: each result or working area needs n places": BFS has 10
 unfoldable pub bfsSays : Graph → Found → List ℤ → List ℕ → Said (Unit {0})
 bfsSays g place depth queue =
     kernelSays (soundGraph g) (isThere place) notThere (leb (g .vertices) (length depth) && leb (g .vertices) (length queue))

@@ -16,7 +16,7 @@ use kernels::refused;
 use view::neighbours;
 ghost use mathlib.Core.Path.{_≡_};
 ghost use mathlib.Core.Bool.{true};
-ghost use Prim.Native.Nat.{_<_};
+ghost use Prim.Native.Nat.{_≤_, _<_};
 ghost use lib.IntN.{pos};
 ghost use lib.ListN.{length};
 ghost use Rattle.basis.specs.Scan.{allBelow};
@@ -35,9 +35,9 @@ struct Ring {
     level: usize,
 }
 
-// A depth as a result area holds it.
+// A depth, or infinity, as a result area holds it.
 fn signed(d: usize) -> i64
-    requires { ⌜ d < infinity ⌝ }
+    requires { ⌜ d ≤ infinity ⌝ }
     ensures { λ r. ⌜ r ≡ pos d ⌝ }
 {
     d as i64

@@ -95,6 +95,7 @@ use Rattle.trace.proofs.group_book.trace_book_limit as trace-trace_book_limit
 use Rattle.trace.proofs.judging.trace_judge as trace-trace_judge
 use Rattle.trace.proofs.judging.trace_verdict as trace-trace_verdict
 use Rattle.text.proofs.Saids.{count-one, scan-one, decimal-one, vertex-one, edge-one, coefficient-one}
+use Rattle.graph.proofs.Finds.{searched-is}
 use Rattle.book.proofs.Answers.{one-opened, one-joined, one-headed, one-compared, one-reading}
 use Rattle.plan.proofs.Saids.{job-one, checked-one}
 use Rattle.cases.specs.Outcome.{One, OneAs}
@@ -213,7 +214,7 @@ book-step_limit-one = record { promise = book-step_limit.Reads.Learnt; told = re
 
 -- ---- graph
 pub graph-find-one : One graph-find.ended (λ M 𝓤. graph-find.clauses 𝓤)
-graph-find-one = record { promise = graph-find.Reads.Learnt; told = refl; one = λ _ _ _ _ _ _ p q. (meet p q, refl) }
+graph-find-one = record { promise = graph-find.Reads.Learnt; told = refl; one = λ _ _ _ _ _ _ p q. (meet (searched-is p) (searched-is q), refl) }
 
 pub graph-sound-one : One graph-sound.ended (λ M 𝓤. graph-sound.clauses 𝓤)
 graph-sound-one = record { promise = graph-sound.Reads.Learnt; told = refl; one = λ _ _ _ _ _ _ p q. (meet p q, refl) }

@@ -165,3 +165,20 @@ pub times-append : {A : Type 0} (same : A → A → Bool) (x : A) (s t : List A)
 unfolding times
 times-append same x [] t = omega arith
 times-append same x (y ∷ s) t = let r = times-append same x s t in omega arith
+
+-- ---- labels that are heard twice each
+module _ {A : Type 0} {same less : A → A → Bool} (order : Order same less) where
+  twice-chosen : (ls : List A) (w : A) → Chosen same less (ls ++ ls) w → Chosen same less ls w
+  twice-chosen ls w c =
+      let two : (x : A) → times same x (ls ++ ls) ≡ times same x ls + times same x ls = λ x. times-append same x ls ls in
+      record {
+        among = omega (arith, c .among, two w);
+        most = λ x. omega (arith, c .most x, two x, two w);
+        least = λ x e. c .least x (omega (arith, e, two x, two w));
+      }
+
+  -- the same label is chosen from labels that are heard twice each as from those that are heard once
+  pub next-twice : (own : A) (ls : List A) → nextLabel same less own (ls ++ ls) ≡ nextLabel same less own ls
+  next-twice own [] = refl
+  next-twice own (l ∷ ls) =
+      chosen-one order (l ∷ ls) _ _ (twice-chosen (l ∷ ls) (nextLabel same less own (l ∷ ls ++ l ∷ ls)) (next-chosen order own l (ls ++ l ∷ ls))) (next-chosen order own l ls)

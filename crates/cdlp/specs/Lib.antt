@@ -2,4 +2,5 @@
 pub mod Label
 pub mod Rounds
 pub mod Promise
+pub mod Meaning
 pub mod Steps

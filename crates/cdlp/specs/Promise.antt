@@ -12,7 +12,7 @@ use Rattle.graph.specs.Sound.{Graph, soundGraph}
 use Rattle.kernels.specs.Answer.{kernelSays}
 use Rattle.cdlp.specs.Rounds.{cdlpOf}
 
--- "Library limits: .. 1,000 CDLP iterations"
+-- "1,000 CDLP iterations", of the library limits
 abbrev pub mostRounds : ℕ
 mostRounds = 1000
 

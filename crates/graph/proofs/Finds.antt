@@ -11,11 +11,13 @@ use lib.IntN.{ℤ, pos}
 use lib.ListN.{length, getD}
 use borrow.Author.Tests.{lt-ltb, le-ltb, eqb-true}
 use Rattle.basis.specs.Order.{sameZ, risingBy, risingZ}
-use Rattle.basis.proofs.Tests.{clash, bool-cases}
+use Rattle.basis.specs.Refusal.{gives, refuses, plain, notThere}
+use Rattle.basis.proofs.Tests.{clash, no-case, bool-cases}
+use Rattle.basis.proofs.Saids.{refused-given, given-one}
 use Rattle.basis.proofs.Orders.{Order, less-trans, rising-less, same-places, signed-order}
 use Rattle.graph.specs.declared.find.Found.{Found}
 use Rattle.graph.specs.declared.find.Found.the-variants.{At, Missing}
-use Rattle.graph.specs.Find.{placeFrom, placeIn, bisect, bisectBy, bisected}
+use Rattle.graph.specs.Find.{placeFrom, placeIn, foundSays, bisect, bisectBy, bisected, StandsAt, Searched}
 
 -- ---- one turn
 module _ {A : Type 0} (less : A → A → Bool) (z : A) (l : List A) (x : A) where
@@ -188,5 +190,43 @@ pub find-rising : (l : List ℤ) (id : ℤ) → risingZ l ≡ true → bisected 
 find-rising l id r = right-one signed-order (pos 0) l r id (bisected l id) (placeIn l id) (bisect-finds signed-order (pos 0) l r id) (place-right l id)
 
 -- an identifier has the number i exactly where it stands at place i
-pub place-at : (l : List ℤ) (id : ℤ) → risingZ l ≡ true → (i : ℕ) → (placeIn l id ≡ At i) ↔ ((i < length l) × (getD l i (pos 0) ≡ id))
+pub place-at : (l : List ℤ) (id : ℤ) → risingZ l ≡ true → (i : ℕ) → (placeIn l id ≡ At i) ↔ StandsAt l id i
 place-at l id r i = ((λ e. rw e at (place-right l id)), λ h. right-one signed-order (pos 0) l r id (placeIn l id) (At i) (place-right l id) h)
+
+-- ---- what a search answers, from where it ends
+said-at : (f : Found) (i : ℕ) → foundSays f ≡ gives i → f ≡ At i
+said-at (At j) i e = ap At (given-one e)
+said-at Missing i e = refused-given e
+
+said-missing : (f : Found) → foundSays f ≡ refuses (plain notThere) → f ≡ Missing
+said-missing (At j) e = refused-given (sym e)
+said-missing Missing e = refl
+
+said-one : (f g : Found) → foundSays f ≡ foundSays g → f ≡ g
+said-one f (At i) e = said-at f i e
+said-one f Missing e = said-missing f e
+
+-- a search that ends where the bisection does answers what it should
+pub searched : (ids : List ℤ) (id : ℤ) (f : Found) → f ≡ bisected ids id → Searched ids id f
+searched ids id f e =
+    record {
+      anyList = ap foundSays e;
+      found = λ r i.
+          let p = place-at ids id r i in
+          ((λ s. p .0 (sym (here r) ∙ said-at f i s)), λ h. ap foundSays (here r ∙ p .1 h));
+      missing = λ r. (
+        (λ s i h. no-case (let z : At i ≡ Missing = sym (place-at ids id r i .1 h) ∙ sym (here r) ∙ said-missing f s in cc)),
+        λ none. by r f refl none,
+      );
+    }
+  where
+    here : risingZ ids ≡ true → f ≡ placeIn ids id
+    here r = e ∙ find-rising ids id r
+
+    by : risingZ ids ≡ true → (x : Found) → f ≡ x → ((i : ℕ) → StandsAt ids id i → ⊥) → foundSays f ≡ refuses (plain notThere)
+    by r (At i) q none = absurd (none i (place-at ids id r i .0 (sym (here r) ∙ q)))
+    by r Missing q none = ap foundSays q
+
+-- and one that answers what it should ends where the bisection does
+pub searched-is : {ids : List ℤ} {id : ℤ} {f : Found} → Searched ids id f → f ≡ bisected ids id
+searched-is {ids} {id} {f} s = said-one f (bisected ids id) (s .anyList)

@@ -1,6 +1,6 @@
 -- What a sound graph is, clause by clause: the readable meaning of `soundGraph`. Assumes nothing.
 use Prim.Native.Nat.{ℕ, zero, suc, _+_, _-_, _≤_, _<_}
-use mathlib.Core.Path.{_≡_, refl, sym}
+use mathlib.Core.Path.{_≡_, refl, sym, _∙_}
 use mathlib.Core.Logic.{_↔_}
 use mathlib.Core.Bool.{true, not, _&&_}
 use mathlib.Core.List.{List, [], _∷_}
@@ -13,11 +13,12 @@ use lib.Dec.{eqb, leb, ltb}
 use borrow.Author.Tests.{ltb-true, leb-true, eqb-true, eqb-false, not-true, lt-ltb, le-leb, eq-eqb}
 use Rattle.basis.specs.Order.{rising, risingZ}
 use Rattle.basis.specs.Scan.{every, each, allBelow, mem}
-use Rattle.basis.proofs.Tests.{and-first, and-second, and-both}
-use Rattle.basis.proofs.Scans.{every-at, every-of, each-at, each-of, mem-index, each-mem, below-of}
+use Rattle.basis.proofs.Tests.{and-first, and-second, and-both, same-test}
+use Rattle.basis.proofs.Scans.{every-at, every-of, each-at, each-of, mem-index, each-mem, below-of, below-mem}
+use Rattle.basis.proofs.Sets.{rising-starts, starts-same}
 use Rattle.basis.proofs.Orders.{rising-lt}
 use Rattle.graph.specs.Part.{partOf}
-use Rattle.graph.specs.Sound.{Graph, outward, inward, names, soundIds, soundOffsets, other, soundPart, soundSide, mirrored, soundSides, soundGraph}
+use Rattle.graph.specs.Sound.{Graph, outward, inward, names, soundIds, soundOffsets, other, soundPart, soundSide, mirrored, soundSides, soundGraph, Undirected}
 use Rattle.graph.specs.Find.{placeIn, bisected}
 use Rattle.graph.proofs.Parts.{part-whole}
 use Rattle.graph.proofs.Finds.{find-rising}
@@ -139,6 +140,16 @@ module _ (g : Graph) (s : Sound g) where
   pub arcs-agree : (u w : ℕ) → u < g .vertices → w < g .vertices → (mem w (outward g u) ≡ true) ↔ (mem u (inward g w) ≡ true)
   arcs-agree u w lu lw =
       (mirrored-at (g .vertices) (outward g) (inward g) (s .back) u w lu, mirrored-at (g .vertices) (inward g) (outward g) (s .forth) w u lw)
+
+  -- of an undirected graph, where "each edge is bidirectional", the incoming neighbours are the outgoing ones
+  pub same-neighbours : Undirected g → (v : ℕ) → v < g .vertices → inward g v ≡ outward g v
+  same-neighbours both v l =
+      let i = inward g v in let o = outward g v in
+      starts-same (λ j. true) (λ j. true) i o (sym (rising-starts i) ∙ inward-rises v l) (sym (rising-starts o) ∙ outward-rises v l)
+      (λ w.
+      same-test (mem w i) (mem w o)
+      (λ m. let h = below-mem (g .vertices) i (inward-below v l) w m in both w v h l (arcs-agree w v h l .1 m))
+      (λ m. let h = below-mem (g .vertices) o (outward-below v l) w m in arcs-agree w v h l .0 (both v w l h m)))
 
 -- ---- the reverse: a graph with these properties is sound
 side-from : {n m : ℕ} {off tgt : List ℕ} → Side n m off tgt → soundSide n m off tgt ≡ true

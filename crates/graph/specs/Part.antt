@@ -5,7 +5,7 @@ use mathlib.Core.List.{List, []}
 use lib.ListN.{length, getD, take, drop}
 use lib.Dec.{ltb, leb}
 
--- the targets from one offset to the next; "an empty part where its two offsets fall, or pass the target area"
+-- the targets from one offset to the next; an empty part where the two "fall, or pass the target area"
 unfoldable pub between : List ℕ → ℕ → ℕ → List ℕ
 between targets from to = cond (leb from to && leb to (length targets)) (take (to - from) (drop from targets)) []
 

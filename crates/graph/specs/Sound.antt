@@ -1,6 +1,7 @@
 -- 01 "The loaded graph": what a lent graph is, and when it is sound, as a test that computes.
-use Prim.Native.Nat.{ℕ, _+_}
-use mathlib.Core.Bool.{Bool, not, _&&_}
+use Prim.Native.Nat.{ℕ, _+_, _<_}
+use mathlib.Core.Path.{_≡_}
+use mathlib.Core.Bool.{Bool, true, not, _&&_}
 use mathlib.Core.List.{List}
 use lib.IntN.{ℤ}
 use lib.ListN.{length, getD, take}
@@ -10,7 +11,7 @@ use Rattle.basis.specs.Scan.{every, each, mem}
 use Rattle.graph.specs.declared.Size.{Size}
 use Rattle.graph.specs.Part.{partOf}
 
--- "Library limits: 65,536 vertices, .. 2,097,152 stored arcs"
+-- "Library limits: 65,536 vertices"
 abbrev pub mostVertices : ℕ
 mostVertices = 65536
 
@@ -85,7 +86,7 @@ mirrored n from back = every n (λ u. each (λ w. mem u (back w)) (from u))
 abbrev pub bothWays : ℕ → (ℕ → List ℕ) → (ℕ → List ℕ) → Bool
 bothWays n out into = mirrored n out into && mirrored n into out
 
--- "A graph that breaks .. a limit, or whose areas are too short for its stated counts", or whose identifiers or one way are unsound for themselves
+-- the limits are kept, no area is "too short for its stated counts", and the identifiers and each way are sound for themselves
 unfoldable pub soundSides : Graph → Bool
 soundSides g =
     (leb (g .vertices) mostVertices && leb (g .arcs) mostArcs) && soundIds g
@@ -94,3 +95,7 @@ soundSides g =
 -- "A graph that breaks any of this, or a limit, or whose areas are too short for its stated counts, is unsound (9)"
 unfoldable pub soundGraph : Graph → Bool
 soundGraph g = soundSides g && bothWays (g .vertices) (outward g) (inward g)
+
+-- 000, 2.3: "For undirected graphs, each edge is bidirectional": an arc leads back wherever one leads out
+abbrev pub Undirected : Graph → Type 0
+Undirected g = (u w : ℕ) → u < g .vertices → w < g .vertices → mem w (outward g u) ≡ true → mem u (outward g w) ≡ true

@@ -1,6 +1,5 @@
 // Where an identifier stands.
-ghost use mathlib.Core.Path.{_≡_};
-ghost use Rattle.graph.specs.Find.{bisected};
+ghost use Rattle.graph.specs.Find.{Searched};
 
 // The place of an identifier in a list, or that it isn't there.
 pub enum Found {
@@ -10,7 +9,7 @@ pub enum Found {
 
 // The place of an identifier in a list that rises; in any other list, where a bisection ends.
 pub fn find(ids: &[i64], id: i64) -> Found
-    ensures { λ r. ⌜ r ≡ bisected (now (ids .entry)) id ⌝ }
+    ensures { λ r. ⌜ Searched (now (ids .entry)) id r ⌝ }
 {
     let mut low = 0;
     let mut high = ids.len();

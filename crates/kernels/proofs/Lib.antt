@@ -1,2 +1,3 @@
 -- Laws that the four kernels share.
 pub mod Ends
+pub mod Results

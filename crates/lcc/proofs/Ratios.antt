@@ -3,7 +3,7 @@ use mathlib.Core.Path.{_≡_, refl, sym, ap, _∙_, subst}
 use Prim.Native.Nat.{ℕ, zero, suc, _*_, _/_, _%_, _≤_, _<_, _∣_}
 use native.Mathlib.Nat.{mod-lt, dvd-refl, dvd-antisymm, dvd-mul-right, dvd-zero, dvd-mod-iff, pos-of-dvd-of-pos, mul-dvd-mul-left, mul-div-cancel', div-mul-cancel, dvd-of-mul-dvd-mul-left, eq-one-of-dvd-one, mul-one, zero-div, div-self, div-zero, mul-assoc}
 use native.Mathlib.Omega.{arith}
-use Rattle.lcc.specs.Ratio.{euclid, gcdOf, lowest}
+use Rattle.lcc.specs.Ratio.{Lowest, euclid, gcdOf, lowest}
 
 -- more steps than enough change nothing
 enough : (k m a b : ℕ) → b ≤ k → b ≤ m → euclid k a b ≡ euclid m a b
@@ -81,15 +81,15 @@ module _ (a b : ℕ) (p : 0 < b) where
       let d : b / g ∣ b = subst (λ (k : ℕ). b / g ∣ k) (div-mul-cancel g (gcd-right a b)) (dvd-mul-right (b / g) g) in
       pos-of-dvd-of-pos d p
 
-  pub reduce-lowest : gcdOf (lowest a b .numerator) (lowest a b .denominator) ≡ 1
+  -- what divides both sides divides both a and b that often more, so it divides the greatest divisor that often more
+  pub reduce-lowest : Lowest (lowest a b)
   unfolding lowest
-  reduce-lowest =
+  reduce-lowest d m n =
       let g = gcdOf a b in
-      let h = gcdOf (a / g) (b / g) in
-      let x : g * h ∣ a = subst (λ (k : ℕ). g * h ∣ k) (mul-div-cancel' g (gcd-left a b)) (mul-dvd-mul-left h g (gcd-left (a / g) (b / g))) in
-      let y : g * h ∣ b = subst (λ (k : ℕ). g * h ∣ k) (mul-div-cancel' g (gcd-right a b)) (mul-dvd-mul-left h g (gcd-right (a / g) (b / g))) in
-      let z : g * h ∣ g * 1 = subst (λ (k : ℕ). g * h ∣ k) (sym (mul-one g)) (gcd-greatest a b (g * h) x y) in
-      eq-one-of-dvd-one (dvd-of-mul-dvd-mul-left h (gcd-pos a b p) z)
+      let x : g * d ∣ a = subst (λ (k : ℕ). g * d ∣ k) (mul-div-cancel' g (gcd-left a b)) (mul-dvd-mul-left d g m) in
+      let y : g * d ∣ b = subst (λ (k : ℕ). g * d ∣ k) (mul-div-cancel' g (gcd-right a b)) (mul-dvd-mul-left d g n) in
+      let z : g * d ∣ g * 1 = subst (λ (k : ℕ). g * d ∣ k) (sym (mul-one g)) (gcd-greatest a b (g * d) x y) in
+      eq-one-of-dvd-one (dvd-of-mul-dvd-mul-left d (gcd-pos a b p) z)
 
 pub reduce-zero : (b : ℕ) → 0 < b → (lowest 0 b .numerator ≡ 0) × (lowest 0 b .denominator ≡ 1)
 unfolding lowest

@@ -3,4 +3,5 @@ pub mod Common
 pub mod Ratio
 pub mod Lcc
 pub mod Promise
+pub mod Meaning
 pub mod Steps

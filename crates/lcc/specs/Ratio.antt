@@ -1,6 +1,11 @@
 -- 01 "Kernels": "the fraction is in lowest terms by Euclid's rule".
-use Prim.Native.Nat.{ℕ, zero, suc, _/_, _%_}
+use mathlib.Core.Path.{_≡_}
+use Prim.Native.Nat.{ℕ, zero, suc, _/_, _%_, _∣_}
 use Rattle.lcc.specs.declared.ratio.Ratio.{Ratio}
+
+-- "in lowest terms": a number that divides both sides is 1
+abbrev pub Lowest : Ratio → Type 0
+Lowest r = (d : ℕ) → d ∣ r .numerator → d ∣ r .denominator → d ≡ 1
 
 -- Euclid's rule, at most k steps of it
 unfoldable pub euclid : ℕ → ℕ → ℕ → ℕ

@@ -20,9 +20,10 @@ use Rattle.text.specs.declared.line.VertexLine.{VertexLine}
 use Rattle.text.specs.declared.line.VertexLine.the-variants as VL
 use Rattle.text.specs.declared.line.EdgeLine.{EdgeLine}
 use Rattle.text.specs.declared.line.EdgeLine.the-variants as EL
-use Rattle.graph.specs.Find.{bisected, isThere}
+use Rattle.graph.specs.Find.{bisected, isThere, Searched}
 use Rattle.graph.specs.declared.find.Found.{Found}
 use Rattle.graph.specs.declared.find.Found.the-variants.{At, Missing}
+use Rattle.graph.proofs.Finds.{searched-is}
 use Rattle.lists.specs.declared.vertices.Vertices.{Vertices}
 use Rattle.lists.specs.declared.edges.Edges.{Edges}
 use Rattle.lists.specs.declared.edges.Ends.{Ends}
@@ -113,16 +114,16 @@ module _ (both : Bool) (k : ℕ) (p q a b a′ b′ : ℤ) (ha : a′ ≡ a) (hb
       order-falls j = rw (self, f, way, h, ordered, j)
 
 -- ---- the vertices of an edge
-module _ (ids : List ℤ) (a b a′ : ℤ) (ha : a′ ≡ a) (x : Found) (e : x ≡ bisected ids a′) where
+module _ (ids : List ℤ) (a b a′ : ℤ) (ha : a′ ≡ a) (x : Found) (e : Searched ids a′ x) where
   from : bisected ids a ≡ x
-  from = ap (bisected ids) (sym ha) ∙ sym e
+  from = ap (bisected ids) (sym ha) ∙ sym (searched-is e)
 
   pub look-from : x ≡ Missing → unknown ≡ lookedBy (bisected ids a) (bisected ids b)
   look-from f = sym (ap (λ (y : Found). lookedBy y (bisected ids b)) (from ∙ f))
 
-  module _ (u : ℕ) (f : x ≡ At u) (b′ : ℤ) (hb : b′ ≡ b) (y : Found) (g : y ≡ bisected ids b′) where
+  module _ (u : ℕ) (f : x ≡ At u) (b′ : ℤ) (hb : b′ ≡ b) (y : Found) (g : Searched ids b′ y) where
     to : bisected ids b ≡ y
-    to = ap (bisected ids) (sym hb) ∙ sym g
+    to = ap (bisected ids) (sym hb) ∙ sym (searched-is g)
 
     both-looked : (z : Found) → y ≡ z → lookedBy (bisected ids a) (bisected ids b) ≡ lookedBy (At u) z
     both-looked z h = ap₂ lookedBy (from ∙ f) (to ∙ h)

@@ -1,6 +1,7 @@
 -- Rules of a walk, beside the library's. The library's words that the walks are written with (`Rules/Words.antt`) are passed on here: a walk imports both from one place.
 --     proved             a function's theorem from its walk: from what is had at entry, at the parameters' machine values, to what the contract promises
 --     Four, proved-four  the signature of the functions that answer a vertex's part, whatever their first parameter is; and `proved` of such a function
+--     passed             what a call in the code of such a function passes, read off its statement
 --     answered           what a call leaves: the result, the tokens, and what the callee ensures
 --     six-made           how a body of six locals begins, four of them parameters
 --     handed-on          how it ends: a callee takes the last local and the parameters after the first, and its answer is the function's own
@@ -56,6 +57,31 @@ word s = sliceVal (s .ptr) (length (s .now))
 
 abbrev pub at : Val → Others → List Val × (List Val × (List Val × (List Val × Unit {0})))
 at u p = (u ∷ [], (word (p .0) ∷ [], (vint w64 (p .1 .0) ∷ [], (vint w64 (p .1 .1 .0) ∷ [], tt))))
+
+-- the number that an operand of such a function's code holds: a copy of local 3 or 4, its last two parameters, or a constant
+abbrev numberIn : Others → Opd → ℕ
+numberIn p (Opd.copy x) = elim x [ place i s ↦ elim (eqb i 3) [ true ↦ p .1 .0 | false ↦ p .1 .1 .0 ] ]
+numberIn p (Opd.int w n) = n
+numberIn p (Opd.intNeg w n) = n
+numberIn p (Opd.intBig w n) = n
+numberIn p (Opd.float f n) = n
+numberIn p Opd.opdTrue = 0
+numberIn p Opd.opdFalse = 0
+numberIn p Opd.opdUnit = 0
+numberIn p (Opd.ptrConst n) = n
+
+-- what a call in its code passes after the first argument: its own second parameter, and two numbers, read off the statement
+abbrev pub passed : Body → Others → Others
+passed (Body.call h xs d) p = (p .0, (numberIn p (getD xs 2 Opd.opdUnit), (numberIn p (getD xs 3 Opd.opdUnit), tt)))
+passed Body.skip p = p
+passed (Body.seq c d) p = p
+passed (Body.assign d x) p = p
+passed (Body.block c) p = p
+passed (Body.loop c) p = p
+passed (Body.cond x c d) p = p
+passed (Body.switch x a) p = p
+passed (Body.exit n) p = p
+passed Body.return p = p
 
 -- the tokens of the two lifetimes
 abbrev pub tokens : {M : Type 1} (𝓤 : URA M) → Lfts 2 → Shares 2 → Item 𝓤

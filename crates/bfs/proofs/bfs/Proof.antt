@@ -6,6 +6,7 @@ use mir.Facts.{toZ-ofZ}
 use Rattle.basis.proofs.Tests.{failed, held}
 use Rattle.graph.specs.Find.{bisected}
 use Rattle.graph.specs.Sound.{Graph, lent, names, soundGraph}
+use Rattle.graph.proofs.Finds.{searched-is}
 use Rattle.graph.proofs.Sounds.{sound-of}
 use Rattle.graph.proofs.Walks.{check-told}
 use Rattle.bfs.proofs.Calls.{sound-inside, call-unsound, call-low, call-found, call-missing, call-over}
@@ -23,7 +24,7 @@ soundAt : (c : tie.Else1) → soundGraph (graphOf (startOf c)) ≡ true
 soundAt c = held _ _ (check-told (c .before .before .before .sound-over .ensures)) (c .if1 .left)
 
 foundAt : (c : tie.After-find) → c .find .result ≡ bisected (names (graphOf (startOf (c .before .before)))) (startOf (c .before .before) .args .root)
-foundAt c = c .find .ensures ∙ ap (bisected (names (graphOf (startOf (c .before .before))))) (toZ-ofZ (startOf (c .before .before) .fits .root))
+foundAt c = searched-is (c .find .ensures) ∙ ap (bisected (names (graphOf (startOf (c .before .before))))) (toZ-ofZ (startOf (c .before .before) .fits .root))
 
 sound-over-requires : tie.Need-sound-over-requires
 sound-over-requires c κs = search needs

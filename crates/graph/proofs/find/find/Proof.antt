@@ -7,7 +7,7 @@ use lib.Signed.{ltZ}
 use mir.Syntax.{w64}
 use mir.Val.{toZ}
 use mir.Facts.{toZ-ofZ}
-use Rattle.graph.proofs.Finds.{Halving, halving-start, halving-up, halving-down, halving-here, halving-end}
+use Rattle.graph.proofs.Finds.{Halving, halving-start, halving-up, halving-down, halving-here, halving-end, searched}
 use Rattle.graph.proofs.find.find.Statement.{statement}
 use Rattle.graph.proofs.find.find.Tie as tie
 
@@ -48,10 +48,10 @@ loop-again-2 : tie.Need-loop-again-2 Inv-loop μ-loop
 loop-again-2 c = (omega arith, search (needs, halving-down))
 
 returns : tie.Need-returns Inv-loop μ-loop
-returns c = rw (← toZ-ofZ (c .before .before .before .before .before .fits .id)) (search (needs, halving-here))
+returns c = searched _ _ _ (rw (← toZ-ofZ (c .before .before .before .before .before .fits .id)) (search (needs, halving-here)))
 
 returns-2 : tie.Need-returns-2 Inv-loop μ-loop
-returns-2 c = rw (← toZ-ofZ (c .before .before .fits .id)) (search halving-end)
+returns-2 c = searched _ _ _ (rw (← toZ-ofZ (c .before .before .fits .id)) (search halving-end))
 
 pub find-spec : {M : Type 1} → statement M
 find-spec =

@@ -3,7 +3,7 @@
 use Rattle.view.proofs.Rules.{_≡_, refl, [], _∷_, Val, emp, id⊢, Atoms, Given, givenOf, tables, framed, cited, Spec, tripleOf, Lfts, NamedLft, namedLft}
 use Rattle.view.proofs.Rules.{plain, SliceRef, ‵, given, _$_, _∵_, !, qed, move, drop, use1, learn, fsplit, fjoin, enter, assigns, of-opd, load, from}
 use Rattle.view.proofs.Rules.{fld, stop, look-in, sub, whole, init, usize, owns, typesAt, all-own, own-open, at, word, tokens, proved-four, six-made}
-use Rattle.view.proofs.Rules.{handed-on}
+use Rattle.view.proofs.Rules.{Others, passed, handed-on}
 use denote.Struct.Laws as LL
 use Rattle.graph.proofs.part.part as part
 use Rattle.view.proofs.held.Neighbours as T
@@ -28,8 +28,9 @@ of-vertex-spec 𝓤 H 𝓜 𝓖 𝓡 =
     -- the machine values of the view, a .0, and of its targets; a .1 are the other parameters
     let md : Val = T.Laws.lowered (a .0) in
     let mt : Val = word (a .0 .targets) in
-    -- the one thing that the answer rests on
-    let same : tripleOf 𝓤 H A part.signature Part .post ((κs, qs, tt, (a .0 .targets, a .1), at mt (a .1)), tt)
+    -- the one thing that the answer rests on: what `part` promises of what the code passes to it
+    let to-part : Others = passed code.Mir.s-2 (a .1) in
+    let same : tripleOf 𝓤 H A part.signature Part .post ((κs, qs, tt, (a .0 .targets, to-part), at mt to-part), tt)
     ≡ tripleOf 𝓤 H A of-vertex.signature Here .post ((κs, qs, tt, a, at md (a .1)), tt) = refl in
     qed W (tokens 𝓤 κs qs ∷ ‵ (owns (typesAt (of-vertex.signature .params) κs) a (at md (a .1))) ∷ []) ∵
     enter ! _ _ code.function _ _ $ six-made ! w (λ l₀ l₁ l₂ l₃ l₄ l₅.
