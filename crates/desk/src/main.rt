@@ -1,11 +1,30 @@
-// The desk program: reads a sheet on standard input and writes what `answer` prints for it. A sheet that is too long fills the first area, which has
-// one place more than a sheet may have; the second has room for every sheet's output.
+// The desk program: reads a sheet on standard input and writes what `answer` prints for it. Of a sheet that is too long it reads 65,537 bytes, one more
+// than a sheet may have, and they print what the whole of it prints (`sheet` `Room.cut-prints`).
 use sheet::answer;
+ghost use mathlib.Core.Path.{_≡_};
+ghost use lib.ListN.{length};
+ghost use Rattle.desk.specs.Whole.{Roomy, Whole};
+
+// An area for the longest output of a sheet.
+fn area() -> [u8; 760000]
+    ensures { λ r. ⌜ 760000 ≡ length r ⌝ }
+{
+    [0; 760000]
+}
+
+// All that the sheet prints whose first n bytes were read, in an area that has room for it.
+fn output<'b, 'o>(bytes: &'b [u8], n: usize, out: &'o mut [u8]) -> &'o [u8]
+    requires { ⌜ Roomy n (now bytes) (now out) ⌝ }
+    ensures { λ r. ⌜ Whole n (now (bytes .entry)) (now r) ⌝ }
+{
+    let m = answer(&bytes[..n], out);
+    let whole = &out[..];
+    &whole[..m]
+}
 
 fn main() {
     let mut bytes = [0u8; 65537];
-    let mut out = [0u8; 760000];
+    let mut out = area();
     let n = io::read_full(0, &mut bytes);
-    let m = answer(&bytes[..n], &mut out);
-    io::write_all(1, &out[..m]);
+    io::write_all(1, output(&bytes, n, &mut out));
 }

@@ -1,17 +1,20 @@
--- The output of every sheet fits an area of 760,000 bytes: a job prints at most 43,013 bytes behind its line, and the lines of the jobs stand in the sheet. Assumes nothing.
+-- The output of every sheet has at most 753,744 bytes: a job prints at most 43,013 bytes behind its line, and the lines of the jobs stand in the sheet.
+-- And a sheet that is too long prints what its first 65,537 bytes print. Assumes nothing.
 use Prim.Native.Nat.{ℕ, zero, suc, _+_, _*_, _^_, _≤_, _<_}
-use mathlib.Core.Path.{_≡_, refl}
+use mathlib.Core.Path.{_≡_, refl, sym, ap, _∙_}
 use mathlib.Core.Bool.{Bool, true, false}
 use mathlib.Core.List.{List, [], _∷_}
 use native.Mathlib.Omega.{arith}
-use borrow.Author.Tests.{ltb-false}
+use borrow.Author.Tests.{lt-ltb, ltb-true, ltb-false}
 use lib.Dec.{eqb, leb, ltb}
 use lib.IntN.{ℤ, pos}
 use lib.ListN.{length, take, length-take}
+use lib.Seq.{take-all}
 use Rattle.basis.proofs.Saids.{Either, either-cond, Any, either-refused, refused-onward}
-use Rattle.basis.specs.Refusal.{Said, gives, refuses}
+use Rattle.basis.specs.Refusal.{Said, gives, refuses, at, tooMany, sheetFile}
 use Rattle.basis.specs.Area.{padWith}
 use Rattle.basis.proofs.Alls.{All, all-take, all-pad}
+use Rattle.basis.proofs.Tests.{bool-cases}
 use Rattle.basis.specs.Limits.{deskVertices, deskEdges}
 use Rattle.text.specs.Word.{Word, identOf, countOf}
 use Rattle.text.specs.Line.{LineSaid, line, none, fault, lf, lineBy}
@@ -26,7 +29,8 @@ use Rattle.plan.specs.declared.sections.Plan.{Plan}
 use Rattle.plan.proofs.Places.{Accepted, accepted}
 use Rattle.write.specs.Put.{written, putAt}
 use Rattle.write.proofs.Puts.{wrote-whole}
-use Rattle.sheet.specs.Desk.{modeNumber, linesIn, graphIn, loadText, planText, checkedText, deskOutput}
+use Rattle.listing.specs.Listing.{refusedText}
+use Rattle.sheet.specs.Desk.{modeNumber, linesIn, graphIn, loadText, planText, checkedText, deskOutput, mostOutput}
 use Rattle.sheet.proofs.Whole.{listsIn, lists-good}
 use Rattle.sheet.proofs.Lengths.{Brief, refused-most, jobs-most}
 
@@ -44,9 +48,6 @@ ids-small (w ∷ ws) [] h = absurd h
 ids-small (w ∷ ws) (z ∷ ids) h = (rw (h .1) at (ident-small w), ids-small ws ids (h .2))
 
 -- ---- an accepted sheet
-abbrev pub mostOutput : ℕ
-mostOutput = 65536 + 16 * 43013
-
 module _ (s : List ℕ) (p : Plan) (a : Accepted s p) where
   plan-by : (x : Said Lists) → listsIn s p ≡ x → Either Any Brief x
       → length (loadText s p (outcomeOf deskRoom x) (outcomeOf deskRoom x .answer)) ≤ mostOutput
@@ -145,6 +146,20 @@ output-fits s = by (checked s) refl (checked-brief s)
     by (gives p) e h = plan-most s p (accepted s p e)
     by (refuses r) e h = omega (arith, refused-most r h)
 
--- so an area of that many places holds the whole of it, at its front: 760,000 are enough
-pub output-whole : (s o : List ℕ) {o′ : List ℕ} {p : ℕ} → written o′ p ≡ putAt o 0 (deskOutput s) → 760000 ≤ length o → (p ≡ length (deskOutput s)) × (take p o′ ≡ deskOutput s)
+-- so an area of that many places holds the whole of it, at its front
+pub output-whole : (s o : List ℕ) {o′ : List ℕ} {p : ℕ} → written o′ p ≡ putAt o 0 (deskOutput s) → mostOutput ≤ length o
+    → (p ≡ length (deskOutput s)) × (take p o′ ≡ deskOutput s)
 output-whole s o w h = wrote-whole o (deskOutput s) w (omega (arith, output-fits s))
+
+-- ---- a sheet that is too long
+too-long : (s : List ℕ) → mostBytes < length s → deskOutput s ≡ refusedText (at tooMany sheetFile 0)
+unfolding deskOutput checked
+too-long s h = rw (lt-ltb mostBytes (length s) h)
+
+-- cut behind its 65,536th byte or later, a sheet prints what the whole of it prints
+pub cut-prints : (k : ℕ) (s : List ℕ) → mostBytes < k → deskOutput (take k s) ≡ deskOutput s
+cut-prints k s h =
+    bool-cases (ltb mostBytes (length s)) (deskOutput (take k s) ≡ deskOutput s)
+    (λ e. let g : mostBytes < length s = ltb-true mostBytes (length s) e in
+    too-long (take k s) (omega (arith, length-take k s)) ∙ sym (too-long s g))
+    (λ e. ap deskOutput (take-all k s (omega (arith, ltb-false mostBytes (length s) e))))

@@ -1,5 +1,5 @@
 -- 01 "Layers, desk program, host call": the whole output of the desk program for the bytes of a sheet.
-use Prim.Native.Nat.{ℕ}
+use Prim.Native.Nat.{ℕ, _+_, _*_}
 use mathlib.Core.Bool.{Bool, cond}
 use mathlib.Core.List.{List}
 use lib.IntN.{ℤ}
@@ -10,7 +10,7 @@ use Rattle.graph.specs.Sound.{Graph, lent}
 use Rattle.load.specs.Load.{Room, Outcome, loadCall, desk, deskRoom}
 use Rattle.plan.specs.declared.sections.Block.{Block}
 use Rattle.plan.specs.declared.sections.Plan.{Plan}
-use Rattle.plan.specs.Sheet.{checked}
+use Rattle.plan.specs.Sheet.{mostBytes, mostJobs, checked}
 use Rattle.listing.specs.Listing.{refusedText}
 use Rattle.sheet.specs.Jobs.{between, jobsText}
 
@@ -48,3 +48,7 @@ checkedText s (refuses r) = refusedText r
 -- the whole output for the bytes of a sheet, by what its check says
 unfoldable pub deskOutput : List ℕ → List ℕ
 deskOutput s = checkedText s (checked s)
+
+-- no sheet prints more bytes than this: the lines of the jobs stand in the sheet, and each job prints at most 43,013 bytes behind its line
+abbrev pub mostOutput : ℕ
+mostOutput = mostBytes + mostJobs * 43013

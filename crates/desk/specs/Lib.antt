@@ -1,0 +1,2 @@
+-- What private functions ask for and promise.
+pub mod Whole
