@@ -40,7 +40,7 @@ loadText s p o (refuses r) = refusedText r
 unfoldable pub planText : List ℕ → Plan → List ℕ
 planText s p = loadText s p (loadOf s p deskRoom) (loadOf s p deskRoom .answer)
 
--- "A sheet is checked .. Then the load .. Each job prints"
+-- "A sheet is checked", and where it is refused it "prints one line": else what its plan prints
 abbrev pub checkedText : List ℕ → Said Plan → List ℕ
 checkedText s (gives p) = planText s p
 checkedText s (refuses r) = refusedText r

@@ -34,7 +34,8 @@ slice-aggregate-output-2 : tie.Need-slice-aggregate-output-2
 slice-aggregate-output-2 c = search needs
 
 output-requires : tie.Need-output-requires
-output-requires c κs = roomy _ _ (c .before .before .before .read-full .ensures .0) (slice-aggregate-output (c .before)) (slice-aggregate-output-2 c) refl refl
+output-requires c κs =
+    roomy _ _ (c .before .before .before .read-full .ensures .0) (slice-aggregate-output (c .before)) (slice-aggregate-output-2 c) refl refl
 
 write-all-requires : tie.Need-write-all-requires
 write-all-requires c κs = search needs

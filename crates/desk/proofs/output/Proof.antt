@@ -14,7 +14,8 @@ use Rattle.desk.specs.Whole.{Roomy, Whole}
 use Rattle.desk.proofs.output.Statement.{statement}
 use Rattle.desk.proofs.output.Tie as tie
 
-module _ (n : ℕ) (bytes out : List ℕ) (r : Roomy n bytes out) {o′ : List ℕ} {p : ℕ} (w : written o′ p ≡ putAt out 0 (deskOutput (take n bytes))) where
+module _ (n : ℕ) (bytes out : List ℕ) (r : Roomy n bytes out) {o′ : List ℕ} {p : ℕ}
+    (w : written o′ p ≡ putAt out 0 (deskOutput (take n bytes))) where
   whole : Whole n bytes (take p o′)
   whole sheet e = output-whole (take n bytes) out w (r .room) .1 ∙ ap deskOutput e ∙ cut-prints (length bytes) sheet (r .over)
 
@@ -31,10 +32,11 @@ answer-requires c κs = search needs
 
 slice-aggregate-result : tie.Need-slice-aggregate-result
 slice-aggregate-result c =
-    sym (length-take-le _ _ (inside _ _ _ (c .before .before .before .before .before .before .before .before .before .pre) (c .before .before .before .before .answer .ensures)))
+    let a = c .before .before .before .before in
+    sym (length-take-le _ _ (inside _ _ _ (a .before .before .before .before .before .pre) (a .answer .ensures)))
 
 returns : tie.Need-returns
-returns c = whole _ _ _ (c .before .before .before .before .before .before .before .before .before .pre) (c .before .before .before .before .answer .ensures)
+returns c = let a = c .before .before .before .before in whole _ _ _ (a .before .before .before .before .before .pre) (a .answer .ensures)
 
 pub output-spec : {M : Type 1} → statement M
 output-spec =
