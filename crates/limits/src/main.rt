@@ -1,5 +1,6 @@
 // Runs what the rules say to run at the library's limits; what it prints is stored beside it.
 use basis::Refusal;
+use load::Limits;
 use load::Loaded;
 
 fn words(text: &[u8]) {
@@ -51,8 +52,8 @@ fn run(vertices: &[u8]) {
     ));
 }
 
-// Vertex files of 65,535, 65,536 and 65,537 lines, the numbers from 0 on, written as they are loaded.
-fn fill(text: &mut [u8]) {
+// Vertex files of 65,535, 65,536 and 65,537 lines, the numbers from 0 on, written as they are loaded; the end of the last.
+fn fill(text: &mut [u8]) -> usize {
     let mut at = 0;
     let mut line = 0;
     while line < 65537 {
@@ -63,12 +64,43 @@ fn fill(text: &mut [u8]) {
             front(text, at);
         }
     }
+    at
 }
 
 // The load of a file's first bytes.
 fn front(text: &[u8], end: usize) {
     if end <= text.len() {
         run(&text[..end]);
+    }
+}
+
+// A load at limits above the library's, which count as the library's.
+fn run_above(vertices: &[u8]) {
+    let mut ids = [0i64; 1];
+    let mut out_offsets = [0usize; 1];
+    let mut out_targets = [0usize; 1];
+    let mut in_offsets = [0usize; 1];
+    let mut in_sources = [0usize; 1];
+    shown(load::load_within(
+        Limits {
+            vertices: 70000,
+            edges: 0,
+        },
+        1,
+        vertices,
+        b"",
+        &mut ids,
+        &mut out_offsets,
+        &mut out_targets,
+        &mut in_offsets,
+        &mut in_sources,
+    ));
+}
+
+// The same of a file's first bytes.
+fn front_above(text: &[u8], end: usize) {
+    if end <= text.len() {
+        run_above(&text[..end]);
     }
 }
 
@@ -95,6 +127,7 @@ fn joined_to_itself() {
 fn main() {
     let mut text = [0u8; 400000];
     run(b"");
-    fill(&mut text);
+    let end = fill(&mut text);
     joined_to_itself();
+    front_above(&text, end);
 }
