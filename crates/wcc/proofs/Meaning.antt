@@ -1,23 +1,23 @@
 -- What the labels of a sound graph mean: document 000, 2.3.3 and 01's house label. Assumes nothing.
-use Prim.Native.Nat.{ℕ, _+_, _-_, _≤_, _<_}
+use Prim.Native.Nat.{ℕ, _≤_, _<_}
 use mathlib.Core.Path.{_≡_, refl, sym, ap, _∙_}
 use mathlib.Core.Logic.{_↔_}
 use mathlib.Core.Bool.{true, false}
 use mathlib.Core.List.{List}
 use native.Mathlib.Omega.{arith}
 use lib.IntN.{ℤ, pos}
-use lib.ListN.{length, getD, List·getD-append}
-use lib.Seq.{getD-append-add}
+use lib.ListN.{length, getD}
 use lib.Signed.{ltZ}
 use borrow.Author.Tests.{eqb-true, le-ltb}
 use Rattle.basis.specs.Area.{padZ}
 use Rattle.basis.specs.Order.{sameZ}
 use Rattle.basis.specs.Scan.{mem}
 use Rattle.basis.proofs.Orders.{same-places, less-places, signed-order}
-use Rattle.basis.proofs.Areas.{column-length, column-at, pad-length, replicate-at}
+use Rattle.basis.proofs.Areas.{column-length, column-at}
 use Rattle.graph.specs.Sound.{Graph, outward, inward, names, soundGraph}
 use Rattle.graph.proofs.Sounds.{Sound, sound-of, outward-below, names-length, arcs-agree}
 use Rattle.kernels.specs.Answer.{kernelSays}
+use Rattle.kernels.proofs.Results.{pad-value, pad-behind}
 use Rattle.wcc.specs.Component.{along, back, first, labelOf, wccOf}
 use Rattle.wcc.specs.Promise.{roomFor, leftBy, wccCall}
 use Rattle.wcc.specs.Meaning.{LinkedIn, Done, Called}
@@ -84,22 +84,18 @@ module _ (g : Graph) (R : List ℤ) (P S : List ℕ) where
     same = λ u v k l. rw (at u k, at v l) (labels-same g s u v k l);
     member = λ v l. rw (at v l) (labels-member g s v l);
     least = λ u v k l p. rw (at v l) (labels-least g s u v k l p);
-    whole = pad-length (pos 0) (length R) (wccOf g) fits;
-    beyond = λ v k.
-        let q : v ≡ length (wccOf g) + (v - length (wccOf g)) = omega (arith, wcc-length g s) in
-        ap (λ (i : ℕ). getD (padZ (length R) (wccOf g)) i (pos 0)) q
-        ∙ getD-append-add (wccOf g) _ (v - length (wccOf g)) (pos 0) ∙ replicate-at (pos 0) (length R - length (wccOf g)) (v - length (wccOf g));
+    behind = pad-behind (pos 0) (g .vertices) (length R) (wccOf g) (wcc-length g s) fits;
     zeros = (refl, refl);
   })
     where
       s : Sound g
       s = sound-of g t
 
-      fits : length (wccOf g) ≤ length R
-      fits = omega (arith, wcc-length g s, first-result (g .vertices) R P S r R refl)
+      fits : g .vertices ≤ length R
+      fits = first-result (g .vertices) R P S r R refl
 
       at : (v : ℕ) → v < g .vertices → getD (padZ (length R) (wccOf g)) v (pos 0) ≡ getD (wccOf g) v (pos 0)
-      at v l = List·getD-append (wccOf g) _ (pos 0) v (omega (arith, wcc-length g s))
+      at v l = pad-value (pos 0) (g .vertices) (length R) (wccOf g) (wcc-length g s) fits v l
 
   -- what the public call means, on every graph and every area
   pub wcc-call : Called g R P S (wccCall g R P S)

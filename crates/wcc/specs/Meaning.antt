@@ -1,5 +1,5 @@
 -- What a call of the kernel means, apart from how it is computed: 01 "Kernels" and document 000, 2.3.3.
-use Prim.Native.Nat.{ℕ, _≤_, _<_}
+use Prim.Native.Nat.{ℕ, _<_}
 use mathlib.Core.Path.{_≡_}
 use mathlib.Core.Logic.{_↔_}
 use mathlib.Core.Bool.{true, false}
@@ -10,6 +10,7 @@ use lib.Signed.{ltZ}
 use Rattle.basis.specs.Refusal.{gives, refuses, plain, unsound, noRoom}
 use Rattle.basis.specs.Area.{cleared, clearedZ}
 use Rattle.graph.specs.Sound.{Graph, outward, names, soundGraph}
+use Rattle.kernels.specs.Result.{ZeroBehind}
 use Rattle.wcc.specs.Component.{Linked}
 use Rattle.wcc.specs.Promise.{Outcome, outcome, roomFor}
 
@@ -26,9 +27,7 @@ pub record Done (g : Graph) (result : List ℤ) (parents sizes : List ℕ) (o : 
   pub member : (v : ℕ) → v < g .vertices → (u : ℕ) × (u < g .vertices) × LinkedIn g u v × (getD (o .result) v (pos 0) ≡ getD (names g) u (pos 0))
   -- and no member's is smaller
   pub least : (u v : ℕ) → u < g .vertices → v < g .vertices → LinkedIn g u v → ltZ (getD (names g) u (pos 0)) (getD (o .result) v (pos 0)) ≡ false
-  -- "places beyond the ones used are zero", in an area as long as it was
-  pub whole : length (o .result) ≡ length result
-  pub beyond : (v : ℕ) → g .vertices ≤ v → getD (o .result) v (pos 0) ≡ pos 0
+  pub behind : ZeroBehind (pos 0) (g .vertices) (length result) (o .result)
   -- "working areas are zero throughout"
   pub zeros : (o .parents ≡ cleared parents) × (o .sizes ≡ cleared sizes)
 
