@@ -3,7 +3,7 @@ use Prim.Native.Nat.{ℕ}
 use mathlib.Core.Bool.{Bool, cond}
 use Rattle.basis.specs.declared.refusal.Refusal.{Refusal}
 
--- "A refusal returns its number, a file number and a line counted from 1"
+-- "A refusal returns its number, a file number (1 vertex, 2 edge, 3 claim, 4 sheet, 0 none) and a line counted from 1"
 abbrev pub at : ℕ → ℕ → ℕ → Refusal
 at number file line = record { number = number; file = file; line = line }
 

@@ -89,13 +89,13 @@ cases =
     ∷ (vertexOf (bytes "9223372036854775808\n") is reads (fault 3 0))
     -- P3 "`-0` is 2"
     ∷ (vertexOf (bytes "-0\n") is reads (fault 2 0))
-    -- P4 "bfs 2 / 5 / -3 9223372036854775807 / 2 0 / 5 1 / 9 1 / 20 2"
+    -- P4 `bfs 2 / 5 / -3 9223372036854775807 / 2 0 / 5 1 / 9 1 / 20 2`
     ∷ (bfsFrom (pos 2) is results (gives tt) (pos 9223372036854775807 ∷ pos 0 ∷ pos 1 ∷ pos 1 ∷ pos 2 ∷ []))
-    -- P5 "wcc / 5 / -3 -3 / 2 2 / 5 2 / 9 2 / 20 2"
+    -- P5 `wcc / 5 / -3 -3 / 2 2 / 5 2 / 9 2 / 20 2`
     ∷ (wccLabels is results (gives tt) (minusOf 3 ∷ pos 2 ∷ pos 2 ∷ pos 2 ∷ pos 2 ∷ []))
-    -- P6 "cdlp 2 / 5 / -3 -3 / 2 2 / 5 5 / 9 2 / 20 2"
+    -- P6 `cdlp 2 / 5 / -3 -3 / 2 2 / 5 5 / 9 2 / 20 2`
     ∷ (cdlpAfter (pos 2) is results (gives tt) (minusOf 3 ∷ pos 2 ∷ pos 5 ∷ pos 2 ∷ pos 2 ∷ []))
-    -- P7 "lcc / 5 / -3 0/1 / 2 1/2 / 5 1/2 / 9 1/3 / 20 0/1"
+    -- P7 `lcc / 5 / -3 0/1 / 2 1/2 / 5 1/2 / 9 1/3 / 20 0/1`
     ∷ (lccFractions is fractions (gives tt) (0 ∷ 1 ∷ 1 ∷ 1 ∷ 0 ∷ []) (1 ∷ 2 ∷ 2 ∷ 3 ∷ 1 ∷ []))
     -- P8 "CDLP 1 gives -3, 5, 2, 2, 9"
     ∷ (cdlpAfter (pos 1) is results (gives tt) (minusOf 3 ∷ pos 5 ∷ pos 2 ∷ pos 2 ∷ pos 9 ∷ []))

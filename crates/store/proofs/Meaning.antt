@@ -145,7 +145,7 @@ module _ (both : Bool) (n : ℕ) (es : List Arc) (valid : Valid both n es) (ids 
       (and-both (mirror-built n oo ot io is l joins a b c d)
       (rw (backward-twice l) at (mirror-built n io is oo ot (backward l) (join-backward n l joins) c (rw k d) a (rw k b))))
 
-  -- "w is in u's outward part exactly where the edge file has that arc"
+  -- w is in u's outward part exactly where the edge file has that arc
   pub stored-outward : (u w : ℕ) → u < n → mem w (outward (storedGraph n (arcs both es) ids oo ot io is) u) ≡ hasArc (arcs both es) u w
   stored-outward u w h = ap (mem w) (part-stored n oo ot (arcs both es) joins a b u h) ∙ mem-targets (arcs both es) u w
 
