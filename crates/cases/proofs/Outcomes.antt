@@ -94,7 +94,7 @@ use Rattle.trace.proofs.group_book.trace_book_limit as trace-trace_book_limit
 use Rattle.trace.proofs.judging.trace_judge as trace-trace_judge
 use Rattle.trace.proofs.judging.trace_verdict as trace-trace_verdict
 use Rattle.text.proofs.Saids.{count-one, scan-one, vertex-one, edge-one, coefficient-one}
-use Rattle.book.proofs.Answers.{one-opened, one-joined, one-headed, one-compared, one-reading}
+use Rattle.book.proofs.Answers.{one-opened, one-joined, one-joinedEach, one-headed, one-compared, one-reading}
 use Rattle.plan.proofs.Saids.{job-one, checked-one}
 use Rattle.cases.specs.Outcome.{One, OneAs}
 use Rattle.cases.proofs.Answers.{one-kernel, one-listed, one-loaded}
@@ -193,7 +193,7 @@ pub book-join-one : One book-join.ended (λ M 𝓤. book-join.clauses 𝓤)
 book-join-one = record { promise = book-join.Reads.Learnt; told = refl; one = λ _ _ z z′ _ _ p q. (one-joined z z′ (ap (λ o. o .said) (meet p q)), ap (λ o. (o .area .parents, (o .area .sizes, (tt, (tt, tt))))) (meet p q)) }
 
 pub book-join_each-one : One book-join_each.ended (λ M 𝓤. book-join_each.clauses 𝓤)
-book-join_each-one = record { promise = book-join_each.Reads.Learnt; told = refl; one = λ _ _ _ _ _ _ p q. (refl, ap (λ o. (o .parents, (o .sizes, (tt, (tt, tt))))) (meet p q)) }
+book-join_each-one = record { promise = book-join_each.Reads.Learnt; told = refl; one = λ _ _ z z′ _ _ p q. (one-joinedEach z z′ (ap (λ o. o .said) (meet p q)), ap (λ o. (o .area .parents, (o .area .sizes, (tt, (tt, tt))))) (meet p q)) }
 
 pub book-head-one : One book-head.ended (λ M 𝓤. book-head.clauses 𝓤)
 book-head-one = record { promise = book-head.Reads.Learnt; told = refl; one = λ _ _ z z′ _ _ p q. (one-headed z z′ (meet p q), refl) }
