@@ -59,7 +59,7 @@ module _ (M : Machine) (L : Faithful M) (n : ℕ) (a : M .Area) (js : List Slip)
   held-all u ws k b =
       let s = state a (gives tt) js (H .merges) in
       let m = run M s (joinings u ws) .merges - H .merges in
-      let e : Answer.joinsEach (joinEach M a u ws .said) ≡ Answer.joinsEach (all m) = held-kept .all-accepted u ws k b .0 in
+      let e : Answer.joinsEach (joinEach M a u ws .said) ≡ Answer.joinsEach (all m) = held-kept .allAccepted u ws k b .0 in
       (m, cc)
 
   -- so they are of the series

@@ -225,7 +225,7 @@ module _ (M : Machine) (n : ℕ) (s : State (M .Area)) (W : Whole M n s) where
     linked = kept-linked;
     compared = λ u v k l. ap Answer.compares (same-answer n _ _ _ W u v k l ∙ ap₂ (λ (g h : ℕ). gives (eqb g h)) (sym (head-is u k)) (sym (head-is v l)));
     accepted = λ u v k l. ap Answer.joins (join-said u v k l);
-    all-accepted = each;
+    allAccepted = each;
     sized = λ v l. ap Answer.reads (size-answer n _ _ _ W v l ∙ ap gives (sym (members-are v l)));
     limited = kept-limited;
     counted = (ap Answer.reads (count-answer n _ _ _ W), omega (arith, W .forest .counted));
@@ -247,9 +247,9 @@ module _ (M : Machine) (L : Faithful M) (n : ℕ) where
       let q : joinEach M (joinBook M (s .area) u w .area) u ws .said ≡ all (ih .0) = ap (λ (a : M .Area). joinEach M a u ws .said) (sym (join-area M s u w)) ∙ ih .1 in
       (ih .0 + mergesBy j, ap (λ (d : EachDone (M .Area)). d .said) (each-said M u (s .area) w ws j e) ∙ ap (counted 1 (mergesBy j)) q, each-goes M s u w ws j e ∙ ih .2)
 
-  all-accepted-of : (s : State (M .Area)) → Whole M n s → AllAccepted M n s
+  every-accepted : (s : State (M .Area)) → Whole M n s → AllAccepted M n s
   unfolding answer after
-  all-accepted-of s W u ws k b =
+  every-accepted s W u ws k b =
       let t = each-accepted s W u ws k b in
       let q : s .merges + t .0 ≡ run M s (joinings u ws) .merges
       = ap (λ (x : Each). s .merges + mergesOf x) (sym (t .1)) ∙ ap (λ (x : State (M .Area)). x .merges) (t .2) in
@@ -288,4 +288,4 @@ demand3 M L s f cs =
     let W : Whole M n (after M s Call.opening) = rw (open-is M (s .area) f) (sound-open M L n (s .area) [] 0 f refl) in
     let e : after M s Call.opening .latest ≡ gives tt = rw (open-is M (s .area) f) in
     let K = run-whole M L n _ W cs in
-    whole-kept M n _ K (run-latest M L n _ W e cs) (all-accepted-of M L n _ K)
+    whole-kept M n _ K (run-latest M L n _ W e cs) (every-accepted M L n _ K)

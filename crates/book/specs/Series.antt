@@ -158,7 +158,7 @@ pub record Kept (M : Machine) (n : ℕ) (s : State (M .Area)) : Type 0 where
   -- "refuses no join of its vertices": a join of two of them finds one group where their heads are equal, and merges two where they differ
   pub accepted : (u v : ℕ) → u < n → v < n → answer M s (joining u v) ≡ joins (gives (cond (eqb (headAt (shown M s) u) (headAt (shown M s) v)) same merged))
   -- nor any of the joins of a vertex with each of a list: it says that all were accepted, and how many merged; they do what they do by a call each
-  pub all-accepted : (u : ℕ) (ws : List ℕ) → u < n → allBelow n ws ≡ true
+  pub allAccepted : (u : ℕ) (ws : List ℕ) → u < n → allBelow n ws ≡ true
       → (answer M s (joiningEach u ws) ≡ joinsEach (all (run M s (joinings u ws) .merges - s .merges))) × (after M s (joiningEach u ws) ≡ run M s (joinings u ws))
   -- "After any series of calls since its latest opening, refused ones included, two vertices have the same head exactly when a chain of joins accepted in that series links them."
   pub linked : (u v : ℕ) → u < n → v < n → (headAt (shown M s) u ≡ headAt (shown M s) v) ↔ Linked (s .slips) u v
