@@ -27,7 +27,7 @@ use Rattle.text.specs.File.{FirstFault}
 use Rattle.text.proofs.Files.{file-refused}
 use Rattle.graph.specs.Arcs.{Arc, arcs}
 use Rattle.graph.specs.Find.{placeIn, isThere}
-use Rattle.graph.specs.Sound.{Graph, outward, inward, soundIds, soundGraph}
+use Rattle.graph.specs.Sound.{Graph, outward, inward, soundIds, soundGraph, Undirected}
 use Rattle.store.proofs.Fits.{arc-count}
 use Rattle.store.proofs.Order.{Valid}
 use Rattle.store.proofs.Meaning.{hasArc, storedGraph, stored-sound, stored-outward, stored-inward}
@@ -261,6 +261,21 @@ module _ (limits : Limits) (mode : ℕ) (room : Room) (vertices edges : List ℕ
       (ok .outOffsetsFit) out-fits (ok .inOffsetsFit) in-fits u w hw
       ∙ has-listed (g .ids) (ok .goodVertices .rise) u w hu hw both (ok .list) (ok .goodEdges .there)
       ∙ ap (λ (l : List (ℤ × ℤ)). listsArc both l (getD (g .ids) u (pos 0)) (getD (g .ids) w (pos 0))) (same-list list fine)
+
+  arc-back : (t p q : Bool) → t ≡ true → (p || (t && q)) ≡ (q || (t && p))
+  arc-back t true true e = refl
+  arc-back t true false e = rw e
+  arc-back t false true e = rw e
+  arc-back t false false e = rw e
+
+  -- "Undirected: each edge once, smaller first, and it stores two arcs": what an undirected load stores is an undirected graph
+  pub load-undirected : mode ≡ 0 → Undirected graph
+  load-undirected e u w hu hw m =
+      let a = getD (g .ids) u (pos 0) in
+      let b = getD (g .ids) w (pos 0) in
+      load-outward (ok .list) (ok .goodEdges) w u hw hu
+      ∙ arc-back both (hasEdge (ok .list) b a) (hasEdge (ok .list) a b) (rw e)
+      ∙ sym (load-outward (ok .list) (ok .goodEdges) u w hu hw) ∙ m
 
 -- what a load stores is sound, whatever limits it is given
 pub load-sound : (limits : Limits) (mode : ℕ) (room : Room) (vertices edges : List ℕ) (g : Lists) → loaded (capped limits) mode room vertices edges ≡ gives g

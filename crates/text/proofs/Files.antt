@@ -17,7 +17,8 @@ use Rattle.basis.proofs.Saids.{refused-given, given-one, Either, Any}
 use Rattle.text.specs.Word.{Word, malformed, outside, value}
 use Rattle.text.specs.Line.{LineSaid, line, none, fault, lf, upTo, past, lineSays, lineBy}
 use Rattle.text.specs.File.{Line, good, bad, linesFrom, linesOf, Before, first, after, unless, faultOf, valuesFrom, valuesOf, noTest, joined, Says, FileSays, Passes, lastOf, GoodFile, Fails, over, unended, wrong, beyond, tested, FirstFault}
-use Rattle.text.proofs.Bytes.{cut-at, upTo-none, mem-cut, upTo-cut, drop-past}
+use Rattle.text.proofs.Bytes.{cut-at, upTo-none, drop-past}
+use Rattle.text.proofs.Cuts.{cut-line}
 use Rattle.text.proofs.Places.{line-moves, none-stays}
 
 -- ---- a line at a place, by the bytes from there on
@@ -246,12 +247,6 @@ module _ {A : Type 0} (word : List ℕ → Word A) (file most : ℕ) (test : Bef
     here : drop place s ≡ rest
     done : Passed word file most test s passed place (length passed)
 
-  word-line : (place : ℕ) (w r : List ℕ) (v : A) → drop place s ≡ w ++ lf ∷ r → mem lf w ≡ false → word w ≡ value v → lineBy word s place ≡ line v (place + length w + 1)
-  word-line place w r v e h g =
-      let a = ap length e ∙ length-append w (lf ∷ r) in
-      let b = length-drop place s in
-      line-ended word s place (omega arith) (rw e (mem-cut lf w r)) ∙ rw (e, upTo-cut lf w r h, g)
-
   come : (done : List A) (place k : ℕ) → length done ≡ k → Passed word file most test s done place k → (words : List (List ℕ)) (vs : List A) (rest : List ℕ)
       → drop place s ≡ joined words ++ rest → Says word words vs → length (done ++ vs) ≤ most → Passes test (lastOf first done) vs → Come (done ++ vs) rest
   come done place k q p [] [] rest e h l t = rw (append-nil done) (record { place = place; here = e; done = rw q p })
@@ -264,7 +259,7 @@ module _ {A : Type 0} (word : List ℕ → Word A) (file most : ℕ) (test : Bef
       let m = append-assoc done (v ∷ []) vs in
       rw (← m)
       (come (done ++ (v ∷ [])) (place + length w + 1) (k + 1) (omega arith)
-      (passed-next word file most test s p (omega arith) v (place + length w + 1) (word-line place w (joined ws ++ rest) v c (h .0) (h .1)) (t .0))
+      (passed-next word file most test s p (omega arith) v (place + length w + 1) (cut-line word s place w (joined ws ++ rest) v c (h .0) (h .1)) (t .0))
       ws vs rest (drop-past s w (joined ws ++ rest) place lf c) (h .2) (rw m l) (rw (last-more first done v) (t .1)))
 
   good-gives : (vs : List A) → GoodFile word most test s vs → valuesOf file most test (linesOf (lineBy word) s) ≡ gives vs

@@ -4,9 +4,9 @@ use mathlib.Core.Path.{_≡_, refl, ap, _∙_}
 use mathlib.Core.Bool.{true, false}
 use mathlib.Core.List.{List, [], _∷_, _++_}
 use native.Mathlib.Omega.{arith}
-use borrow.Author.Tests.{le-leb, lt-leb, ne-eqb}
+use borrow.Author.Tests.{le-leb, ne-eqb}
 use lib.IntN.{ℤ, pos, negsuc}
-use lib.ListN.{length, take, drop, length-append, length-drop}
+use lib.ListN.{length, take, drop, length-append}
 use lib.Seq.{append-snoc}
 use mir.Syntax.{w64}
 use mir.Val.{SFits}
@@ -14,7 +14,8 @@ use Rattle.basis.specs.Scan.{each, mem}
 use Rattle.basis.proofs.Tests.{and-first, and-second}
 use Rattle.text.specs.Word.{Word, value, within, isDigit, countOf, signedOf, identOf}
 use Rattle.text.specs.Line.{line, lf, lineBy, vertexLine}
-use Rattle.text.proofs.Bytes.{within-yes, within-is, mem-cut, upTo-cut}
+use Rattle.text.proofs.Bytes.{within-yes, within-is}
+use Rattle.text.proofs.Cuts.{cut-line}
 use Rattle.write.specs.Put.{written, putAt}
 use Rattle.write.specs.Decimal.{digits, decimal, signedText}
 use Rattle.write.proofs.Puts.{wrote-next, wrote-after, wrote-text}
@@ -69,10 +70,7 @@ module _ (o : List ℕ) (at : ℕ) {o′ : List ℕ} {p : ℕ} where
 -- ---- a word with an LF behind it is read as a line, and the reader's place is past it
 module _ {A : Type 0} (word : List ℕ → Word A) (x : A) (bs : List ℕ) (said : word bs ≡ value x) (none : mem lf bs ≡ false) where
   pub line-back : (s r : List ℕ) (at : ℕ) → drop at s ≡ bs ++ lf ∷ r → lineBy word s at ≡ line x (at + length bs + 1)
-  unfolding lineBy
-  line-back s r at e =
-      let h : at < length s = omega (arith, ap length e, length-drop at s, length-append bs (lf ∷ r)) in
-      rw (lt-leb (length s) at h, e, mem-cut lf bs r, upTo-cut lf bs r none, said)
+  line-back s r at e = cut-line word s at bs r x e none said
 
   -- so it is where both were written, and its place is the one that the writer answered
   pub line-wrote : (o : List ℕ) (at : ℕ) {o′ : List ℕ} {p : ℕ} → written o′ p ≡ putAt o at (bs ++ (lf ∷ [])) → at + length (bs ++ (lf ∷ [])) ≤ length o
