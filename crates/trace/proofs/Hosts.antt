@@ -158,7 +158,7 @@ module _ (vertices edges claim : List ℕ) (mode kernel : ℕ) (parameter : ℤ)
     judged-so : deskJudged stands kernel parameter claim ≡ judgedAs (referenceFor deskLines (graphOf g) claim kernel parameter)
     unfolding deskJudged graphOf
     judged-so =
-        call-judged deskLines stands kernel parameter claim _ _ _ _ _ known-kernel (load-sound desk mode deskRoom vertices edges g h (omega arith) (omega arith)) roomy
+        call-judged deskLines stands kernel parameter claim _ _ _ _ _ known-kernel (load-sound desk mode deskRoom vertices edges g h) roomy
         ∙ ap judgedAs (ap (λ x. referenceFor deskLines x claim kernel parameter) stands-so
         ∙ reference-same deskLines (areaGraph deskRoom g) (graphOf g) claim parameter refl
         (same-names desk mode deskRoom vertices edges g ok) (same-outward desk mode deskRoom vertices edges g ok) (same-inward desk mode deskRoom vertices edges g ok) kernel)
