@@ -16,7 +16,7 @@ use Rattle.basis.proofs.Tests.{no-case}
 use Rattle.basis.proofs.Saids.{refused-given, given-one, Either, Any}
 use Rattle.text.specs.Word.{Word, malformed, outside, value}
 use Rattle.text.specs.Line.{LineSaid, line, none, fault, lf, upTo, past, lineSays, lineBy}
-use Rattle.text.specs.File.{Line, good, bad, linesFrom, linesOf, Before, first, after, unless, faultOf, valuesFrom, valuesOf, noTest, joined, Says, FileSays, Passes, lastOf, GoodFile, Fails, over, unended, wrong, beyond, tested, FirstFault}
+use Rattle.text.specs.File.{Line, good, bad, linesFrom, linesOf, Before, first, after, unless, faultOf, valuesFrom, valuesOf, noTest, joined, Says, Passes, lastOf, GoodFile, Fails, over, unended, wrong, beyond, tested, FirstFault}
 use Rattle.text.proofs.Bytes.{cut-at, upTo-none, drop-past}
 use Rattle.text.proofs.Cuts.{cut-line}
 use Rattle.text.proofs.Places.{line-moves, none-stays}
@@ -93,10 +93,6 @@ onto-none : {A : Type 0} (x : Said (List A)) → x ≡ onto [] x
 onto-none (gives l) = refl
 onto-none (refuses r) = refl
 
-onto-first : {A : Type 0} (v : A) (done : List A) (x : Said (List A)) → said (λ l. v ∷ l) (onto done x) ≡ onto (v ∷ done) x
-onto-first v done (gives l) = refl
-onto-first v done (refuses r) = refl
-
 onto-last : {A : Type 0} (done : List A) (v : A) (x : Said (List A)) → onto done (said (λ l. v ∷ l) x) ≡ onto (done ++ (v ∷ [])) x
 onto-last done v (gives l) = ap gives (sym (append-assoc done (v ∷ []) l))
 onto-last done v (refuses r) = refl
@@ -169,7 +165,7 @@ module _ {A : Type 0} (word : List ℕ → Word A) (file most : ℕ) (test : Bef
     few : length passed ≤ most
     pass : Passes test first passed
 
-  -- a rest that is not empty is one line less, or its first line fails
+  -- a file is good, or has a first fault
   abbrev Ends : Type 0
   Ends = ((vs : List A) × GoodFile word most test s vs) ⊎ ((r : Refusal) × FirstFault word file most test s r)
 
