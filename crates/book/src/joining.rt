@@ -92,7 +92,8 @@ pub fn join(parents: &mut [usize], sizes: &mut [usize], u: usize, v: usize) -> J
     }
 }
 
-// A join that carries the walk of its first vertex on: the walk then, where it merged two groups; or that it found one; or the number of its refusal.
+// A join that carries the walk of its first vertex on: the walk then, where it merged two groups; or that it found one; or the number
+// of its refusal.
 enum Carried {
     Merged(usize),
     Already,
@@ -132,8 +133,8 @@ fn join_next(parents: &mut [usize], sizes: &mut [usize], u: usize, at: usize, w:
     }
 }
 
-// Joins u with each of the others, one after the other, up to the first join that is refused: those before it stand, and it changes nothing.
-// u is walked from once, and its walk carried from join to join.
+// Joins u with each of the others, one after the other, up to the first join that is refused: those before it stand, and it changes
+// nothing. u is walked from once, and its walk carried from join to join.
 pub fn join_each(
     parents: &mut [usize],
     sizes: &mut [usize],

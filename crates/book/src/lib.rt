@@ -27,8 +27,8 @@ pub enum Joined {
     Refused(Refusal),
 }
 
-// A vertex joined with each of a list: all joins were accepted, and how many merged two groups. Or one was refused, and those behind it were not tried:
-// how many were accepted before it, how many of those merged two groups, and its refusal.
+// A vertex joined with each of a list: all joins were accepted, and how many merged two groups. Or one was refused, and those behind
+// it were not tried: how many were accepted before it, how many of those merged two groups, and its refusal.
 pub enum JoinedEach {
     All(usize),
     Stopped(usize, usize, Refusal),

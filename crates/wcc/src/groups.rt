@@ -18,8 +18,8 @@ pub(crate) fn head_of(parents: &[usize], sizes: &[usize], v: usize) -> usize
     }
 }
 
-// Joins along every outward arc of n vertices. In a book of n vertices just opened every join is accepted, since the arcs name its vertices: what `join_each`
-// answers is `All` for each of them (law `Joins.arcs-accepted`), and is not looked at.
+// Joins along every outward arc of n vertices. In a book of n vertices just opened every join is accepted, since the arcs name its
+// vertices: what `join_each` answers is `All` for each of them (law `Joins.arcs-accepted`), and is not looked at.
 pub(crate) fn join_arcs(
     n: usize,
     offsets: &[usize],
