@@ -97,15 +97,15 @@ static struct graph areas(size_t n, size_t arcs) {
 /* ---- measuring */
 static int repeat = 15;
 
-#define BEST(best, ...)                       \
-    do {                                      \
-        best = 1e9;                           \
-        for (int r_ = 0; r_ < repeat; r_++) { \
-            double t_ = now();                \
-            __VA_ARGS__;                      \
-            t_ = now() - t_;                  \
-            if (t_ < best) best = t_;         \
-        }                                     \
+/* What is compared is measured in turns, one call of each, so that a machine that gets slower for a while does so for all of them. */
+#define TURNS for (int r_ = 0; r_ < repeat; r_++)
+
+#define BEST(best, ...)                      \
+    do {                                     \
+        double t_ = now();                   \
+        __VA_ARGS__;                         \
+        t_ = now() - t_;                     \
+        if (r_ == 0 || t_ < best) best = t_; \
     } while (0)
 
 static void row(const char *input, const char *stage, double engine, double plain) {
@@ -143,13 +143,15 @@ static void measure(struct lists l, int with_lcc, int with_groups, int times) {
     struct graph g = areas(n, m), p = areas(n, m);
     int64_t *result = room(n, 8), *right = room(n, 8), *claimed = room(n, 8);
     size_t *a = room(n, 8), *b = room(n, 8), *c = room(n, 8), *x = room(n, 8), *y = room(n, 8);
-    double engine, plain, sound, check, bfs;
+    double engine = 0, plain = 0, sound = 0, check = 0, bfs = 0;
     uint64_t said = 0;
 
 #define TIMES(...) for (int k_ = 0; k_ < times; k_++) __VA_ARGS__
-    BEST(engine, TIMES(said = trace_load((uint64_t)l.directed, l.vertex_file.bytes, l.vertex_file.length, l.edge_file.bytes, l.edge_file.length, g.ids, n, g.out_offsets,
-                                         n + 1, g.out_targets, m, g.in_offsets, n + 1, g.in_sources, m)));
-    BEST(plain, TIMES(plain_load(l.directed, l.vertex_file.bytes, l.vertex_file.length, l.edge_file.bytes, l.edge_file.length, &p)));
+#define FILES l.vertex_file.bytes, l.vertex_file.length, l.edge_file.bytes, l.edge_file.length
+    TURNS {
+        BEST(engine, TIMES(said = trace_load((uint64_t)l.directed, FILES, g.ids, n, g.out_offsets, n + 1, g.out_targets, m, g.in_offsets, n + 1, g.in_sources, m)));
+        BEST(plain, TIMES(plain_load(l.directed, FILES, &p)));
+    }
     g.vertices = (size_t)(said / 10000000);
     g.arcs = (size_t)(said % 10000000);
     if (g.vertices != n || g.arcs != p.arcs) exit(1);
@@ -165,75 +167,100 @@ static void measure(struct lists l, int with_lcc, int with_groups, int times) {
 
     /* a root that is not there is refused right behind the soundness check */
     size_t root = far_reaching(&p, result, a);
-    BEST(bfs, TIMES(plain_bfs(&p, root, result, a)));
-    BEST(sound, TIMES(trace_bfs(GRAPH(g, n, m), 1, result, n, a, n)));
-    BEST(check, TIMES(if (!plain_sound(&p, a)) exit(1)));
+#define CHECKED(...)                      \
+    do {                                  \
+        if (!plain_sound(&p, a)) exit(1); \
+        __VA_ARGS__;                      \
+    } while (0)
+#define CHECKS                                                         \
+    BEST(sound, TIMES(trace_bfs(GRAPH(g, n, m), 1, result, n, a, n))); \
+    BEST(check, TIMES(CHECKED()))
+    TURNS {
+        BEST(bfs, TIMES(plain_bfs(&p, root, result, a)));
+        CHECKS;
+    }
     row(l.name, "soundness : plain bfs", sound, bfs);
     row(l.name, "soundness : plain check", sound, check);
-#define CHECKED(...)                   \
-    do {                               \
-        if (!plain_sound(&p, a)) exit(1); \
-        __VA_ARGS__;                   \
-    } while (0)
-    BEST(plain, TIMES(CHECKED(plain_bfs(&p, root, result, a))));
-    memcpy(right, result, n * 8);
-    BEST(engine, TIMES(trace_bfs(GRAPH(g, n, m), g.ids[root], result, n, a, n)));
-    same(result, right, n * 8, "depths");
+
+    TURNS {
+        CHECKS;
+        BEST(plain, TIMES(CHECKED(plain_bfs(&p, root, result, a))));
+        memcpy(right, result, n * 8);
+        BEST(engine, TIMES(trace_bfs(GRAPH(g, n, m), g.ids[root], result, n, a, n)));
+        same(result, right, n * 8, "depths");
+    }
     row(l.name, "bfs core", engine - sound, plain - check);
     struct text depths = claim_of(&p, right);
 
-    BEST(plain, TIMES(CHECKED(plain_wcc(&p, result, a, b))));
-    memcpy(right, result, n * 8);
-    BEST(engine, TIMES(trace_wcc(GRAPH(g, n, m), result, n, a, n, b, n)));
-    same(result, right, n * 8, "components");
+    TURNS {
+        CHECKS;
+        BEST(plain, TIMES(CHECKED(plain_wcc(&p, result, a, b))));
+        memcpy(right, result, n * 8);
+        BEST(engine, TIMES(trace_wcc(GRAPH(g, n, m), result, n, a, n, b, n)));
+        same(result, right, n * 8, "components");
+    }
     row(l.name, "wcc core", engine - sound, plain - check);
     struct text groups = claim_of(&p, right);
 
-    BEST(plain, TIMES(CHECKED(plain_cdlp(&p, 10, result, a, b, c))));
-    memcpy(right, result, n * 8);
-    BEST(engine, TIMES(trace_cdlp(GRAPH(g, n, m), 10, result, n, a, n, b, n, c, n)));
-    same(result, right, n * 8, "labels");
+    TURNS {
+        CHECKS;
+        BEST(plain, TIMES(CHECKED(plain_cdlp(&p, 10, result, a, b, c))));
+        memcpy(right, result, n * 8);
+        BEST(engine, TIMES(trace_cdlp(GRAPH(g, n, m), 10, result, n, a, n, b, n, c, n)));
+        same(result, right, n * 8, "labels");
+    }
     row(l.name, "cdlp 10 core", engine - sound, plain - check);
     struct text labels = claim_of(&p, right);
 
 #define JUDGE(kernel, parameter, claim) trace_judge(GRAPH(g, n, m), kernel, parameter, (claim).bytes, (claim).length, result, n, claimed, n, a, n, b, n, c, n)
     uint64_t verdict = 0;
-    BEST(engine, TIMES(verdict |= JUDGE(1, g.ids[root], depths)));
-    BEST(plain, TIMES({
-             CHECKED(plain_bfs(&p, root, result, a));
-             verdict |= plain_judge(&p, result, depths.bytes, depths.length);
-         }));
+    TURNS {
+        BEST(engine, TIMES(verdict |= JUDGE(1, g.ids[root], depths)));
+        BEST(plain, TIMES({
+                 CHECKED(plain_bfs(&p, root, result, a));
+                 verdict |= plain_judge(&p, result, depths.bytes, depths.length);
+             }));
+    }
     row(l.name, "verdict bfs", engine, plain);
-    BEST(engine, TIMES(verdict |= JUDGE(3, 10, labels)));
-    BEST(plain, TIMES({
-             CHECKED(plain_cdlp(&p, 10, result, a, b, c));
-             verdict |= plain_judge(&p, result, labels.bytes, labels.length);
-         }));
+    TURNS {
+        BEST(engine, TIMES(verdict |= JUDGE(3, 10, labels)));
+        BEST(plain, TIMES({
+                 CHECKED(plain_cdlp(&p, 10, result, a, b, c));
+                 verdict |= plain_judge(&p, result, labels.bytes, labels.length);
+             }));
+    }
     row(l.name, "verdict cdlp", engine, plain);
     if (with_groups) {
-        BEST(engine, TIMES(verdict |= JUDGE(2, 0, groups)));
-        BEST(plain, TIMES({
-                 CHECKED(plain_wcc(&p, result, a, b));
-                 verdict |= plain_judge_groups(&p, result, groups.bytes, groups.length, claimed);
-             }));
+        TURNS {
+            BEST(engine, TIMES(verdict |= JUDGE(2, 0, groups)));
+            BEST(plain, TIMES({
+                     CHECKED(plain_wcc(&p, result, a, b));
+                     verdict |= plain_judge_groups(&p, result, groups.bytes, groups.length, claimed);
+                 }));
+        }
         row(l.name, "verdict wcc", engine, plain);
     }
     if (with_lcc) {
-        BEST(plain, TIMES(CHECKED(plain_lcc(&p, a, b, c))));
-        memcpy(x, a, n * 8);
-        memcpy(y, b, n * 8);
-        BEST(engine, TIMES(trace_lcc(GRAPH(g, n, m), a, n, b, n, c, n)));
-        same(a, x, n * 8, "numerators");
-        same(b, y, n * 8, "denominators");
+        TURNS {
+            CHECKS;
+            BEST(plain, TIMES(CHECKED(plain_lcc(&p, a, b, c))));
+            memcpy(x, a, n * 8);
+            memcpy(y, b, n * 8);
+            BEST(engine, TIMES(trace_lcc(GRAPH(g, n, m), a, n, b, n, c, n)));
+            same(a, x, n * 8, "numerators");
+            same(b, y, n * 8, "denominators");
+        }
         row(l.name, "lcc core", engine - sound, plain - check);
         struct text fractions = {room(n, 48), 0};
         for (size_t v = 0; v < n; v++)
             fractions.length += (size_t)sprintf((char *)fractions.bytes + fractions.length, "%" PRId64 " %.12f\n", p.ids[v], (double)x[v] / (double)y[v]);
-        BEST(engine, TIMES(verdict |= JUDGE(4, 0, fractions)));
-        BEST(plain, TIMES({
-                 CHECKED(plain_lcc(&p, a, b, c));
-                 verdict |= plain_judge_coefficients(&p, a, b, fractions.bytes, fractions.length);
-             }));
+        TURNS {
+            BEST(engine, TIMES(verdict |= JUDGE(4, 0, fractions)));
+            BEST(plain, TIMES({
+                     CHECKED(plain_lcc(&p, a, b, c));
+                     verdict |= plain_judge_coefficients(&p, a, b, fractions.bytes, fractions.length);
+                 }));
+        }
         row(l.name, "verdict lcc", engine, plain);
         free(fractions.bytes);
     }
@@ -255,21 +282,25 @@ static void measure_book(size_t n, size_t calls) {
         u[i] = (uint32_t)(dice() % n);
         v[i] = (uint32_t)(dice() % n);
     }
-    double engine, plain;
+    double engine = 0, plain = 0;
     uint64_t heads = 0, right = 0;
-    BEST(engine, {
-        trace_book_open(parents, n, sizes, n);
-        for (size_t i = 0; i < calls; i++) trace_book_join(parents, n, sizes, n, u[i], v[i]);
-    });
-    BEST(plain, {
-        plain_open(n, p, s);
-        for (size_t i = 0; i < calls; i++) plain_join(p, s, u[i], v[i]);
-    });
+    TURNS {
+        BEST(engine, {
+            trace_book_open(parents, n, sizes, n);
+            for (size_t i = 0; i < calls; i++) trace_book_join(parents, n, sizes, n, u[i], v[i]);
+        });
+        BEST(plain, {
+            plain_open(n, p, s);
+            for (size_t i = 0; i < calls; i++) plain_join(p, s, u[i], v[i]);
+        });
+    }
     same(parents, p, n * 8, "parents");
     same(sizes, s, n * 8, "sizes");
     row("(e) book of 65,536", "1,000,000 joins", engine, plain);
-    BEST(engine, for (size_t i = 0; i < calls; i++) heads += trace_book_head(parents, n, sizes, n, u[i]) / 100);
-    BEST(plain, for (size_t i = 0; i < calls; i++) right += plain_head(p, u[i]));
+    TURNS {
+        BEST(engine, for (size_t i = 0; i < calls; i++) heads += trace_book_head(parents, n, sizes, n, u[i]) / 100);
+        BEST(plain, for (size_t i = 0; i < calls; i++) right += plain_head(p, u[i]));
+    }
     if (heads != right) exit(1);
     row("(e) book of 65,536", "1,000,000 heads", engine, plain);
 }
@@ -311,11 +342,13 @@ static void measure_desk(const char *engine_program, const char *plain_program) 
             (const char *)l.edge_file.bytes);
     for (int i = 0; i < 4; i++) fprintf(f, "bfs %d\nwcc\ncdlp 10\nlcc\n", i * 1000003 - 1000000000);
     fclose(f);
-    double engine, plain;
+    double engine = 0, plain = 0;
     int several = repeat;
     repeat = 20 * several;
-    BEST(engine, run_program(engine_program, sheet, out[0]));
-    BEST(plain, run_program(plain_program, sheet, out[1]));
+    TURNS {
+        BEST(engine, run_program(engine_program, sheet, out[0]));
+        BEST(plain, run_program(plain_program, sheet, out[1]));
+    }
     repeat = several;
     struct text a = contents(out[0]), b = contents(out[1]);
     if (a.length != b.length) exit(1);
