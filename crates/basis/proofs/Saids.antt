@@ -1,6 +1,7 @@
 -- Laws of what a call says: what is given is not refused, a check, and a call that goes on from another. Assumes nothing.
 use Prim.Native.Nat.{ℕ}
 use mathlib.Core.Path.{_≡_, refl, sym, ap, _∙_}
+use mathlib.Core.Logic.{_⊎_, inl, inr}
 use mathlib.Core.Bool.{Bool, true, false, cond}
 use Rattle.basis.specs.declared.refusal.Refusal.{Refusal}
 use Rattle.basis.specs.Refusal.{Said, gives, refuses, plain, onward, said, check}
@@ -35,6 +36,11 @@ module _ {A B : Type 0} where
   pub onward-passed : (s : Said A) (f : A → Said B) (y : B) → onward s f ≡ gives y → (x : A) × (s ≡ gives x) × (f x ≡ gives y)
   onward-passed (gives x) f y e = (x, refl, e)
   onward-passed (refuses r) f y e = refused-given e
+
+  -- a refusal is the other call's, or comes behind what it gave
+  pub onward-refused : (s : Said A) (f : A → Said B) (r : Refusal) → onward s f ≡ refuses r → (s ≡ refuses r) ⊎ ((x : A) × (s ≡ gives x) × (f x ≡ refuses r))
+  onward-refused (gives x) f r e = inr (x, refl, e)
+  onward-refused (refuses q) f r e = inl (cc)
 
   pub said-gives : (f : A → B) (s : Said A) (y : B) → gives y ≡ said f s → (x : A) × (s ≡ gives x) × (y ≡ f x)
   said-gives f (gives x) y e = (x, refl, given-one e)

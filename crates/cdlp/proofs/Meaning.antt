@@ -23,7 +23,7 @@ use Rattle.cdlp.specs.Label.{one, times, standing, mostCommon, smallestO
 use Rattle.cdlp.specs.Rounds.{around, labelsAt, nextAt, oneRound, rounds, cdlpOf}
 use Rattle.cdlp.specs.Promise.{goodRounds, roomFor, leftBy, cdlpCall}
 use Rattle.cdlp.specs.Meaning.{bearers, frequency, Next, Labels, Done, Called, heardOnce}
-use Rattle.cdlp.proofs.Labels.{Chosen, next-chosen, chosen-one, times-append, next-twice}
+use Rattle.cdlp.proofs.Labels.{Chosen, next-chosen, times-append, next-twice}
 use Rattle.cdlp.proofs.Lists.{labels-append}
 use Rattle.cdlp.proofs.Runs.{cdlp-length}
 use Rattle.cdlp.proofs.Calls.{allowed-within, roomy-of}
@@ -70,10 +70,6 @@ module _ (g : Graph) where
   -- (2.5): with neighbours it is a label that is heard, none is heard more often, and of those heard as often it is the smallest
   pub settled : (k v : ℕ) → v < g .vertices → (heardBy k v ≡ [] → ⊥) → Chosen sameZ ltZ (heardBy k v) (label (suc k) v)
   settled k v h e = subst (Chosen sameZ ltZ (heardBy k v)) (sym (next-is k v h)) (chosen (label k v) (heardBy k v) e)
-
-  -- and the only such label
-  pub only : (k v : ℕ) → v < g .vertices → (heardBy k v ≡ [] → ⊥) → (x : ℤ) → Chosen sameZ ltZ (heardBy k v) x → x ≡ label (suc k) v
-  only k v h e x c = chosen-one signed-order (heardBy k v) x (label (suc k) v) c (settled k v h e)
 
 -- ---- the rule of a round
 -- the labels of a list, by place

@@ -18,7 +18,7 @@ use Rattle.basis.specs.Area.{padZ}
 use Rattle.basis.specs.Order.{sameZ, risingZ}
 use Rattle.basis.specs.Scan.{each, mem}
 use Rattle.basis.proofs.Tests.{and-first, and-second, and-both, eqb-swap, and-swap}
-use Rattle.basis.proofs.Saids.{refused-given, said-refuses}
+use Rattle.basis.proofs.Saids.{refused-given, onward-refused, said-refuses}
 use Rattle.basis.proofs.Areas.{pad-length}
 use Rattle.basis.proofs.Orders.{signed-order, same-places}
 use Rattle.text.specs.Word.{identOf}
@@ -54,10 +54,6 @@ edges-refused both most ids s r = file-refused (twoOf identOf identOf) edgeFile 
 room-refused : {A : Type 0} (t : Bool) (x : A) (r : Refusal) → withRoom t x ≡ refuses r → (t ≡ false) × (r ≡ plain noRoom)
 room-refused true x r e = refused-given (sym e)
 room-refused false x r e = (refl, (cc))
-
-onward-refused : {A B : Type 0} (s : Said A) (f : A → Said B) (r : Refusal) → onward s f ≡ refuses r → (s ≡ refuses r) ⊎ ((x : A) × (s ≡ gives x) × (f x ≡ refuses r))
-onward-refused (gives x) f r e = inr (x, refl, e)
-onward-refused (refuses q) f r e = inl (cc)
 
 module _ (limits : Limits) (mode : ℕ) (room : Room) (vertices edges : List ℕ) (r : Refusal) where
   abbrev Why : Type 0

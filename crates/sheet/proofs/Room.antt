@@ -156,7 +156,7 @@ too-long : (s : List ℕ) → mostBytes < length s → deskOutput s ≡ refusedT
 unfolding deskOutput checked
 too-long s h = rw (lt-ltb mostBytes (length s) h)
 
--- cut behind its 65,536th byte or later, a sheet prints what the whole of it prints
+-- cut behind its 65,537th byte or later, a sheet prints what the whole of it prints
 pub cut-prints : (k : ℕ) (s : List ℕ) → mostBytes < k → deskOutput (take k s) ≡ deskOutput s
 cut-prints k s h =
     bool-cases (ltb mostBytes (length s)) (deskOutput (take k s) ≡ deskOutput s)
