@@ -33,10 +33,12 @@ module _ {A : Type 0} {same less : A → A → Bool} (order : Order same less) w
 
   -- a number below another, either way, is not the same
   pub less-differs : (a b : A) → less a b ≡ true → same a b ≡ false
-  less-differs a b h = false-of (same a b) (λ e. clash (subst (λ (x : A). less a x ≡ true) (sym (order .same-eq a b e)) h) (order .less-not a))
+  less-differs a b h =
+      false-of (same a b) (λ e. clash (subst (λ (x : A). less a x ≡ true) (sym (order .same-eq a b e)) h) (order .less-not a))
 
   pub more-differs : (a b : A) → less b a ≡ true → same a b ≡ false
-  more-differs a b h = false-of (same a b) (λ e. clash (subst (λ (x : A). less x a ≡ true) (sym (order .same-eq a b e)) h) (order .less-not a))
+  more-differs a b h =
+      false-of (same a b) (λ e. clash (subst (λ (x : A). less x a ≡ true) (sym (order .same-eq a b e)) h) (order .less-not a))
 
 -- ---- lists that rise, by neighbours and by pairs
 module _ {A : Type 0} (less : A → A → Bool) (z : A) where
@@ -113,7 +115,8 @@ pub leb-min : (n a b : ℕ) → leb n (min a b) ≡ (leb n a && leb n b)
 leb-min n a b =
     same-test (leb n (min a b)) (leb n a && leb n b)
     (λ h. let l = leb-true n (min a b) h in and-both (le-leb n a (omega arith)) (le-leb n b (omega arith)))
-    (λ h. let k = leb-true n a (and-first (leb n a) (leb n b) h) in let l = leb-true n b (and-second (leb n a) (leb n b) h) in le-leb n (min a b) (omega arith))
+    (λ h. let k = leb-true n a (and-first (leb n a) (leb n b) h) in let l = leb-true n b (and-second (leb n a) (leb n b) h) in
+    le-leb n (min a b) (omega arith))
 
 -- ---- signed numbers
 refl-z : (a : ℤ) → sameZ a a ≡ true

@@ -38,7 +38,8 @@ module _ {A B : Type 0} where
   onward-passed (refuses r) f y e = refused-given e
 
   -- a refusal is the other call's, or comes behind what it gave
-  pub onward-refused : (s : Said A) (f : A → Said B) (r : Refusal) → onward s f ≡ refuses r → (s ≡ refuses r) ⊎ ((x : A) × (s ≡ gives x) × (f x ≡ refuses r))
+  pub onward-refused : (s : Said A) (f : A → Said B) (r : Refusal) → onward s f ≡ refuses r
+      → (s ≡ refuses r) ⊎ ((x : A) × (s ≡ gives x) × (f x ≡ refuses r))
   onward-refused (gives x) f r e = inr (x, refl, e)
   onward-refused (refuses q) f r e = inl (cc)
 
@@ -59,11 +60,13 @@ Either P R (refuses r) = R r
 abbrev pub Any : {A : Type 0} → A → Type 0
 Any x = Unit {0}
 
-pub either-refused : {A : Type 0} (P : A → Type 0) {R S : Refusal → Type 0} → ((r : Refusal) → R r → S r) → (x : Said A) → Either P R x → Either P S x
+pub either-refused : {A : Type 0} (P : A → Type 0) {R S : Refusal → Type 0} → ((r : Refusal) → R r → S r) → (x : Said A) → Either P R x
+    → Either P S x
 either-refused P f (gives x) h = h
 either-refused P f (refuses r) h = f r h
 
-pub either-cond : {A : Type 0} (P : A → Type 0) (R : Refusal → Type 0) (t : Bool) (x y : Said A) → (t ≡ true → Either P R x) → (t ≡ false → Either P R y)
+pub either-cond : {A : Type 0} (P : A → Type 0) (R : Refusal → Type 0) (t : Bool) (x y : Said A) → (t ≡ true → Either P R x)
+    → (t ≡ false → Either P R y)
     → Either P R (cond t x y)
 either-cond P R true x y h g = h refl
 either-cond P R false x y h g = g refl
@@ -73,5 +76,6 @@ pub either-onward : {A B : Type 0} (P : A → Type 0) (Q : B → Type 0) (R : Re
 either-onward P Q R (gives a) f h g = g a h
 either-onward P Q R (refuses r) f h g = h
 
-pub refused-onward : {A B : Type 0} (R : Refusal → Type 0) (x : Said A) (f : A → Said B) → Either Any R x → ((a : A) → Either Any R (f a)) → Either Any R (onward x f)
+pub refused-onward : {A B : Type 0} (R : Refusal → Type 0) (x : Said A) (f : A → Said B) → Either Any R x → ((a : A) → Either Any R (f a))
+    → Either Any R (onward x f)
 refused-onward R x f h g = either-onward Any Any R x f h (λ a t. g a)

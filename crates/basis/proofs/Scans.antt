@@ -1,4 +1,5 @@
--- Laws of `every`, `each` and `mem`: what they say at an index, and what a scanning loop needs at its start, at a turn, where it breaks off and at its end.
+-- Laws of `every`, `each` and `mem`: what they say at an index, and what a scanning loop needs at its start, at a turn,
+-- where it breaks off and at its end.
 -- Assumes nothing.
 use Prim.Native.Nat.{ℕ, zero, suc, _+_, _≤_, _<_}
 use mathlib.Core.Path.{_≡_, refl, sym, ap, _∙_}
@@ -12,7 +13,8 @@ use lib.ListN.{length, getD}
 use lib.Dec.{eqb, ltb}
 use borrow.Author.Tests.{eq-eqb, ne-eqb, eqb-true, ltb-true, lt-ltb}
 use Rattle.basis.specs.Scan.{every, each, allBelow, mem}
-use Rattle.basis.proofs.Tests.{clash, false-of, same-test, and-first, and-second, and-both, or-first, or-second, or-cases, or-assoc, and-assoc}
+use Rattle.basis.proofs.Tests.{clash, false-of, same-test, and-first, and-second, and-both}
+use Rattle.basis.proofs.Tests.{or-first, or-second, or-cases, or-assoc, and-assoc}
 
 -- ---- every number below a bound
 module _ (p : ℕ → Bool) where
@@ -28,7 +30,8 @@ module _ (p : ℕ → Bool) where
   unfolding every
   every-at zero i l a = absurd (not-suc-le-zero l)
   every-at (suc n) i l a =
-      ⊎-elim (λ e. ap p e ∙ and-second (every n p) (p n) a) (λ g. every-at n i g (and-first (every n p) (p n) a)) (eq-or-lt-of-le (le-of-suc-le-suc l))
+      ⊎-elim (λ e. ap p e ∙ and-second (every n p) (p n) a) (λ g. every-at n i g (and-first (every n p) (p n) a))
+      (eq-or-lt-of-le (le-of-suc-le-suc l))
 
   pub every-of : (n : ℕ) → ((i : ℕ) → i < n → p i ≡ true) → every n p ≡ true
   unfolding every

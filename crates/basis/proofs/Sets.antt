@@ -1,4 +1,5 @@
--- Laws of rising lists as sets: a list that rises after a test of its first member, and two rising lists with the same members. Assumes nothing.
+-- Laws of rising lists as sets: a list that rises after a test of its first member, and two rising lists with the same members.
+-- Assumes nothing.
 use Prim.Native.Nat.{ℕ, _<_}
 use mathlib.Core.Path.{_≡_, refl, sym, ap, ap₂, _∙_}
 use mathlib.Core.Logic.{⊎-elim}
@@ -36,7 +37,8 @@ starts-above x w (y ∷ l) s h =
 not-after : (x : ℕ) (l : List ℕ) → starts (ltb x) l ≡ true → mem x l ≡ false
 not-after x l s = false-of (mem x l) (λ h. let a = starts-above x x l s h in omega arith)
 
-same-rest : (x w : ℕ) (a b : List ℕ) → starts (ltb x) a ≡ true → starts (ltb x) b ≡ true → mem w (x ∷ a) ≡ mem w (x ∷ b) → (t : Bool) → eqb w x ≡ t → mem w a ≡ mem w b
+same-rest : (x w : ℕ) (a b : List ℕ) → starts (ltb x) a ≡ true → starts (ltb x) b ≡ true → mem w (x ∷ a) ≡ mem w (x ∷ b) → (t : Bool)
+    → eqb w x ≡ t → mem w a ≡ mem w b
 unfolding mem
 same-rest x w a b r s k true f = rw (eqb-true w x f) (not-after x a r ∙ sym (not-after x b s))
 same-rest x w a b r s k false f = rw f at k
@@ -51,13 +53,16 @@ starts-same t u (x ∷ a) (y ∷ b) p q h =
     let s : starts (ltb y) b ≡ true = and-second (u y) (starts (ltb y) b) q in
     let e : x ≡ y =
     ⊎-elim (λ e. e)
-    (λ m. ⊎-elim sym (λ k. let i = starts-above y x b s m in let j = starts-above x y a r k in absurd (omega arith)) (mem-cases y x a (h y ∙ mem-head y b)))
+    (λ m. ⊎-elim sym (λ k. let i = starts-above y x b s m in let j = starts-above x y a r k in absurd (omega arith))
+    (mem-cases y x a (h y ∙ mem-head y b)))
     (mem-cases x y b (sym (h x) ∙ mem-head x a)) in
     let s′ : starts (ltb x) b ≡ true = rw e s in
-    ap₂ (λ (v : ℕ) (l : List ℕ). v ∷ l) e (starts-same (ltb x) (ltb x) a b r s′ (λ w. same-rest x w a b r s′ (h w ∙ ap (λ (v : ℕ). mem w (v ∷ b)) (sym e)) (eqb w x) refl))
+    ap₂ (λ (v : ℕ) (l : List ℕ). v ∷ l) e (starts-same (ltb x) (ltb x) a b r s′
+    (λ w. same-rest x w a b r s′ (h w ∙ ap (λ (v : ℕ). mem w (v ∷ b)) (sym e)) (eqb w x) refl))
 
 -- one more member, above all
-pub starts-snoc : (t : ℕ → Bool) (l : List ℕ) (n : ℕ) → starts t l ≡ true → ((w : ℕ) → mem w l ≡ true → w < n) → t n ≡ true → starts t (l ++ (n ∷ [])) ≡ true
+pub starts-snoc : (t : ℕ → Bool) (l : List ℕ) (n : ℕ) → starts t l ≡ true → ((w : ℕ) → mem w l ≡ true → w < n) → t n ≡ true
+    → starts t (l ++ (n ∷ [])) ≡ true
 starts-snoc t [] n s f h = and-both h refl
 starts-snoc t (x ∷ l) n s f h =
     and-both (and-first (t x) (starts (ltb x) l) s)

@@ -68,7 +68,8 @@ unfolding relaxed
 relaxed-old d w S e = rw e
 
 -- there is room for one vertex more where one is not seen
-pub room-more : (S : Board) (w : ℕ) → Ready S → w < length (S .depth) → isFar (getD (S .depth) w (pos 0)) ≡ true → S .tail < length (S .queue)
+pub room-more : (S : Board) (w : ℕ) → Ready S → w < length (S .depth) → isFar (getD (S .depth) w (pos 0)) ≡ true
+    → S .tail < length (S .queue)
 room-more S w r l e = omega (arith, seen-lt (S .depth) w l e, r .filled, r .room)
 
 -- what a step keeps: the board is ready, and the areas keep their lengths
@@ -103,7 +104,8 @@ pub record Walking (d : ℕ) (l : List ℕ) (S₀ S : Board) (i : ℕ) : Type 0 
   pub queueLen : length (S .queue) ≡ length (S₀ .queue)
   pub rest : walked d (drop i l) S ≡ walked d l S₀
 
-walk-step : (d : ℕ) (l : List ℕ) (S : Board) (i : ℕ) → i < length l → walked d (drop i l) S ≡ walked d (drop (i + 1) l) (relaxed d (getD l i 0) S)
+walk-step : (d : ℕ) (l : List ℕ) (S : Board) (i : ℕ) → i < length l
+    → walked d (drop i l) S ≡ walked d (drop (i + 1) l) (relaxed d (getD l i 0) S)
 unfolding walked
 walk-step d l S i h = ap (λ (t : List ℕ). walked d t S) (drop-cons l i 0 h) ∙ rw add-one refl
 
@@ -112,11 +114,17 @@ module _ (d : ℕ) (l : List ℕ) (S₀ S : Board) (i : ℕ) (k : Walking d l S�
   pub walking-low : allBelow (length (S₀ .depth)) l ≡ true → i < length l → getD l i 0 < length (S .depth)
   walking-low b h = omega (arith, below-at (length (S₀ .depth)) l b i h, k .depthLen)
 
-  pub walking-more : (R : Board) → allBelow (length (S₀ .depth)) l ≡ true → d < infinity → i < length l → R ≡ relaxed d (getD l i 0) S → Walking d l S₀ R (i + 1)
+  pub walking-more : (R : Board) → allBelow (length (S₀ .depth)) l ≡ true → d < infinity → i < length l → R ≡ relaxed d (getD l i 0) S
+      → Walking d l S₀ R (i + 1)
   walking-more R b f h e =
       let m = relaxed-kept d (getD l i 0) S (k .ready) (walking-low b h) f in
       subst (λ (B : Board). Walking d l S₀ B (i + 1)) (sym e)
-      (record { ready = m .ready; depthLen = m .depthLen ∙ k .depthLen; queueLen = m .queueLen ∙ k .queueLen; rest = sym (walk-step d l S i h) ∙ k .rest })
+      (record {
+        ready = m .ready;
+        depthLen = m .depthLen ∙ k .depthLen;
+        queueLen = m .queueLen ∙ k .queueLen;
+        rest = sym (walk-step d l S i h) ∙ k .rest;
+      })
 
   pub walking-end : length l ≤ i → S ≡ walked d l S₀
   unfolding walked

@@ -34,11 +34,13 @@ outcomes a b c = cc
 
 -- ---- from a root that is there
 module _ (n : ℕ) (off tgt : List ℕ) (s : ℕ) (D : List ℤ) (Q : List ℕ) where
-  pub root-short : (o : Outcome) → o ≡ refusal noRoom D Q → (k : ℕ) → k ≡ min (length D) (length Q) → k < n → o ≡ fromRoot n (partOf n off tgt) s D Q
+  pub root-short : (o : Outcome) → o ≡ refusal noRoom D Q → (k : ℕ) → k ≡ min (length D) (length Q) → k < n
+      → o ≡ fromRoot n (partOf n off tgt) s D Q
   unfolding fromRoot
   root-short o e k q h = rw (← leb-min n (length D) (length Q), ← q, lt-leb n k h) e
 
-  root-room : n ≤ length D → n ≤ length Q → outcome (gives tt) (padZ (length D) (depths n (partOf n off tgt) s)) (cleared Q) ≡ fromRoot n (partOf n off tgt) s D Q
+  root-room : n ≤ length D → n ≤ length Q → outcome (gives tt) (padZ (length D) (depths n (partOf n off tgt) s)) (cleared Q)
+      ≡ fromRoot n (partOf n off tgt) s D Q
   unfolding fromRoot
   root-room h g = rw (le-leb n (length D) h, le-leb n (length Q) g)
 
@@ -63,7 +65,8 @@ roomSays room = cond room (gives tt) (refuses (plain noRoom))
 
 -- whether there is room decides the answer, and by it the areas
 room-cases : (D : List ℤ) (Q : List ℕ) (l : List ℤ) (room : Bool)
-    → cond room (outcome (gives tt) (padZ (length D) l) (cleared Q)) (refusal noRoom D Q) ≡ outcome (roomSays room) (leaves (roomSays room) (pos 0) (length D) l) (cleared Q)
+    → cond room (outcome (gives tt) (padZ (length D) l) (cleared Q)) (refusal noRoom D Q)
+    ≡ outcome (roomSays room) (leaves (roomSays room) (pos 0) (length D) l) (cleared Q)
 room-cases D Q l true = refl
 room-cases D Q l false = refl
 
@@ -73,18 +76,21 @@ module _ (g : Graph) (root : ℤ) where
   call-place h f b = sym (b ∙ vertex-found g (sound-of g h) root)
 
   pub call-low : soundGraph g ≡ true → (f : Found) → f ≡ bisected (names g) root → (v : ℕ) → f ≡ At v → v < g .vertices
-  call-low h f b v a = omega (arith, place-at (names g) root (sound-of g h .idsRise) v .0 (call-place h f b ∙ a) .0, names-length g (sound-of g h))
+  call-low h f b v a =
+      omega (arith, place-at (names g) root (sound-of g h .idsRise) v .0 (call-place h f b ∙ a) .0, names-length g (sound-of g h))
 
   module _ (D : List ℤ) (Q : List ℕ) where
     pub call-unsound : (o : Outcome) → o ≡ refusal unsound D Q → soundGraph g ≡ false → o ≡ bfsCall g root D Q
     unfolding bfsCall bfsSays kernelSays
     call-unsound o e h = rw h e
 
-    pub call-missing : (o : Outcome) → o ≡ refusal notThere D Q → soundGraph g ≡ true → (f : Found) → f ≡ bisected (names g) root → f ≡ Missing → o ≡ bfsCall g root D Q
+    pub call-missing : (o : Outcome) → o ≡ refusal notThere D Q → soundGraph g ≡ true → (f : Found) → f ≡ bisected (names g) root
+        → f ≡ Missing → o ≡ bfsCall g root D Q
     unfolding bfsCall bfsSays kernelSays
     call-missing o e h f b m = rw (h, call-place h f b ∙ m) e
 
-    pub call-found : (o : Outcome) (v : ℕ) → o ≡ fromRoot (g .vertices) (outward g) v D Q → soundGraph g ≡ true → (f : Found) → f ≡ bisected (names g) root → f ≡ At v → o ≡ bfsCall g root D Q
+    pub call-found : (o : Outcome) (v : ℕ) → o ≡ fromRoot (g .vertices) (outward g) v D Q → soundGraph g ≡ true → (f : Found)
+        → f ≡ bisected (names g) root → f ≡ At v → o ≡ bfsCall g root D Q
     unfolding bfsCall bfsSays kernelSays fromRoot
     call-found o v e h f b a =
         e
@@ -96,5 +102,6 @@ queue-zero : (g : Graph) (root : ℤ) (D : List ℤ) (Q Q₁ : List ℕ) → Q�
 unfolding bfsCall bfsSays
 queue-zero g root D Q Q₁ q = rw (q, length-replicate {A = ℕ} (length Q) 0)
 
-pub call-over : (g : Graph) (root : ℤ) (D : List ℤ) (Q Q₁ : List ℕ) {s : Bool} → checked s Q₁ ≡ checked (soundGraph g) (cleared Q) → bfsCall g root D Q₁ ≡ bfsCall g root D Q
+pub call-over : (g : Graph) (root : ℤ) (D : List ℤ) (Q Q₁ : List ℕ) {s : Bool} → checked s Q₁ ≡ checked (soundGraph g) (cleared Q)
+    → bfsCall g root D Q₁ ≡ bfsCall g root D Q
 call-over g root D Q Q₁ e = queue-zero g root D Q Q₁ (check-area e)

@@ -20,7 +20,8 @@ p4 = refl
 -- the same by a call, with two places to spare in the result area and one in the working area
 pub p4-call : bfsCall sheetGraph (pos 2) (pos 7 ∷ pos 7 ∷ pos 7 ∷ pos 7 ∷ pos 7 ∷ pos 7 ∷ pos 7 ∷ []) (9 ∷ 9 ∷ 9 ∷ 9 ∷ 9 ∷ 9 ∷ [])
     ≡ outcome (gives tt) (pos 9223372036854775807 ∷ pos 0 ∷ pos 1 ∷ pos 1 ∷ pos 2 ∷ pos 0 ∷ pos 0 ∷ []) (0 ∷ 0 ∷ 0 ∷ 0 ∷ 0 ∷ 0 ∷ [])
-unfolding bfsCall bfsSays kernelSays soundSides soundGraph soundIds soundSide soundOffsets mirrored every each placeFrom leastFrom ends ring depthOf column mem partOf between
+unfolding bfsCall bfsSays kernelSays soundSides soundGraph soundIds soundSide soundOffsets mirrored every each placeFrom leastFrom ends ring
+    depthOf column mem partOf between
 p4-call = refl
 
 -- no vertex is 3; a queue of four places is too short; a graph of six vertices wants a sixth identifier

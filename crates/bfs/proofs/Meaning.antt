@@ -1,4 +1,5 @@
--- The depths of a sound graph are the lengths of shortest walks along outgoing arcs, unreachable stands exactly where there is no walk, and both stand in the
+-- The depths of a sound graph are the lengths of shortest walks along outgoing arcs, unreachable stands exactly where there is no walk,
+-- and both stand in the
 -- result area of a call with the root's identifier. Assumes nothing.
 use Prim.Native.Nat.{ℕ, zero, suc, _+_, _≤_, _<_}
 use mathlib.Core.Path.{_≡_, refl, sym, ap, _∙_, subst}
@@ -67,20 +68,23 @@ module _ (n : ℕ) (out : ℕ → List ℕ) (root : ℕ) (base : Base n out root
 
   -- each vertex is on no ring, or there is a first one of the first n that has it
   split : (v : ℕ) → v < n → Split v
-  split v l = settle n (omega arith) (serving-begin n out root base (replicate n unreachable) (replicate n 0) refl (length-replicate n 0) refl) v l
+  split v l =
+      settle n (omega arith) (serving-begin n out root base (replicate n unreachable) (replicate n 0) refl (length-replicate n 0) refl) v l
 
   -- the depth is what it should be
   pub is-depth : (v : ℕ) → v < n → IsDepth out root v (depthOf n out root v)
   unfolding Split
   is-depth v l =
       let here : (f : (k : ℕ) × First out root n v k) → Walk out root (f .0) v = λ f. ring-walk out root (f .0) v (f .1 .here) in
-      let first : (f : (k : ℕ) × First out root n v k) (i : ℕ) → Walk out root i v → f .0 ≤ i = λ f i p. f .1 .least i (walk-ring out root p) in
+      let first : (f : (k : ℕ) × First out root n v k) (i : ℕ) → Walk out root i v
+      → f .0 ≤ i = λ f i p. f .1 .least i (walk-ring out root p) in
       record {
         hops = λ k. (
           (λ e.
               ⊎-elim
               (λ none. let z : k ≡ infinity = cc (e .0, depth-none out root n v none) in absurd (omega (arith, e .1)))
-              (λ f. let z : f .0 ≡ k = cc (e .0, depth-found out root n v (f .0) (f .1)) in subst (Shortest out root v) z (record { walk = here f; least = first f }))
+              (λ f. let z : f .0 ≡ k = cc (e .0, depth-found out root n v (f .0) (f .1)) in
+              subst (Shortest out root v) z (record { walk = here f; least = first f }))
               (split v l)),
           λ s.
               ⊎-elim
@@ -102,13 +106,15 @@ module _ (n : ℕ) (out : ℕ → List ℕ) (root : ℕ) (base : Base n out root
 
   -- "The root has depth 0"
   pub depth-root : depthOf n out root root ≡ pos 0
-  depth-root = depth-found out root n root 0 (record { here = ring-root out root; least = λ i m. omega arith; below = omega (arith, base .root) })
+  depth-root =
+      depth-found out root n root 0 (record { here = ring-root out root; least = λ i m. omega arith; below = omega (arith, base .root) })
 
 -- ---- of a sound graph
 pub sound-depth : (g : Graph) → soundGraph g ≡ true → (root : ℕ) → root < g .vertices → (v : ℕ) → v < g .vertices
     → IsDepth (outward g) root v (depthOf (g .vertices) (outward g) root v)
 sound-depth g sound root low =
-    is-depth (g .vertices) (outward g) root (record { inside = sound-inside g sound; root = low; few = omega (arith, sound-of g sound .fewVertices) })
+    is-depth (g .vertices) (outward g) root
+    (record { inside = sound-inside g sound; root = low; few = omega (arith, sound-of g sound .fewVertices) })
 
 -- ---- the call
 module _ (g : Graph) (root : ℤ) (sound : soundGraph g ≡ true) where
@@ -144,11 +150,13 @@ module _ (g : Graph) (root : ℤ) (sound : soundGraph g ≡ true) where
           zeros = refl;
         })
 
-    call-short : (length depth < g .vertices) ⊎ (length queue < g .vertices) → bfsCall g root depth queue ≡ outcome (refuses (plain noRoom)) (clearedZ depth) (cleared queue)
+    call-short : (length depth < g .vertices) ⊎ (length queue < g .vertices)
+        → bfsCall g root depth queue ≡ outcome (refuses (plain noRoom)) (clearedZ depth) (cleared queue)
     unfolding bfsCall bfsSays kernelSays
     call-short =
         let a = leb (g .vertices) (length depth) in let b = leb (g .vertices) (length queue) in
-        ⊎-elim (λ k. rw (sound, place v h, lt-leb (g .vertices) (length depth) k)) (λ k. rw (sound, place v h, and-off a b (lt-leb (g .vertices) (length queue) k)))
+        ⊎-elim (λ k. rw (sound, place v h, lt-leb (g .vertices) (length depth) k))
+        (λ k. rw (sound, place v h, and-off a b (lt-leb (g .vertices) (length queue) k)))
 
 -- what the public call answers and leaves, from the root's identifier on, on every graph and every area
 pub bfs-call : (g : Graph) (root : ℤ) (depth : List ℤ) (queue : List ℕ) → Called g root depth queue (bfsCall g root depth queue)

@@ -1,4 +1,5 @@
--- The search over a graph of n vertices: what its loop keeps, that each turn keeps it, and that an empty queue leaves the depths. Assumes nothing.
+-- The search over a graph of n vertices: what its loop keeps, that each turn keeps it, and that an empty queue leaves the depths.
+-- Assumes nothing.
 use Prim.Native.Nat.{ℕ, zero, suc, _+_, _≤_, _<_}
 use mathlib.Core.Path.{_≡_, refl, sym, ap, _∙_, subst}
 use mathlib.Core.Logic.{_⊎_, inl, inr, ⊎-elim}
@@ -104,7 +105,8 @@ module _ (n : ℕ) (out : ℕ → List ℕ) (s : ℕ) where
     known v l b = ⊎-elim (λ a. let e : hops S v ≡ infinity = ap mag a in absurd (omega arith)) (λ x. x) (k .form v l)
 
   waits-kept : {S R : Board} (h v : ℕ) → Kept S R → Waits S h v → Waits R h v
-  waits-kept h v p w = record { place = w .place; from = w .from; upto = omega (arith, w .upto, p .grows); is = p .places (w .place) (w .upto) ∙ w .is }
+  waits-kept h v p w =
+      record { place = w .place; from = w .from; upto = omega (arith, w .upto, p .grows); is = p .places (w .place) (w .upto) ∙ w .is }
 
   known-kept : {S R : Board} {r : Ring} {h v : ℕ} → Kept S R → S .tail < infinity → Known S r h v → Known R r h v
   known-kept {S} {R} {r} {h} {v} p b x =
@@ -117,12 +119,14 @@ module _ (n : ℕ) (out : ℕ → List ℕ) (s : ℕ) where
         place =
             ⊎-elim
             (λ w. inl (waits-kept h v p w))
-            (λ c. inr (λ w a. let l : hops S w ≤ hops S v + 1 = c w a in let f : hops R w ≡ hops S w = hops-kept p w (omega (arith, x .short)) in omega arith))
+            (λ c. inr (λ w a. let l : hops S w ≤ hops S v + 1 = c w a in
+            let f : hops R w ≡ hops S w = hops-kept p w (omega (arith, x .short)) in omega arith))
             (x .place);
       }
 
   -- ---- a vertex is met for the first time
-  module _ {S : Board} {r : Ring} {h : ℕ} (k : Serving S r h) (w : ℕ) (l : w < n) (f : isFar (getD (S .depth) w (pos 0)) ≡ true) (p : Reached out s (r .level + 1) w) where
+  module _ {S : Board} {r : Ring} {h : ℕ} (k : Serving S r h) (w : ℕ) (l : w < n) (f : isFar (getD (S .depth) w (pos 0)) ≡ true)
+      (p : Reached out s (r .level + 1) w) where
     R : Board
     R = entered (r .level + 1) w S
 
@@ -184,9 +188,11 @@ module _ (n : ℕ) (out : ℕ → List ℕ) (s : ℕ) where
           et = omega (arith, k .et, new-kept .grows);
           de = k .de;
           low = λ i g. ⊎-elim (λ e. rw e l) (λ e. rw (e .1) (k .low i (e .0))) (new-place i g);
-          ring = λ i a g. rw (new-kept .places i (omega (arith, k .et))) (as-was (getD (S .queue) i 0) (r .level) (omega arith) (k .ring i a g));
+          ring = λ i a g. rw (new-kept .places i (omega (arith, k .et)))
+              (as-was (getD (S .queue) i 0) (r .level) (omega arith) (k .ring i a g));
           next = λ i a g.
-              ⊎-elim (λ e. rw e (ap mag new-here)) (λ e. rw (e .1) (as-was (getD (S .queue) i 0) (r .level + 1) b (k .next i a (e .0)))) (new-place i g);
+              ⊎-elim (λ e. rw e (ap mag new-here)) (λ e. rw (e .1) (as-was (getD (S .queue) i 0) (r .level + 1) b (k .next i a (e .0))))
+              (new-place i g);
           start = as-was s 0 (omega arith) (k .start);
           form = λ x g.
               elim (ℕ-discrete x w) as (λ _. (getD (R .depth) x (pos 0) ≡ unreachable) ⊎ Known R r h x) [
@@ -205,12 +211,14 @@ module _ (n : ℕ) (out : ℕ → List ℕ) (s : ℕ) where
     kept : Kept S R
     near : (w : ℕ) → P w → hops R w ≤ r .level + 1
 
-  one : {S : Board} {r : Ring} {h : ℕ} → Serving S r h → (w : ℕ) → w < n → Reached out s (r .level + 1) w → Met S (relaxed (r .level + 1) w S) r h (λ x. x ≡ w)
+  one : {S : Board} {r : Ring} {h : ℕ} → Serving S r h → (w : ℕ) → w < n → Reached out s (r .level + 1) w
+      → Met S (relaxed (r .level + 1) w S) r h (λ x. x ≡ w)
   one {S} {r} {h} k w l p =
       bool-cases (isFar (getD (S .depth) w (pos 0))) (Met S (relaxed (r .level + 1) w S) r h (λ x. x ≡ w))
       (λ f.
       rw (relaxed-new (r .level + 1) w S f)
-      (unfold R in record { serving = new-serving k w l f p; kept = new-kept k w l f p; near = λ x e. rw (e, new-here k w l f p) (omega arith) }))
+      (unfold R in
+      record { serving = new-serving k w l f p; kept = new-kept k w l f p; near = λ x e. rw (e, new-here k w l f p) (omega arith) }))
       (λ f.
       rw (relaxed-old (r .level + 1) w S f)
       (record {
@@ -219,7 +227,8 @@ module _ (n : ℕ) (out : ℕ → List ℕ) (s : ℕ) where
         near = λ x e. rw e (⊎-elim (λ a. clash (far-mark (getD (S .depth) w (pos 0)) a) f) (λ y. y .most) (k .form w l));
       }))
 
-  met : {S : Board} {r : Ring} {h : ℕ} (ws : List ℕ) → Serving S r h → ((w : ℕ) → mem w ws ≡ true → (w < n) × Reached out s (r .level + 1) w)
+  met : {S : Board} {r : Ring} {h : ℕ} (ws : List ℕ) → Serving S r h
+      → ((w : ℕ) → mem w ws ≡ true → (w < n) × Reached out s (r .level + 1) w)
       → Met S (walked (r .level + 1) ws S) r h (λ w. mem w ws ≡ true)
   unfolding walked
   met {S} [] k ok = record { serving = k; kept = kept-refl S; near = λ w t. absurd (mem-none-of w t) }
@@ -232,11 +241,13 @@ module _ (n : ℕ) (out : ℕ → List ℕ) (s : ℕ) where
         serving = q .serving;
         kept = kept-trans (m .kept) (q .kept);
         near = λ x t.
-            ⊎-elim (λ e. let c = m .near x e in let g = hops-kept (q .kept) x (omega arith) in omega arith) (λ c. q .near x c) (mem-cases x w ws t);
+            ⊎-elim (λ e. let c = m .near x e in let g = hops-kept (q .kept) x (omega arith) in omega arith) (λ c. q .near x c)
+            (mem-cases x w ws t);
       }
 
   -- ---- the vertex at the queue's head is served
-  done : {S : Board} {r : Ring} {h : ℕ} → Serving S r h → h < r .end → ((w : ℕ) → mem w (out (getD (S .queue) h 0)) ≡ true → hops S w ≤ r .level + 1) → Serving S r (h + 1)
+  done : {S : Board} {r : Ring} {h : ℕ} → Serving S r h → h < r .end
+      → ((w : ℕ) → mem w (out (getD (S .queue) h 0)) ≡ true → hops S w ≤ r .level + 1) → Serving S r (h + 1)
   done {S} {r} {h} k l c =
       record {
         base = k .base;
@@ -266,9 +277,11 @@ module _ (n : ℕ) (out : ℕ → List ℕ) (s : ℕ) where
           (eq-or-lt-of-le (m .from))
 
       later : (x : ℕ) → Known S r h x → Known S r (h + 1) x
-      later x y = record { here = y .here; most = y .most; short = y .short; way = y .way; place = ⊎-elim (moved x) (λ z. inr z) (y .place) }
+      later x y =
+          record { here = y .here; most = y .most; short = y .short; way = y .way; place = ⊎-elim (moved x) (λ z. inr z) (y .place) }
 
-  serve : {S : Board} {r : Ring} {h : ℕ} → Serving S r h → h < r .end → Serving (walked (r .level + 1) (out (getD (S .queue) h 0)) S) r (h + 1)
+  serve : {S : Board} {r : Ring} {h : ℕ} → Serving S r h → h < r .end
+      → Serving (walked (r .level + 1) (out (getD (S .queue) h 0)) S) r (h + 1)
   serve {S} {r} {h} k l =
       let u : ℕ = getD (S .queue) h 0 in
       let low : u < n = k .low h (omega (arith, k .et)) in
@@ -279,7 +292,8 @@ module _ (n : ℕ) (out : ℕ → List ℕ) (s : ℕ) where
       done (m .serving) l (λ w a. m .near w (subst (λ (x : ℕ). mem w (out x) ≡ true) (m .kept .places h (omega (arith, k .et))) a))
 
   -- ---- the next ring
-  turn : {S : Board} {r : Ring} {h : ℕ} → Serving S r h → h ≡ r .end → h < S .tail → Serving S (record { end = S .tail; level = r .level + 1 }) h
+  turn : {S : Board} {r : Ring} {h : ℕ} → Serving S r h → h ≡ r .end → h < S .tail
+      → Serving S (record { end = S .tail; level = r .level + 1 }) h
   turn {S} {r} {h} k e l =
       record {
         base = k .base;
@@ -293,7 +307,8 @@ module _ (n : ℕ) (out : ℕ → List ℕ) (s : ℕ) where
         next = λ i a b. absurd (omega arith);
         start = k .start;
         form = λ x b.
-            ⊎-elim (λ a. inl a) (λ y. inr (record { here = y .here; most = omega (arith, y .most); short = y .short; way = y .way; place = y .place }))
+            ⊎-elim (λ a. inl a)
+            (λ y. inr (record { here = y .here; most = omega (arith, y .most); short = y .short; way = y .way; place = y .place }))
             (k .form x b);
       }
 
@@ -320,7 +335,8 @@ module _ (n : ℕ) (out : ℕ → List ℕ) (s : ℕ) where
     pub serving-more : {l : List ℕ} {R : Board} → l ≡ out (getD (S .queue) h 0) → R ≡ walked (q .level + 1) l S → Serving R q (h + 1)
     unfolding Turned
     serving-more {l} {R} el er =
-        subst (λ (B : Board). Serving B q (h + 1)) (sym (er ∙ ap (λ (t : List ℕ). walked (q .level + 1) t S) el)) (serve (turned .0) (turned .1))
+        subst (λ (B : Board). Serving B q (h + 1)) (sym (er ∙ ap (λ (t : List ℕ). walked (q .level + 1) t S) el))
+        (serve (turned .0) (turned .1))
 
   -- ---- the end: nothing waits
   module _ {S : Board} {r : Ring} {h : ℕ} (k : Serving S r h) (over : S .tail ≤ h) where
@@ -335,18 +351,21 @@ module _ (n : ℕ) (out : ℕ → List ℕ) (s : ℕ) where
 
     -- a vertex has no depth and no ring has it, or its depth is the first ring that has it
     pub serving-settled : (x : ℕ) → x < n
-        → ((getD (S .depth) x (pos 0) ≡ unreachable) × ((i : ℕ) → Reached out s i x → ⊥)) ⊎ ((j : ℕ) × (getD (S .depth) x (pos 0) ≡ pos j) × First out s n x j)
+        → ((getD (S .depth) x (pos 0) ≡ unreachable) × ((i : ℕ) → Reached out s i x → ⊥))
+        ⊎ ((j : ℕ) × (getD (S .depth) x (pos 0) ≡ pos j) × First out s n x j)
     serving-settled x l =
         ⊎-elim
         (λ a. inl (a, λ i p. let e : hops S x ≡ infinity = ap mag a in omega (arith, reached i x p .1)))
-        (λ y. inr (hops S x, y .here, record { here = y .way; least = λ i p. reached i x p .0; below = omega (arith, y .short, serving-tail k) }))
+        (λ y. inr
+        (hops S x, y .here, record { here = y .way; least = λ i p. reached i x p .0; below = omega (arith, y .short, serving-tail k) }))
         (k .form x l)
 
     pub serving-end : S .depth ≡ depths n out s
     serving-end =
         sym
         (column-is (depthOf n out s) (pos 0) (S .depth) n (k .len)
-        (λ x l. ⊎-elim (λ a. a .0 ∙ sym (depth-none out s n x (a .1))) (λ a. a .1 ∙ sym (depth-found out s n x (a .0) (a .2))) (serving-settled x l)))
+        (λ x l. ⊎-elim (λ a. a .0 ∙ sym (depth-none out s n x (a .1))) (λ a. a .1 ∙ sym (depth-found out s n x (a .0) (a .2)))
+        (serving-settled x l)))
 
   -- ---- the beginning: the root alone
   module _ (b : Base) (D : List ℤ) (Q : List ℕ) (fresh : D ≡ replicate n unreachable) (room : length Q ≡ n) where
@@ -402,7 +421,8 @@ module _ (n : ℕ) (out : ℕ → List ℕ) (s : ℕ) where
           next = λ i a l. absurd (omega arith);
           start = ap mag first-here;
           form = λ x l.
-              elim (ℕ-discrete x s) as (λ _. (getD (first .depth) x (pos 0) ≡ unreachable) ⊎ Known first (record { end = 1; level = 0 }) 0 x) [
+              elim (ℕ-discrete x s) as (λ _. (getD (first .depth) x (pos 0) ≡ unreachable)
+              ⊎ Known first (record { end = 1; level = 0 }) 0 x) [
                 | yes q ↦ inr (subst (Known first (record { end = 1; level = 0 }) 0) (sym q) first-known)
                 | no q ↦ inl (getD-set-other D s x (pos 0) (pos 0) q ∙ first-other x l)
               ];

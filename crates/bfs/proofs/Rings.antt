@@ -1,4 +1,5 @@
--- Laws of rings: a vertex of the next ring stands behind an arc from this one; the depth is the first ring that has the vertex. Assumes nothing.
+-- Laws of rings: a vertex of the next ring stands behind an arc from this one; the depth is the first ring that has the vertex.
+-- Assumes nothing.
 use Prim.Native.Nat.{ℕ, zero, suc, _+_, _≤_, _<_}
 use mathlib.Core.Path.{_≡_, refl, sym, ap, _∙_, subst}
 use mathlib.Core.Logic.{⊎-elim}
@@ -24,7 +25,8 @@ module _ (p : ℕ → Bool) where
   least-found (suc f) m k l h t none =
       ⊎-elim
       (λ e. ap (pickAt f m) (ap p e ∙ t) ∙ ap pos e)
-      (λ g. ap (pickAt f m) (none m (omega arith) g) ∙ least-found f (suc m) k g (omega (arith, add-suc m f)) t (λ i a b. none i (omega arith) b))
+      (λ g. ap (pickAt f m) (none m (omega arith) g)
+      ∙ least-found f (suc m) k g (omega (arith, add-suc m f)) t (λ i a b. none i (omega arith) b))
       (eq-or-lt-of-le l)
 
   least-none : (f m : ℕ) → ((i : ℕ) → p i ≡ false) → leastFrom p f m ≡ unreachable

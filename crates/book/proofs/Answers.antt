@@ -1,4 +1,5 @@
--- Laws of the answers: what an answer says determines it, a refused call changes nothing, a vertex joined to itself merges nothing, joins with each of a list stand up to the refused one. Assumes nothing.
+-- Laws of the answers: what an answer says determines it, a refused call changes nothing, a vertex joined to itself merges nothing,
+-- joins with each of a list stand up to the refused one. Assumes nothing.
 use mathlib.Core.Path.{_≡_, refl, sym, ap, ap₂, _∙_}
 use mathlib.Core.List.{List, [], _∷_}
 use mathlib.Core.Bool.{Bool, true, false, cond}
@@ -15,7 +16,9 @@ use Rattle.book.specs.declared.JoinedEach.{JoinedEach}
 use Rattle.book.specs.declared.Headed.{Headed}
 use Rattle.book.specs.declared.Compared.{Compared}
 use Rattle.book.specs.declared.Reading.{Reading}
-use Rattle.book.specs.Rules.{Found, Heads, Step, already, merge, Joining, merged, same, Machine, Done, done, headsOf, linkHeads, decide, openBook, writeBook, joinBook, Each, all, stopped, EachDone, eachDone, counted, behind, andOn, joinEach}
+use Rattle.book.specs.Rules.{Found, Heads, Step, already, merge, Joining, merged, same, Machine, Done}
+use Rattle.book.specs.Rules.{done, headsOf, linkHeads, decide, openBook, writeBook, joinBook, Each}
+use Rattle.book.specs.Rules.{all, stopped, EachDone, eachDone, counted, behind, andOn, joinEach}
 use Rattle.book.specs.Says.{saysOpened, saysJoined, saysJoinedEach, saysHeaded, saysCompared, saysReading}
 use Rattle.book.proofs.Calls.{heads-inside}
 use Rattle.book.proofs.Joins.{link-already}
@@ -118,11 +121,13 @@ module _ (M : Machine) (a : M .Area) where
   unfolding joinBook decide writeBook
   join-itself v = go (headsOf (M .view a) v v) refl
     where
-      go : (d : Said Heads) → headsOf (M .view a) v v ≡ d → writeBook M (onward (headsOf (M .view a) v v) (linkHeads (M .view a))) a .area ≡ a
+      go : (d : Said Heads) → headsOf (M .view a) v v ≡ d
+          → writeBook M (onward (headsOf (M .view a) v v) (linkHeads (M .view a))) a .area ≡ a
       go (gives p) e =
           let t = heads-inside (M .view a) v v (p .first) (p .second) e .3 in
           let q : p .first ≡ p .second = ap (λ (f : Found). f .head) (given-one (sym (t .2) ∙ t .3)) in
-          ap (λ s. writeBook M (onward s (linkHeads (M .view a))) a .area) e ∙ ap (λ d. writeBook M d a .area) (link-already (M .view a) (p .first) (p .second) q)
+          ap (λ s. writeBook M (onward s (linkHeads (M .view a))) a .area) e
+          ∙ ap (λ d. writeBook M d a .area) (link-already (M .view a) (p .first) (p .second) q)
       go (refuses r) e = ap (λ s. writeBook M (onward s (linkHeads (M .view a))) a .area) e
 
 -- ---- joins of one vertex with each of a list
@@ -135,12 +140,14 @@ mergesBy same = 0
 module _ (M : Machine) (u : ℕ) where
   module _ (a : M .Area) (w : ℕ) (ws : List ℕ) where
     -- the first join, and those behind it
-    pub each-said : (j : Joining) → joinBook M a u w .said ≡ gives j → joinEach M a u (w ∷ ws) ≡ behind 1 (mergesBy j) (joinEach M (joinBook M a u w .area) u ws)
+    pub each-said : (j : Joining) → joinBook M a u w .said ≡ gives j
+        → joinEach M a u (w ∷ ws) ≡ behind 1 (mergesBy j) (joinEach M (joinBook M a u w .area) u ws)
     unfolding joinEach andOn
     each-said merged e = ap (λ (d : Said Joining). andOn d (joinBook M a u w .area) (joinEach M (joinBook M a u w .area) u ws)) e
     each-said same e = ap (λ (d : Said Joining). andOn d (joinBook M a u w .area) (joinEach M (joinBook M a u w .area) u ws)) e
 
-    pub each-stopped : (r : Refusal) → joinBook M a u w .said ≡ refuses r → joinEach M a u (w ∷ ws) ≡ eachDone (stopped 0 0 r) (joinBook M a u w .area)
+    pub each-stopped : (r : Refusal) → joinBook M a u w .said ≡ refuses r
+        → joinEach M a u (w ∷ ws) ≡ eachDone (stopped 0 0 r) (joinBook M a u w .area)
     unfolding joinEach andOn
     each-stopped r e = ap (λ (d : Said Joining). andOn d (joinBook M a u w .area) (joinEach M (joinBook M a u w .area) u ws)) e
 
@@ -158,11 +165,13 @@ module _ (M : Machine) (u : ℕ) where
       Stands = joinEach M a u (take k (w ∷ ws)) ≡ eachDone (all m) (joinEach M a u (w ∷ ws) .area)
 
       Behind : Type 0
-      Behind = (i n : ℕ) (q : Refusal) → joinEach M b u ws .said ≡ stopped i n q → joinEach M b u (take i ws) ≡ eachDone (all n) (joinEach M b u ws .area)
+      Behind = (i n : ℕ) (q : Refusal) → joinEach M b u ws .said ≡ stopped i n q
+          → joinEach M b u (take i ws) ≡ eachDone (all n) (joinEach M b u ws .area)
 
       rest : (j : Joining) → joinBook M a u w .said ≡ gives j → Behind → (x : Each) → joinEach M b u ws .said ≡ x → Stands
       rest j d ih (all n) f =
-          let z : all (n + mergesBy j) ≡ stopped k m r = ap (counted 1 (mergesBy j)) (sym f) ∙ sym (ap (λ (y : EachDone (M .Area)). y .said) (each-said a w ws j d)) ∙ e in
+          let z : all (n + mergesBy j) ≡ stopped k m r = ap (counted 1 (mergesBy j)) (sym f)
+          ∙ sym (ap (λ (y : EachDone (M .Area)). y .said) (each-said a w ws j d)) ∙ e in
           no-case cc
       rest j d ih (stopped i n q) f =
           let z : stopped (i + 1) (n + mergesBy j) q ≡ stopped k m r
@@ -181,4 +190,5 @@ module _ (M : Machine) (u : ℕ) where
           let p : k ≡ 0 = cc in
           let o : _≡_ {A = ℕ} 0 m = cc in
           ap (λ (y : ℕ). joinEach M a u (take y (w ∷ ws))) p
-          ∙ ap₂ (λ (y : ℕ) (c : M .Area). eachDone (all y) c) o (sym (ap (λ (y : EachDone (M .Area)). y .area) s ∙ join-unchanged M a u w q d))
+          ∙ ap₂ (λ (y : ℕ) (c : M .Area). eachDone (all y) c) o
+          (sym (ap (λ (y : EachDone (M .Area)). y .area) s ∙ join-unchanged M a u w q d))

@@ -26,7 +26,8 @@ module _ (ps ss : List ℕ) (t : Bool) (e : t ≡ fits ps ss) where
   pub open-lengths : not t ≡ false → length ss ≡ length ps
   open-lengths f = fits-same ps ss (held t _ e f)
 
-  pub open-ready : (i : ℕ) (p s : List ℕ) → not t ≡ false → length ps ≤ i → i ≤ length ps → p ≡ column (λ v. v) 0 i ++ drop i ps → s ≡ column (λ v. 1) 0 i ++ drop i ss
+  pub open-ready : (i : ℕ) (p s : List ℕ) → not t ≡ false → length ps ≤ i → i ≤ length ps → p ≡ column (λ v. v) 0 i ++ drop i ps
+      → s ≡ column (λ v. 1) 0 i ++ drop i ss
       → done (gives tt) (areas p s) ≡ openBook twoBook (areas ps ss)
   unfolding openBook two
   open-ready i p s f l k a b =

@@ -13,7 +13,8 @@ use Rattle.book.specs.declared.Headed.{Headed}
 use Rattle.book.specs.declared.Pair.{Pair}
 use Rattle.book.specs.declared.Reading.{Reading}
 use Rattle.basis.specs.Refusal.{gives, refuses, plain, notThere, onward}
-use Rattle.book.specs.Rules.{stop, View, found, heads, Step, already, merge, Machine, walkFrom, headOf, pair, headsOf, sameGroup, groupSize, tally, isStop, groupCount, largest, stepLimit, above, mergeHeads, linkHeads, decide}
+use Rattle.book.specs.Rules.{stop, View, found, heads, Step, already, merge, Machine, walkFrom, headOf, pair, headsOf, sameGroup}
+use Rattle.book.specs.Rules.{groupSize, tally, isStop, groupCount, largest, stepLimit, above, mergeHeads, linkHeads, decide}
 use Rattle.basis.proofs.Tests.{clash}
 use Rattle.book.specs.Series.{Slip, slip, Linked, back, on}
 use Rattle.book.proofs.Calls.{head-walk, heads-walks, heads-missing, heads-missing2, same-is, size-is, count-is, limit-is}
@@ -65,7 +66,8 @@ module _ (n : ℕ) (w : View) (js : List Slip) (m : ℕ) (S : Sound n w js m) wh
   unfolding walkFrom
   walk-is v l =
       let e : 0 + S .forest .depth v ≡ S .forest .depth v = omega arith in
-      rw (S .count) (reach-walk (w .next) n (S .forest .depth v) 16 0 v (S .forest .head v) (S .forest .reach v l) (depth-le v l) ∙ ap (λ (k : ℕ). gives (found (S .forest .head v) k)) e)
+      rw (S .count) (reach-walk (w .next) n (S .forest .depth v) 16 0 v (S .forest .head v) (S .forest .reach v l) (depth-le v l)
+      ∙ ap (λ (k : ℕ). gives (found (S .forest .head v) k)) e)
 
   pub head-answer : (v : ℕ) → v < n → headOf w v ≡ gives (found (S .forest .head v) (S .forest .depth v))
   head-answer v l = head-walk w v (S .fit) (in-area v l) ∙ walk-is v l
@@ -77,7 +79,8 @@ module _ (n : ℕ) (w : View) (js : List Slip) (m : ℕ) (S : Sound n w js m) wh
   same-answer u v k l = sym (same-is w u v (Pair.Heads (S .forest .head u) (S .forest .head v)) (sym (heads-answer u v k l)) _ _ refl)
 
   pub size-answer : (v : ℕ) → v < n → groupSize w v ≡ gives (w .size (S .forest .head v))
-  size-answer v l = sym (size-is w v (Headed.Head (S .forest .head v) (S .forest .depth v)) (sym (head-answer v l)) _ _ refl (size-pos v l) (size-le v l))
+  size-answer v l =
+      sym (size-is w v (Headed.Head (S .forest .head v) (S .forest .depth v)) (sym (head-answer v l)) _ _ refl (size-pos v l) (size-le v l))
 
   pub limit-answer : (v : ℕ) → v < n → stepLimit w v ≡ gives (largest 16 (w .size (S .forest .head v)))
   limit-answer v l = sym (limit-is w v (Reading.Value (w .size (S .forest .head v))) (sym (size-answer v l)) _ refl _ refl)
@@ -118,7 +121,8 @@ above-false a b g h e = elim (decLt b a) [ yes l ↦ clash (sym (above-larger a 
 abbrev pub Joins : ℕ → View → List Slip → ℕ → (ℕ → ℕ) → ℕ → ℕ → Type 0
 Joins n w js m head u v =
     ((decide w u v ≡ gives already) × (head u ≡ head v))
-    ⊎ ((top under : ℕ) × (decide w u v ≡ gives (merge top under (w .size top + w .size under))) × Mergeable w top under (w .size top + w .size under)
+    ⊎ ((top under : ℕ) × (decide w u v ≡ gives (merge top under (w .size top + w .size under)))
+    × Mergeable w top under (w .size top + w .size under)
     × Whose head u v top under × (w .size under ≤ w .size top))
 
 module _ (n : ℕ) (w : View) (js : List Slip) (m : ℕ) (S : Sound n w js m) (u v : ℕ) (u-in : u < n) (v-in : v < n) where
@@ -160,7 +164,8 @@ module _ (n : ℕ) (w : View) (js : List Slip) (m : ℕ) (S : Sound n w js m) (u
             S .count,
             size-group n w js m S u u-in,
             size-group n w js m S v v-in,
-            tally-apart (λ x. eqb (S .forest .head x) g) (λ x. eqb (S .forest .head x) h) n (λ x _. bits x (ℕ-discrete (S .forest .head x) g)),
+            tally-apart (λ x. eqb (S .forest .head x) g) (λ x. eqb (S .forest .head x) h) n
+                (λ x _. bits x (ℕ-discrete (S .forest .head x) g)),
           )
         where
           bits : (x : ℕ) → Dec (S .forest .head x ≡ g) → bit (eqb (S .forest .head x) g) + bit (eqb (S .forest .head x) h) ≤ 1
@@ -170,14 +175,24 @@ module _ (n : ℕ) (w : View) (js : List Slip) (m : ℕ) (S : Sound n w js m) (u
           bits x (no q) = simp (ne-eqb _ _ q) (omega (arith, bit-le (eqb (S .forest .head x) h)))
 
       merges : (g ≡ h → ⊥) → {s : Step} → mergeHeads a b g h ≡ s → onward (headsOf w u v) (linkHeads w) ≡ gives s
-      merges d q = ap (λ s. onward s (linkHeads w)) both ∙ link-merges w g h d (mergeable-of (w .count) a b (omega (arith, za)) (omega (arith, zb)) (fits d)) ∙ ap gives q
+      merges d q =
+          ap (λ s. onward s (linkHeads w)) both ∙ link-merges w g h d
+          (mergeable-of (w .count) a b (omega (arith, za)) (omega (arith, zb)) (fits d)) ∙ ap gives q
 
       above? : (g ≡ h → ⊥) → (t : Bool) → above a b g h ≡ t → Joins n w js m (S .forest .head) u v
       above? d true e = inr (
         g,
         h,
         merges d (merge-above a b g h e),
-        record { fit = S .fit; top-in = omega (arith, S .count, hu .0); under-in = omega (arith, S .count, hv .0); apart = d; top-head = hu .1; under-head = hv .1; total-pos = omega (arith, za) },
+        record {
+          fit = S .fit;
+          top-in = omega (arith, S .count, hu .0);
+          under-in = omega (arith, S .count, hv .0);
+          apart = d;
+          top-head = hu .1;
+          under-head = hv .1;
+          total-pos = omega (arith, za);
+        },
         inl (refl, refl),
         above-true a b g h e,
       )
@@ -187,7 +202,15 @@ module _ (n : ℕ) (w : View) (js : List Slip) (m : ℕ) (S : Sound n w js m) (u
             h,
             g,
             merges d (merge-below a b g h e ∙ ap (merge h g) t),
-            record { fit = S .fit; top-in = omega (arith, S .count, hv .0); under-in = omega (arith, S .count, hu .0); apart = λ q. d (sym q); top-head = hv .1; under-head = hu .1; total-pos = omega (arith, za) },
+            record {
+              fit = S .fit;
+              top-in = omega (arith, S .count, hv .0);
+              under-in = omega (arith, S .count, hu .0);
+              apart = λ q. d (sym q);
+              top-head = hv .1;
+              under-head = hu .1;
+              total-pos = omega (arith, za);
+            },
             inr (refl, refl),
             above-false a b g h e,
           )
@@ -197,7 +220,8 @@ module _ (n : ℕ) (w : View) (js : List Slip) (m : ℕ) (S : Sound n w js m) (u
       same? (no q) = above? q (above a b g h) refl
 
   pub sound-already : S .forest .head u ≡ S .forest .head v → Sound n w (slip u v ∷ js) m
-  sound-already q = record { fit = S .fit; count = S .count; within = S .within; forest = forest-already n (w .next) (w .size) js m (S .forest) u v q }
+  sound-already q =
+      record { fit = S .fit; count = S .count; within = S .within; forest = forest-already n (w .next) (w .size) js m (S .forest) u v q }
 
 module _ (M : Machine) (L : Faithful M) (n : ℕ) (a : M .Area) (js : List Slip) (m : ℕ) where
   pub sound-open : M .view a .fit ≡ true → M .view a .count ≡ n → Sound n (M .view (M .opened a)) [] 0
@@ -208,7 +232,8 @@ module _ (M : Machine) (L : Faithful M) (n : ℕ) (a : M .Area) (js : List Slip)
     forest = forest-open n _ _ (λ v l. L .opened-next a v (omega (arith, e))) (λ v l. L .opened-size a v (omega (arith, e)));
   }
 
-  pub sound-merged : (S : Sound n (M .view a) js m) (u v : ℕ) → u < n → v < n → (top under : ℕ) → Mergeable (M .view a) top under (M .view a .size top + M .view a .size under)
+  pub sound-merged : (S : Sound n (M .view a) js m) (u v : ℕ) → u < n → v < n → (top under : ℕ)
+      → Mergeable (M .view a) top under (M .view a .size top + M .view a .size under)
       → Whose (S .forest .head) u v top under → M .view a .size under ≤ M .view a .size top
       → Sound n (M .view (M .merged top under (M .view a .size top + M .view a .size under) a)) (slip u v ∷ js) (suc m)
   sound-merged S u v u-in v-in top under k whose smaller =
@@ -218,8 +243,10 @@ module _ (M : Machine) (L : Faithful M) (n : ℕ) (a : M .Area) (js : List Slip)
         count = L .merged-count a top under t ∙ S .count;
         within = S .within;
         forest =
-            forest-merged n (M .view a .next) (M .view (M .merged top under t a) .next) (M .view a .size) (M .view (M .merged top under t a) .size) js m (S .forest) u v top under
-            u-in v-in (omega (arith, k .top-in, S .count)) (omega (arith, k .under-in, S .count)) (k .top-head) (k .under-head) (k .apart) whose smaller
+            forest-merged n (M .view a .next) (M .view (M .merged top under t a) .next) (M .view a .size)
+            (M .view (M .merged top under t a) .size) js m (S .forest) u v top under
+            u-in v-in (omega (arith, k .top-in, S .count)) (omega (arith, k .under-in, S .count)) (k .top-head) (k .under-head) (k .apart)
+            whose smaller
             (L .merged-under a top under t k)
             (λ x d. L .merged-next a top under t k x d)
             (L .merged-top a top under t k)

@@ -15,7 +15,8 @@ use Rattle.basis.proofs.Tests.{and-first, and-second, and-both, and-off, failed
 use Rattle.book.specs.declared.Headed.{Headed}
 use Rattle.book.specs.declared.Pair.{Pair}
 use Rattle.book.specs.declared.Reading.{Reading}
-use Rattle.book.specs.Rules.{stop, View, Found, found, Heads, heads, walkFrom, headOf, pair, headsOf, oneHead, sameGroup, sizeAt, groupSize, tally, isStop, groupCount, largest, limitOf, stepLimit}
+use Rattle.book.specs.Rules.{stop, View, Found, found, Heads, heads, walkFrom, headOf, pair, headsOf, oneHead}
+use Rattle.book.specs.Rules.{sameGroup, sizeAt, groupSize, tally, isStop, groupCount, largest, limitOf, stepLimit}
 use Rattle.book.specs.Two.{nextIn}
 use Rattle.book.specs.Says.{saysHeaded, saysReading}
 use Rattle.book.specs.Steps.{saysPair}
@@ -43,22 +44,29 @@ module _ (w : View) (v : ℕ) where
 
     pub head-missing : (x : Refusal) → not t ≡ false → w .count ≤ v → x ≡ plain notThere → refuses x ≡ headOf w v
     unfolding headOf
-    head-missing x f l p = ap refuses p ∙ sym (check-on (w .fit) noRoom _ (held t _ e f) ∙ check-off (ltb v (w .count)) notThere _ (le-ltb v (w .count) l))
+    head-missing x f l p =
+        ap refuses p ∙ sym (check-on (w .fit) noRoom _ (held t _ e f) ∙ check-off (ltb v (w .count)) notThere _ (le-ltb v (w .count) l))
 
     pub head-walked : (s : Said Found) → not t ≡ false → v < w .count → s ≡ walkFrom (w .next) (w .count) v → s ≡ headOf w v
     head-walked s f l p = p ∙ sym (head-walk (held t _ e f) l)
 
 -- ---- the heads of two vertices
 module _ (w : View) (u v : ℕ) where
-  pub heads-walks : w .fit ≡ true → u < w .count → v < w .count → headsOf w u v ≡ pair (walkFrom (w .next) (w .count) u) (walkFrom (w .next) (w .count) v)
+  pub heads-walks : w .fit ≡ true → u < w .count → v < w .count
+      → headsOf w u v ≡ pair (walkFrom (w .next) (w .count) u) (walkFrom (w .next) (w .count) v)
   unfolding headsOf
   heads-walks a d e =
-      check-on (w .fit) noRoom _ a ∙ check-on (ltb u (w .count)) notThere _ (lt-ltb u (w .count) d) ∙ check-on (ltb v (w .count)) notThere _ (lt-ltb v (w .count) e)
+      check-on (w .fit) noRoom _ a ∙ check-on (ltb u (w .count)) notThere _ (lt-ltb u (w .count) d)
+      ∙ check-on (ltb v (w .count)) notThere _ (lt-ltb v (w .count) e)
 
   pair-passed : (s t : Said Found) (g h : ℕ) → pair s t ≡ gives (heads g h) → (k l : ℕ) × (s ≡ gives (found g k)) × (t ≡ gives (found h l))
   pair-passed (gives f) (gives x) g h e =
-      let q = given-one e in
-      (f .moves, x .moves, ap (λ (p : Heads). gives (found (p .first) (f .moves))) q, ap (λ (p : Heads). gives (found (p .second) (x .moves))) q)
+      let q = given-one e in (
+        f .moves,
+        x .moves,
+        ap (λ (p : Heads). gives (found (p .first) (f .moves))) q,
+        ap (λ (p : Heads). gives (found (p .second) (x .moves))) q,
+      )
   pair-passed (gives f) (refuses r) g h e = refused-given e
   pair-passed (refuses r) t g h e = refused-given e
 
@@ -69,11 +77,16 @@ module _ (w : View) (u v : ℕ) where
   heads-inside g h e =
       let l = check-passed (w .fit) noRoom _ _ e in
       let t = check-passed (ltb u (w .count)) notThere _ _ (l .1) in
-      let b = check-passed (ltb v (w .count)) notThere _ _ (t .1) in
-      (l .0, ltb-true u (w .count) (t .0), ltb-true v (w .count) (b .0), pair-passed (walkFrom (w .next) (w .count) u) (walkFrom (w .next) (w .count) v) g h (b .1))
+      let b = check-passed (ltb v (w .count)) notThere _ _ (t .1) in (
+        l .0,
+        ltb-true u (w .count) (t .0),
+        ltb-true v (w .count) (b .0),
+        pair-passed (walkFrom (w .next) (w .count) u) (walkFrom (w .next) (w .count) v) g h (b .1),
+      )
 
   -- heads that are given are in the area
-  pub heads-below : (g h : ℕ) → headsOf w u v ≡ gives (heads g h) → (g < w .count) × (w .next g ≡ stop) × (h < w .count) × (w .next h ≡ stop)
+  pub heads-below : (g h : ℕ) → headsOf w u v ≡ gives (heads g h)
+      → (g < w .count) × (w .next g ≡ stop) × (h < w .count) × (w .next h ≡ stop)
   heads-below g h e =
       let t = heads-inside g h e in
       let a = walkFrom-in (w .next) (w .count) u (found g (t .3 .0)) (t .1) (t .3 .2) in
@@ -87,7 +100,8 @@ module _ (w : View) (u v : ℕ) where
 
     pub heads-missing : (x : Refusal) → not t ≡ false → w .count ≤ u → x ≡ plain notThere → refuses x ≡ headsOf w u v
     unfolding headsOf
-    heads-missing x f l p = ap refuses p ∙ sym (check-on (w .fit) noRoom _ (held t _ e f) ∙ check-off (ltb u (w .count)) notThere _ (le-ltb u (w .count) l))
+    heads-missing x f l p =
+        ap refuses p ∙ sym (check-on (w .fit) noRoom _ (held t _ e f) ∙ check-off (ltb u (w .count)) notThere _ (le-ltb u (w .count) l))
 
     pub heads-missing2 : (x : Refusal) → not t ≡ false → u < w .count → w .count ≤ v → x ≡ plain notThere → refuses x ≡ headsOf w u v
     unfolding headsOf
@@ -96,7 +110,8 @@ module _ (w : View) (u v : ℕ) where
         ∙ sym (check-on (w .fit) noRoom _ (held t _ e f) ∙ check-on (ltb u (w .count)) notThere _ (lt-ltb u (w .count) d)
         ∙ check-off (ltb v (w .count)) notThere _ (le-ltb v (w .count) l))
 
-    pub heads-walked : (s z : Said Found) → not t ≡ false → u < w .count → v < w .count → s ≡ walkFrom (w .next) (w .count) u → z ≡ walkFrom (w .next) (w .count) v
+    pub heads-walked : (s z : Said Found) → not t ≡ false → u < w .count → v < w .count → s ≡ walkFrom (w .next) (w .count) u
+        → z ≡ walkFrom (w .next) (w .count) v
         → pair s z ≡ headsOf w u v
     heads-walked s z f a b p q = sym (heads-walks (held t _ e f) a b ∙ ap₂ pair (sym p) (sym q))
 
@@ -130,14 +145,17 @@ module _ (w : View) (v : ℕ) where
 
     pub size-zero : (x : Refusal) → w .size h ≡ 0 → x ≡ plain unsound → refuses x ≡ groupSize w v
     size-zero x a p =
-        ap refuses p ∙ sym (size-at ∙ check-off (ltb 0 (w .size h) && leb (w .size h) (w .count)) unsound _ (ap (λ (b : Bool). b && leb (w .size h) (w .count)) (le-ltb 0 (w .size h) (omega arith))))
+        ap refuses p
+        ∙ sym (size-at ∙ check-off (ltb 0 (w .size h) && leb (w .size h) (w .count)) unsound _
+        (ap (λ (b : Bool). b && leb (w .size h) (w .count)) (le-ltb 0 (w .size h) (omega arith))))
 
     pub size-large : (x : Refusal) → w .count < w .size h → x ≡ plain unsound → refuses x ≡ groupSize w v
     size-large x a p =
         ap refuses p ∙ sym (size-at ∙ check-off _ unsound _ (and-off (ltb 0 (w .size h)) _ (lt-leb (w .size h) (w .count) a)))
 
     pub size-is : (w .size h ≡ 0 → ⊥) → w .size h ≤ w .count → gives (w .size h) ≡ groupSize w v
-    size-is a b = sym (size-at ∙ check-on _ unsound _ (and-both (lt-ltb 0 (w .size h) (omega (arith, a))) (le-leb (w .size h) (w .count) b)))
+    size-is a b =
+        sym (size-at ∙ check-on _ unsound _ (and-both (lt-ltb 0 (w .size h) (omega (arith, a))) (le-leb (w .size h) (w .count) b)))
 
     -- the head that is read is in the area
     pub size-below : (w .fit ≡ true) × (h < w .count)
@@ -150,7 +168,8 @@ module _ (w : View) (v : ℕ) where
   unfolding groupSize
   size-inside s e =
       let t = onward-passed (headOf w v) (sizeAt w) s e in
-      let k = check-passed (ltb 0 (w .size (t .0 .head)) && leb (w .size (t .0 .head)) (w .count)) unsound (gives (w .size (t .0 .head))) s (t .2) in
+      let k = check-passed (ltb 0 (w .size (t .0 .head)) && leb (w .size (t .0 .head)) (w .count)) unsound (gives (w .size (t .0 .head))) s
+      (t .2) in
       let q : w .size (t .0 .head) ≡ s = given-one (k .1) in (
         head-inside w v (t .0) (t .1) .0,
         rw q at (ltb-true 0 (w .size (t .0 .head)) (and-first _ _ (k .0))),

@@ -1,4 +1,5 @@
--- A walk that is carried along while heads go under heads: it stays, or it is one move longer where its own head went under. It holds on every content. Assumes nothing.
+-- A walk that is carried along while heads go under heads: it stays, or it is one move longer where its own head went under.
+-- It holds on every content. Assumes nothing.
 use mathlib.Core.Path.{_≡_, refl, sym, ap, _∙_, subst}
 use mathlib.Core.List.{List}
 use Prim.Native.Nat.{ℕ, zero, suc, _+_, _*_, _/_, _%_, _≤_, _<_}
@@ -37,7 +38,8 @@ module _ (next : ℕ → Next) (n : ℕ) where
       go (to p) q = refused-given (sym (walk-late next n moves at p q) ∙ e)
   walk-reach (suc left) moves at f l e = go (next at) refl (λ p k d. walk-reach left (moves + 1) p f k d)
     where
-      go : (x : Next) → next at ≡ x → ((p : ℕ) → p < n → walk next n left (moves + 1) p ≡ gives f → Reached left (moves + 1) p f) → Reached (suc left) moves at f
+      go : (x : Next) → next at ≡ x → ((p : ℕ) → p < n → walk next n left (moves + 1) p ≡ gives f → Reached left (moves + 1) p f)
+          → Reached (suc left) moves at f
       go stop q ih = reach-here (suc left) moves at f l e q
       go (to p) q ih = inside (decLt p n)
         where
@@ -55,13 +57,16 @@ module _ (next : ℕ → Next) (n : ℕ) where
       walk-move next n left m v (r .0) (r .2) (reach-in next n k (r .0) h (r .3)) ∙ reach-late k left (m + 1) (r .0) h (r .3) (omega arith)
 
 -- ---- after the head `under` went under the head `top`
-module _ (next next′ : ℕ → Next) (n top under : ℕ) (top-in : top < n) (top-head : next top ≡ stop) (under-head : next under ≡ stop) (apart : top ≡ under → ⊥)
-    (at : next′ under ≡ to top) (off : (x : ℕ) → (x ≡ under → ⊥) → next′ x ≡ next x) (v g k : ℕ) (v-in : v < n) (e : walkFrom next n v ≡ gives (found g k)) where
+module _ (next next′ : ℕ → Next) (n top under : ℕ) (top-in : top < n) (top-head : next top ≡ stop) (under-head : next under ≡ stop)
+    (apart : top ≡ under → ⊥)
+    (at : next′ under ≡ to top) (off : (x : ℕ) → (x ≡ under → ⊥) → next′ x ≡ next x) (v g k : ℕ) (v-in : v < n)
+    (e : walkFrom next n v ≡ gives (found g k)) where
   walk-other : (g ≡ under → ⊥) → walkFrom next′ n v ≡ gives (found g k)
   unfolding walkFrom
   walk-other d =
       let r = walk-reach next n 16 0 v (found g k) v-in e in
-      reach-walk next′ n (r .0) 16 0 v g (reach-other next next′ n top under top-in top-head under-head apart at off (r .0) v g d (r .3)) (r .1)
+      reach-walk next′ n (r .0) 16 0 v g (reach-other next next′ n top under top-in top-head under-head apart at off (r .0) v g d (r .3))
+      (r .1)
       ∙ ap (λ (x : ℕ). gives (found g x)) (sym (r .2))
 
   walk-under : g ≡ under → walkFrom next′ n v ≡ check (leb (k + 1) 16) unsound (gives (found top (k + 1)))
@@ -72,13 +77,18 @@ module _ (next next′ : ℕ → Next) (n top under : ℕ) (top-in : top < n) (t
       on =
           let r = walk-reach next n 16 0 v (found g k) v-in e in
           let i : suc (r .0) ≡ k + 1 = omega (arith, r .2) in
-          subst (λ (y : ℕ). Reach next′ n v top y) i (reach-under next next′ n top under top-in top-head under-head apart at off (r .0) v (subst (λ (y : ℕ). Reach next n v y (r .0)) q (r .3)))
+          subst (λ (y : ℕ). Reach next′ n v top y) i
+          (reach-under next next′ n top under top-in top-head under-head apart at off (r .0) v
+          (subst (λ (y : ℕ). Reach next n v y (r .0)) q (r .3)))
 
       go : Dec (k < 16) → walk next′ n 16 0 v ≡ check (leb (k + 1) 16) unsound (gives (found top (k + 1)))
       go (yes y) =
           let i : 0 + (k + 1) ≡ k + 1 = omega arith in
-          reach-walk next′ n (k + 1) 16 0 v top on (omega arith) ∙ ap (λ (x : ℕ). gives (found top x)) i ∙ sym (check-on (leb (k + 1) 16) unsound _ (le-leb (k + 1) 16 (omega arith)))
-      go (no d) = reach-late next′ n (k + 1) 16 0 v top on (omega arith) ∙ sym (check-off (leb (k + 1) 16) unsound _ (lt-leb (k + 1) 16 (omega arith)))
+          reach-walk next′ n (k + 1) 16 0 v top on (omega arith) ∙ ap (λ (x : ℕ). gives (found top x)) i
+          ∙ sym (check-on (leb (k + 1) 16) unsound _ (le-leb (k + 1) 16 (omega arith)))
+      go (no d) =
+          reach-late next′ n (k + 1) 16 0 v top on (omega arith)
+          ∙ sym (check-off (leb (k + 1) 16) unsound _ (lt-leb (k + 1) 16 (omega arith)))
 
 -- ---- the same of two areas, of a walk in one number
 module _ (ps ss : List ℕ) (u at : ℕ) (x : Walking ps ss u at) (m : at / 65536 ≤ 16) (t d : ℕ) (k : Mergeable (two ps ss) t d 1) where
@@ -90,7 +100,8 @@ module _ (ps ss : List ℕ) (u at : ℕ) (x : Walking ps ss u at) (m : at / 6553
   carried-other q =
       walked-ends at m
       ∙ sym (ap (λ (n : ℕ). walkFrom (nextIn (set ps d t)) n u) (length-set ps d t)
-      ∙ walk-other (nextIn ps) (nextIn (set ps d t)) (length ps) t d (k .top-in) (k .top-head) (k .under-head) (k .apart) (faithful-two .merged-under (areas ps ss) t d 1 k)
+      ∙ walk-other (nextIn ps) (nextIn (set ps d t)) (length ps) t d (k .top-in) (k .top-head) (k .under-head) (k .apart)
+      (faithful-two .merged-under (areas ps ss) t d 1 k)
       (faithful-two .merged-next (areas ps ss) t d 1 k) u (at % 65536) (at / 65536) (x .inside) ended q)
 
   pub carried-under : at % 65536 ≡ d → saysWalked ((at / 65536 + 1) * 65536 + t) ≡ walkFrom (nextIn (set ps d t)) (length (set ps d t)) u
@@ -98,5 +109,6 @@ module _ (ps ss : List ℕ) (u at : ℕ) (x : Walking ps ss u at) (m : at / 6553
   carried-under q =
       walked-of t (at / 65536 + 1) (omega (arith, k .top-in, fits-within ps ss (x .lent)))
       ∙ sym (ap (λ (n : ℕ). walkFrom (nextIn (set ps d t)) n u) (length-set ps d t)
-      ∙ walk-under (nextIn ps) (nextIn (set ps d t)) (length ps) t d (k .top-in) (k .top-head) (k .under-head) (k .apart) (faithful-two .merged-under (areas ps ss) t d 1 k)
+      ∙ walk-under (nextIn ps) (nextIn (set ps d t)) (length ps) t d (k .top-in) (k .top-head) (k .under-head) (k .apart)
+      (faithful-two .merged-under (areas ps ss) t d 1 k)
       (faithful-two .merged-next (areas ps ss) t d 1 k) u (at % 65536) (at / 65536) (x .inside) ended q)

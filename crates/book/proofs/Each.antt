@@ -16,7 +16,9 @@ use Rattle.basis.proofs.Tests.{held}
 use Rattle.book.specs.declared.Joined.{Joined}
 use Rattle.book.specs.declared.Pair.{Pair}
 use Rattle.book.specs.declared.joining.Carried.{Carried}
-use Rattle.book.specs.Rules.{stop, to, heads, Step, already, merge, Joining, merged, same, Machine, Done, done, above, mergeable, mergeHeads, walkFrom, headsOf, linkHeads, decide, writeBook, joinBook, Each, all, stopped, EachDone, eachDone, counted, behind, andOn, joinEach}
+use Rattle.book.specs.Rules.{stop, to, heads, Step, already, merge, Joining, merged, same, Machine, Done, done}
+use Rattle.book.specs.Rules.{above, mergeable, mergeHeads, walkFrom, headsOf, linkHeads, decide, writeBook}
+use Rattle.book.specs.Rules.{joinBook, Each, all, stopped, EachDone, eachDone, counted, behind, andOn, joinEach}
 use Rattle.book.specs.Two.{Areas, areas, nextIn, fits, two, twoBook}
 use Rattle.book.specs.Says.{saysJoined}
 use Rattle.book.specs.Steps.{saysWalked, saysPair, linkTwo, Walking, saysCarried, carriedOn}
@@ -36,7 +38,8 @@ module _ (M : Machine) (a : M .Area) (u : ℕ) where
   join-lost w r e = ap (λ s. writeBook M (onward s (linkHeads (M .view a))) a) e
 
   -- where every join of u is refused, the first one of a list is
-  each-lost : (r : Refusal) → ((w : ℕ) → done (refuses r) a ≡ joinBook M a u w) → (ws : List ℕ) → (length ws ≡ 0 → ⊥) → eachDone (stopped 0 0 r) a ≡ joinEach M a u ws
+  each-lost : (r : Refusal) → ((w : ℕ) → done (refuses r) a ≡ joinBook M a u w) → (ws : List ℕ) → (length ws ≡ 0 → ⊥)
+      → eachDone (stopped 0 0 r) a ≡ joinEach M a u ws
   unfolding joinEach andOn
   each-lost r h [] e = absurd (e refl)
   each-lost r h (w ∷ ws) e = ap (λ (d : Done Joining (M .Area)). andOn (d .said) (d .area) (joinEach M (d .area) u ws)) (h w)
@@ -46,11 +49,14 @@ module _ (ps ss : List ℕ) (u : ℕ) (t : Bool) (e : t ≡ fits ps ss) where
   module _ (ws : List ℕ) (k : length ws ≡ 0 → ⊥) (x : Refusal) where
     pub each-unlent : not t ≡ true → x ≡ plain noRoom → eachDone (stopped 0 0 x) (areas ps ss) ≡ joinEach twoBook (areas ps ss) u ws
     unfolding two
-    each-unlent f p = each-lost twoBook (areas ps ss) u x (λ w. join-lost twoBook (areas ps ss) u w x (heads-unlent (two ps ss) u w t e x f p)) ws k
+    each-unlent f p =
+        each-lost twoBook (areas ps ss) u x (λ w. join-lost twoBook (areas ps ss) u w x (heads-unlent (two ps ss) u w t e x f p)) ws k
 
-    pub each-missing : not t ≡ false → length ps ≤ u → x ≡ plain notThere → eachDone (stopped 0 0 x) (areas ps ss) ≡ joinEach twoBook (areas ps ss) u ws
+    pub each-missing : not t ≡ false → length ps ≤ u → x ≡ plain notThere
+        → eachDone (stopped 0 0 x) (areas ps ss) ≡ joinEach twoBook (areas ps ss) u ws
     unfolding two
-    each-missing f l p = each-lost twoBook (areas ps ss) u x (λ w. join-lost twoBook (areas ps ss) u w x (heads-missing (two ps ss) u w t e x f l p)) ws k
+    each-missing f l p =
+        each-lost twoBook (areas ps ss) u x (λ w. join-lost twoBook (areas ps ss) u w x (heads-missing (two ps ss) u w t e x f l p)) ws k
 
   pub walking-start : (at : ℕ) → not t ≡ false → u < length ps → saysWalked at ≡ walkFrom (nextIn ps) (length ps) u → Walking ps ss u at
   walking-start at f l p = record { lent = held t _ e f; inside = l; walk = p }
@@ -107,7 +113,8 @@ module _ (a : EachDone Areas) (b : Areas) (u : ℕ) (ws : List ℕ) (i m : ℕ) 
     unfolding andOn
     each-already q =
         let z : m ≡ m + 0 = omega arith in
-        ap (λ (k : ℕ). behind (i + 1) k (joinEach twoBook c u (drop (i + 1) ws))) z ∙ sym (behind-more i m 1 0 _) ∙ turned (gives same) (ap saysCarried q)
+        ap (λ (k : ℕ). behind (i + 1) k (joinEach twoBook c u (drop (i + 1) ws))) z ∙ sym (behind-more i m 1 0 _)
+        ∙ turned (gives same) (ap saysCarried q)
 
     pub each-refused : (number : ℕ) (x : Refusal) → r ≡ Carried.Refused number → x ≡ plain number → eachDone (stopped i m x) c ≡ a
     unfolding andOn behind
@@ -130,7 +137,8 @@ abbrev Hung : List ℕ → ℕ → ℕ → List ℕ → Type 0
 Hung ps g h ps₁ = (ps₁ ≡ set ps h g) ⊎ (ps₁ ≡ set ps g h)
 
 module _ (ps ss : List ℕ) (g h : ℕ) (ps₁ ss₁ : List ℕ) (e : done (gives merged) (areas ps₁ ss₁) ≡ linkTwo ps ss g h) where
-  written : (d : Said Step) → linkHeads (two ps ss) (heads g h) ≡ d → done (gives merged) (areas ps₁ ss₁) ≡ writeBook twoBook d (areas ps ss)
+  written : (d : Said Step) → linkHeads (two ps ss) (heads g h) ≡ d
+      → done (gives merged) (areas ps₁ ss₁) ≡ writeBook twoBook d (areas ps ss)
   unfolding linkTwo
   written d q = e ∙ ap (λ d. writeBook twoBook d (areas ps ss)) q
 
@@ -159,7 +167,9 @@ module _ (ps ss : List ℕ) (g h : ℕ) (ps₁ ss₁ : List ℕ) (e : done (give
       may? d false q = refused-given (sym (ap said-of (written _ (link-unsound (two ps ss) g h d q))))
 
       same? : Dec (g ≡ h) → (g ≡ h → ⊥) × Hung ps g h ps₁
-      same? (yes q) = let z : _≡_ {A = Said Joining} (gives merged) (gives same) = ap said-of (written _ (link-already (two ps ss) g h q)) in absurd (let y : _≡_ {A = ℕ} 0 1 = cc in omega arith)
+      same? (yes q) =
+          let z : _≡_ {A = Said Joining} (gives merged) (gives same) = ap said-of (written _ (link-already (two ps ss) g h q)) in
+          absurd (let y : _≡_ {A = ℕ} 0 1 = cc in omega arith)
       same? (no d) = may? d (mergeable (two ps ss .count) a b) refl
 
 -- a link is refused for a damaged size alone
@@ -183,7 +193,12 @@ link-refusal ps ss g h c y e =
 
 -- a head is its own parent
 head-is : (ps : List ℕ) (v : ℕ) → nextIn ps v ≡ stop → getD ps v 0 ≡ v
-head-is ps v e = elim (ℕ-discrete (getD ps v 0) v) [ yes q ↦ q | no d ↦ let z : stop ≡ to (getD ps v 0) = sym e ∙ next-other ps v d in absurd (let y : _≡_ {A = ℕ} 0 1 = cc in omega arith) ]
+head-is ps v e =
+    elim (ℕ-discrete (getD ps v 0) v) [
+      | yes q ↦ q
+      | no d ↦ let z : stop ≡ to (getD ps v 0) = sym e ∙ next-other ps v d in
+          absurd (let y : _≡_ {A = ℕ} 0 1 = cc in omega arith)
+    ]
 
 -- ---- the code's `join_next`
 module _ (ps ss : List ℕ) (u at : ℕ) (x : Walking ps ss u at) where
@@ -198,12 +213,18 @@ module _ (ps ss : List ℕ) (u at : ℕ) (x : Walking ps ss u at) where
     kept e = subst (λ (b : Areas). Walking (b .parents) (b .sizes) u at) (sym e) x
 
     -- the walk anew, in areas of the same lengths
-    walking-again : length ps₁ ≡ length ps → length ss₁ ≡ length ss → (r : ℕ) → saysWalked r ≡ walkFrom (nextIn ps₁) (length ps₁) u → Walking ps₁ ss₁ u r
+    walking-again : length ps₁ ≡ length ps → length ss₁ ≡ length ss → (r : ℕ) → saysWalked r ≡ walkFrom (nextIn ps₁) (length ps₁) u
+        → Walking ps₁ ss₁ u r
     walking-again p q r e =
-        record { lent = fits-of ps₁ ss₁ (omega (arith, walking-within)) (omega (arith, walking-lengths)); inside = omega (arith, x .inside); walk = e }
+        record {
+          lent = fits-of ps₁ ss₁ (omega (arith, walking-within)) (omega (arith, walking-lengths));
+          inside = omega (arith, x .inside);
+          walk = e;
+        }
 
     -- a join that does not merge leaves the areas, and so the walk
-    walking-kept : (s : Said Joining) (d : Said Step) → done s (areas ps₁ ss₁) ≡ writeBook twoBook d (areas ps ss) → (s ≡ gives merged → ⊥) → Walking ps₁ ss₁ u at
+    walking-kept : (s : Said Joining) (d : Said Step) → done s (areas ps₁ ss₁) ≡ writeBook twoBook d (areas ps ss) → (s ≡ gives merged → ⊥)
+        → Walking ps₁ ss₁ u at
     unfolding writeBook
     walking-kept s (gives already) e h = kept (ap (λ (b : Done Joining Areas). b .area) e)
     walking-kept s (gives (merge top under total)) e h = absurd (h (ap (λ (b : Done Joining Areas). b .said) e))
@@ -221,18 +242,22 @@ module _ (ps ss : List ℕ) (u at : ℕ) (x : Walking ps ss u at) where
   module _ (w : ℕ) where
     pub next-missing : length ps ≤ w → done (refuses (plain notThere)) (areas ps ss) ≡ joinBook twoBook (areas ps ss) u w
     unfolding two
-    next-missing l = join-lost twoBook (areas ps ss) u w (plain notThere) (heads-missing2 (two ps ss) u w true (sym (x .lent)) _ refl (x .inside) l refl)
+    next-missing l =
+        join-lost twoBook (areas ps ss) u w (plain notThere) (heads-missing2 (two ps ss) u w true (sym (x .lent)) _ refl (x .inside) l refl)
 
     module _ (l : w < length ps) where
       pub next-late : 16 < at / 65536 → done (refuses (plain unsound)) (areas ps ss) ≡ joinBook twoBook (areas ps ss) u w
       unfolding two
-      next-late m = join-lost twoBook (areas ps ss) u w (plain unsound) (heads-late (two ps ss) true (sym (x .lent)) refl u w (x .inside) l at (x .walk) _ m refl)
+      next-late m =
+          join-lost twoBook (areas ps ss) u w (plain unsound)
+          (heads-late (two ps ss) true (sym (x .lent)) refl u w (x .inside) l at (x .walk) _ m refl)
 
       module _ (m : at / 65536 ≤ 16) (to : ℕ) (q : saysWalked to ≡ walkFrom (nextIn ps) (length ps) w) where
         pub next-late2 : 16 < to / 65536 → done (refuses (plain unsound)) (areas ps ss) ≡ joinBook twoBook (areas ps ss) u w
         unfolding two
         next-late2 n =
-            join-lost twoBook (areas ps ss) u w (plain unsound) (heads-late2 (two ps ss) true (sym (x .lent)) refl u w (x .inside) l at (x .walk) m to q _ n refl)
+            join-lost twoBook (areas ps ss) u w (plain unsound)
+            (heads-late2 (two ps ss) true (sym (x .lent)) refl u w (x .inside) l at (x .walk) m to q _ n refl)
 
         module _ (n : to / 65536 ≤ 16) where
           both : saysPair (Pair.Heads (at % 65536) (to % 65536)) ≡ headsOf (two ps ss) u w
@@ -262,9 +287,11 @@ module _ (ps ss : List ℕ) (u at : ℕ) (x : Walking ps ss u at) where
             pub next-already : r ≡ Joined.Already → done (gives same) (areas ps₁ ss₁) ≡ joinBook twoBook (areas ps ss) u w
             next-already = linked Joined.Already
 
-            pub next-refused : (y : Refusal) → r ≡ Joined.Refused y → done (refuses (plain unsound)) (areas ps₁ ss₁) ≡ joinBook twoBook (areas ps ss) u w
+            pub next-refused : (y : Refusal) → r ≡ Joined.Refused y
+                → done (refuses (plain unsound)) (areas ps₁ ss₁) ≡ joinBook twoBook (areas ps ss) u w
             next-refused y f =
-                ap (λ (z : Refusal). done (refuses z) (areas ps₁ ss₁)) (sym (link-refusal ps ss (at % 65536) (to % 65536) (areas ps₁ ss₁) y (said (Joined.Refused y) f)))
+                ap (λ (z : Refusal). done (refuses z) (areas ps₁ ss₁))
+                (sym (link-refusal ps ss (at % 65536) (to % 65536) (areas ps₁ ss₁) y (said (Joined.Refused y) f)))
                 ∙ linked (Joined.Refused y) f
 
           -- where they merge, u's head stays or goes under the other
@@ -277,21 +304,40 @@ module _ (ps ss : List ℕ) (u at : ℕ) (x : Walking ps ss u at) where
             unfolding two
             first-over =
                 let b = heads-below (two ps ss) u w (at % 65536) (to % 65536) (sym both) in
-                record { fit = x .lent; top-in = b .0; under-in = b .2; apart = shape .0; top-head = b .1; under-head = b .3; total-pos = omega arith }
+                record {
+                  fit = x .lent;
+                  top-in = b .0;
+                  under-in = b .2;
+                  apart = shape .0;
+                  top-head = b .1;
+                  under-head = b .3;
+                  total-pos = omega arith;
+                }
 
             second-over : Mergeable (two ps ss) (to % 65536) (at % 65536) 1
             unfolding two
             second-over =
                 let k = first-over in
-                record { fit = x .lent; top-in = k .under-in; under-in = k .top-in; apart = λ q. k .apart (sym q); top-head = k .under-head; under-head = k .top-head; total-pos = omega arith }
+                record {
+                  fit = x .lent;
+                  top-in = k .under-in;
+                  under-in = k .top-in;
+                  apart = λ q. k .apart (sym q);
+                  top-head = k .under-head;
+                  under-head = k .top-head;
+                  total-pos = omega arith;
+                }
 
             pub next-top : getD ps₁ (at % 65536) 0 ≡ at % 65536 → Walking ps₁ ss₁ u at
             unfolding two
             next-top t = go (shape .1)
               where
                 go : Hung ps (at % 65536) (to % 65536) ps₁ → Walking ps₁ ss₁ u at
-                go (inl q) = walking-again ps₁ ss₁ i j at (rw q (carried-other ps ss u at x m (at % 65536) (to % 65536) first-over (shape .0)))
-                go (inr q) = absurd (shape .0 (sym t ∙ ap (λ (l : List ℕ). getD l (at % 65536) 0) q ∙ getD-set-same ps (at % 65536) (to % 65536) 0 (first-over .top-in)))
+                go (inl q) =
+                    walking-again ps₁ ss₁ i j at (rw q (carried-other ps ss u at x m (at % 65536) (to % 65536) first-over (shape .0)))
+                go (inr q) =
+                    absurd (shape .0 (sym t ∙ ap (λ (l : List ℕ). getD l (at % 65536) 0) q
+                    ∙ getD-set-same ps (at % 65536) (to % 65536) 0 (first-over .top-in)))
 
             pub next-under : (getD ps₁ (at % 65536) 0 ≡ at % 65536 → ⊥) → Walking ps₁ ss₁ u ((at / 65536 + 1) * 65536 + to % 65536)
             unfolding two
@@ -299,6 +345,7 @@ module _ (ps ss : List ℕ) (u at : ℕ) (x : Walking ps ss u at) where
               where
                 go : Hung ps (at % 65536) (to % 65536) ps₁ → Walking ps₁ ss₁ u ((at / 65536 + 1) * 65536 + to % 65536)
                 go (inl q) =
-                    absurd (t (ap (λ (l : List ℕ). getD l (at % 65536) 0) q ∙ getD-set-other ps (to % 65536) (at % 65536) (at % 65536) 0 (shape .0)
+                    absurd (t (ap (λ (l : List ℕ). getD l (at % 65536) 0) q
+                    ∙ getD-set-other ps (to % 65536) (at % 65536) (at % 65536) 0 (shape .0)
                     ∙ head-is ps (at % 65536) (first-over .top-head)))
                 go (inr q) = walking-again ps₁ ss₁ i j _ (rw q (carried-under ps ss u at x m (to % 65536) (at % 65536) second-over refl))

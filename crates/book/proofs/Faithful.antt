@@ -24,6 +24,8 @@ pub record Faithful (M : Machine) : Type 0 where
   pub merged-fit : (a : M .Area) (t d s : ℕ) → M .view (M .merged t d s a) .fit ≡ M .view a .fit
   pub merged-count : (a : M .Area) (t d s : ℕ) → M .view (M .merged t d s a) .count ≡ M .view a .count
   pub merged-under : (a : M .Area) (t d s : ℕ) → Mergeable (M .view a) t d s → M .view (M .merged t d s a) .next d ≡ to t
-  pub merged-next : (a : M .Area) (t d s : ℕ) → Mergeable (M .view a) t d s → (x : ℕ) → (x ≡ d → ⊥) → M .view (M .merged t d s a) .next x ≡ M .view a .next x
+  pub merged-next : (a : M .Area) (t d s : ℕ) → Mergeable (M .view a) t d s → (x : ℕ) → (x ≡ d → ⊥)
+      → M .view (M .merged t d s a) .next x ≡ M .view a .next x
   pub merged-top : (a : M .Area) (t d s : ℕ) → Mergeable (M .view a) t d s → M .view (M .merged t d s a) .size t ≡ s
-  pub merged-size : (a : M .Area) (t d s : ℕ) → Mergeable (M .view a) t d s → (x : ℕ) → (x ≡ t → ⊥) → (x ≡ d → ⊥) → M .view (M .merged t d s a) .size x ≡ M .view a .size x
+  pub merged-size : (a : M .Area) (t d s : ℕ) → Mergeable (M .view a) t d s → (x : ℕ) → (x ≡ t → ⊥) → (x ≡ d → ⊥)
+      → M .view (M .merged t d s a) .size x ≡ M .view a .size x

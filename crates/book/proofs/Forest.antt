@@ -34,7 +34,8 @@ module _ (next : ℕ → Next) (n : ℕ) where
   reach-walk (suc k) zero m v h r l = absurd (omega arith)
   reach-walk (suc k) (suc left) m v h r l =
       let e : m + 1 + k ≡ m + suc k = omega arith in
-      walk-move next n left m v (r .0) (r .2) (reach-in k (r .0) h (r .3)) ∙ reach-walk k left (m + 1) (r .0) h (r .3) (omega arith) ∙ ap (λ (k : ℕ). gives (found h k)) e
+      walk-move next n left m v (r .0) (r .2) (reach-in k (r .0) h (r .3)) ∙ reach-walk k left (m + 1) (r .0) h (r .3) (omega arith)
+      ∙ ap (λ (k : ℕ). gives (found h k)) e
 
   pub reach-head : (k v h : ℕ) → Reach next n v h k → (h < n) × (next h ≡ stop)
   reach-head zero v h r = let q : v ≡ h = r .1 in (rw q at (r .0), rw q at (r .2))
@@ -42,7 +43,8 @@ module _ (next : ℕ → Next) (n : ℕ) where
 
 -- ---- after the head `under` went under the head `top`
 
-module _ (next next′ : ℕ → Next) (n top under : ℕ) (top-in : top < n) (top-head : next top ≡ stop) (under-head : next under ≡ stop) (apart : top ≡ under → ⊥)
+module _ (next next′ : ℕ → Next) (n top under : ℕ) (top-in : top < n) (top-head : next top ≡ stop) (under-head : next under ≡ stop)
+    (apart : top ≡ under → ⊥)
     (at : next′ under ≡ to top) (off : (x : ℕ) → (x ≡ under → ⊥) → next′ x ≡ next x) where
   moves-on : (x p : ℕ) → next x ≡ to p → x ≡ under → ⊥
   moves-on x p m e = let q : stop ≡ to p = sym under-head ∙ ap next (sym e) ∙ m in no-case cc
@@ -71,7 +73,8 @@ linked-more s (on l m) = on (linked-more s l) (linked-more s m)
 
 -- ---- the invariant
 
--- The book of n vertices: each vertex has a head and a depth; a group of depth k has at least 2 to the k vertices; a head's size is its group's;
+-- The book of n vertices: each vertex has a head and a depth; a group of depth k has at least 2 to the k vertices;
+-- a head's size is its group's;
 -- heads are the same exactly along chains of joins; and the heads and the merges make n.
 pub record Forest (n : ℕ) (next : ℕ → Next) (size : ℕ → ℕ) (js : List Slip) (m : ℕ) : Type 0 where
   pub head : ℕ → ℕ
@@ -84,7 +87,8 @@ pub record Forest (n : ℕ) (next : ℕ → Next) (size : ℕ → ℕ) (js : Lis
   pub counted : tally (λ v. isStop (next v)) n + m ≡ n
 
 -- a book that is opened
-pub forest-open : (n : ℕ) (next : ℕ → Next) (size : ℕ → ℕ) → ((v : ℕ) → v < n → next v ≡ stop) → ((v : ℕ) → v < n → size v ≡ 1) → Forest n next size [] 0
+pub forest-open : (n : ℕ) (next : ℕ → Next) (size : ℕ → ℕ) → ((v : ℕ) → v < n → next v ≡ stop) → ((v : ℕ) → v < n → size v ≡ 1)
+    → Forest n next size [] 0
 forest-open n next size p s = record {
   head = λ v. v;
   depth = λ v. 0;
@@ -97,7 +101,8 @@ forest-open n next size p s = record {
 }
 
 -- a join of two vertices of one group
-pub forest-already : (n : ℕ) (next : ℕ → Next) (size : ℕ → ℕ) (js : List Slip) (m : ℕ) (F : Forest n next size js m) (u v : ℕ) → F .head u ≡ F .head v
+pub forest-already : (n : ℕ) (next : ℕ → Next) (size : ℕ → ℕ) (js : List Slip) (m : ℕ) (F : Forest n next size js m) (u v : ℕ)
+    → F .head u ≡ F .head v
     → Forest n next size (slip u v ∷ js) m
 forest-already n next size js m F u v e = record {
   head = F .head;
@@ -105,7 +110,8 @@ forest-already n next size js m F u v e = record {
   reach = F .reach;
   deep = F .deep;
   sized = F .sized;
-  joined = λ x y m. ⊎-elim (λ q. ap (λ s. F .head (s .left)) q ∙ e ∙ sym (ap (λ s. F .head (s .right)) q)) (λ k. F .joined x y k) (List·Memᴰ·cases-cons m);
+  joined = λ x y m. ⊎-elim (λ q. ap (λ s. F .head (s .left)) q ∙ e ∙ sym (ap (λ s. F .head (s .right)) q)) (λ k. F .joined x y k)
+      (List·Memᴰ·cases-cons m);
   chained = λ x l. linked-more (slip u v) (F .chained x l);
   counted = F .counted;
 }
@@ -139,8 +145,12 @@ module _ (n : ℕ) (next next′ : ℕ → Next) (size size′ : ℕ → ℕ) (j
   merged-reach x l = go (ℕ-discrete (F .head x) under)
     where
       go : Dec (F .head x ≡ under) → Reach next′ n x (newHead top under (F .head x)) (newDepth under (F .head x) (F .depth x))
-      go (yes q) = simp (eq-eqb _ _ q) (reach-under next next′ n top under top-in top-head under-head apart at off (F .depth x) x (rw q at (F .reach x l)))
-      go (no q) = simp (ne-eqb _ _ q) (reach-other next next′ n top under top-in top-head under-head apart at off (F .depth x) x (F .head x) q (F .reach x l))
+      go (yes q) =
+          simp (eq-eqb _ _ q) (reach-under next next′ n top under top-in top-head under-head apart at off (F .depth x) x
+          (rw q at (F .reach x l)))
+      go (no q) =
+          simp (ne-eqb _ _ q) (reach-other next next′ n top under top-in top-head under-head apart at off (F .depth x) x (F .head x) q
+          (F .reach x l))
 
   merged-deep : (x : ℕ) → x < n → 2 ^ depth′ x ≤ size′ (head′ x)
   unfolding head′ depth′
@@ -166,7 +176,8 @@ module _ (n : ℕ) (next next′ : ℕ → Next) (size size′ : ℕ → ℕ) (j
   unfolding head′
   merged-sized h l e = go (ℕ-discrete h top)
     where
-      bits : (x : ℕ) → Dec (F .head x ≡ under) → bit (eqb (newHead top under (F .head x)) top) ≡ bit (eqb (F .head x) top) + bit (eqb (F .head x) under)
+      bits : (x : ℕ) → Dec (F .head x ≡ under) → bit (eqb (newHead top under (F .head x)) top)
+          ≡ bit (eqb (F .head x) top) + bit (eqb (F .head x) under)
       bits x (yes q) =
           let d : F .head x ≡ top → ⊥ = λ r. apart (sym r ∙ q) in
           simp (eq-eqb _ _ q, eq-eqb top top refl, ne-eqb _ _ d)
@@ -189,7 +200,8 @@ module _ (n : ℕ) (next next′ : ℕ → Next) (size size′ : ℕ → ℕ) (j
           ))
       go (no q) =
           rest h q (still h e .0) ∙ F .sized h l (still h e .1)
-          ∙ tally-same (λ x. eqb (F .head x) h) (λ x. eqb (newHead top under (F .head x)) h) n (λ x _. same q x (ℕ-discrete (F .head x) under))
+          ∙ tally-same (λ x. eqb (F .head x) h) (λ x. eqb (newHead top under (F .head x)) h) n
+          (λ x _. same q x (ℕ-discrete (F .head x) under))
 
   -- the two that were joined have one head
   both : head′ u ≡ head′ v
@@ -204,7 +216,8 @@ module _ (n : ℕ) (next next′ : ℕ → Next) (size size′ : ℕ → ℕ) (j
   heads-linked = ⊎-elim (λ w. back (go (w .0) (w .1))) (λ w. go (w .0) (w .1)) whose
     where
       go : {g h : ℕ} → F .head u ≡ g → F .head v ≡ h → Linked (slip u v ∷ js) g h
-      go p q = rw (← p, ← q) (on (back (linked-more (slip u v) (F .chained u u-in))) (on (by u v (List·Memᴰ·head refl)) (linked-more (slip u v) (F .chained v v-in))))
+      go p q = rw (← p, ← q) (on (back (linked-more (slip u v) (F .chained u u-in)))
+          (on (by u v (List·Memᴰ·head refl)) (linked-more (slip u v) (F .chained v v-in))))
 
   merged-chained : (x : ℕ) → x < n → Linked (slip u v ∷ js) x (head′ x)
   unfolding head′
@@ -217,7 +230,8 @@ module _ (n : ℕ) (next next′ : ℕ → Next) (size size′ : ℕ → ℕ) (j
   merged-joined : (x y : ℕ) → List·Memᴰ (slip x y) (slip u v ∷ js) → head′ x ≡ head′ y
   unfolding head′
   merged-joined x y k =
-      ⊎-elim (λ q. ap (λ s. head′ (s .left)) q ∙ both ∙ sym (ap (λ s. head′ (s .right)) q)) (λ k. ap (newHead top under) (F .joined x y k)) (List·Memᴰ·cases-cons k)
+      ⊎-elim (λ q. ap (λ s. head′ (s .left)) q ∙ both ∙ sym (ap (λ s. head′ (s .right)) q)) (λ k. ap (newHead top under) (F .joined x y k))
+      (List·Memᴰ·cases-cons k)
 
   merged-counted : tally (λ x. isStop (next′ x)) n + suc m ≡ n
   merged-counted =

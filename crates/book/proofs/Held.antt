@@ -1,4 +1,5 @@
--- For layers above: a book of n vertices that was opened and has accepted the joins js since. Its areas stay shut; what is known of them is `Kept`.
+-- For layers above: a book of n vertices that was opened and has accepted the joins js since.
+-- Its areas stay shut; what is known of them is `Kept`.
 -- Assumes nothing.
 use mathlib.Core.Path.{_≡_, refl, sym, ap, _∙_, subst}
 use mathlib.Core.List.{List, [], _∷_, _++_}
@@ -9,7 +10,8 @@ use Rattle.basis.specs.Refusal.{gives}
 use Rattle.basis.specs.Scan.{allBelow}
 use Rattle.book.specs.Rules.{Machine, found, Each, all, openBook, joinEach, headOf}
 use Rattle.book.specs.Two.{areas, two, twoBook}
-use Rattle.book.specs.Series.{Call, Answer, Slip, State, state, Kept, putEach, after, afterEach, joinings, answer, run, headAt, movesAt}
+use Rattle.book.specs.Series.{Call, Answer, Slip, State, state, Kept, putEach, after}
+use Rattle.book.specs.Series.{afterEach, joinings, answer, run, headAt, movesAt}
 use Rattle.book.proofs.Checks.{fits-of}
 use Rattle.book.proofs.Faithful.{Faithful}
 use Rattle.book.proofs.Series.{open-is, demand3}
@@ -38,7 +40,8 @@ held-open M a f = record {
   now = unfold run after in rw (open-is M a f);
 }
 
-pub two-open : (ps ss : List ℕ) (n : ℕ) → n ≤ 65536 → length ps ≡ n → length ss ≡ n → Held twoBook n (openBook twoBook (areas ps ss) .area) []
+pub two-open : (ps ss : List ℕ) (n : ℕ) → n ≤ 65536 → length ps ≡ n → length ss ≡ n
+    → Held twoBook n (openBook twoBook (areas ps ss) .area) []
 two-open ps ss n l p s =
     let e : two ps ss .count ≡ n = unfold two in p in
     let f : two ps ss .fit ≡ true = unfold two in fits-of ps ss (subst (λ (k : ℕ). k ≤ 65536) (sym p) l) (s ∙ sym p) in
@@ -47,11 +50,14 @@ two-open ps ss n l p s =
 module _ (M : Machine) (L : Faithful M) (n : ℕ) (a : M .Area) (js : List Slip) (H : Held M n a js) where
   pub held-kept : Kept M n (state a (gives tt) js (H .merges))
   held-kept =
-      subst (Kept M n) (H .now) (subst (λ (k : ℕ). Kept M k (run M (H .start) (Call.opening ∷ H .calls))) (H .count) (demand3 M L (H .start) (H .fit) (H .calls)))
+      subst (Kept M n) (H .now) (subst (λ (k : ℕ). Kept M k (run M (H .start) (Call.opening ∷ H .calls))) (H .count)
+      (demand3 M L (H .start) (H .fit) (H .calls)))
 
   pub held-head : (v : ℕ) → v < n → headOf (M .view a) v ≡ gives (found (headAt (M .view a) v) (movesAt (M .view a) v))
   unfolding answer
-  held-head v l = let e : Answer.heads (headOf (M .view a) v) ≡ Answer.heads (gives (found (headAt (M .view a) v) (movesAt (M .view a) v))) = held-kept .headed v l in cc
+  held-head v l =
+      let e : Answer.heads (headOf (M .view a) v) ≡ Answer.heads (gives (found (headAt (M .view a) v) (movesAt (M .view a) v))) = held-kept
+      .headed v l in cc
 
   -- joins of a vertex of the book with others are accepted
   pub held-all : (u : ℕ) (ws : List ℕ) → u < n → allBelow n ws ≡ true → (m : ℕ) × (joinEach M a u ws .said ≡ all m)

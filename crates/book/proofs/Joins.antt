@@ -12,7 +12,8 @@ use Rattle.basis.specs.declared.refusal.Refusal.{Refusal}
 use Rattle.basis.specs.Refusal.{gives, refuses, plain, unsound, check, onward}
 use Rattle.basis.proofs.Tests.{and-second, and-both, and-off, same-test, failed, held}
 use Rattle.book.specs.declared.Pair.{Pair}
-use Rattle.book.specs.Rules.{View, Heads, heads, Step, already, merge, Joining, same, Done, done, above, mergeable, mergeHeads, linkHeads, headsOf, decide, writeBook, joinBook}
+use Rattle.book.specs.Rules.{View, Heads, heads, Step, already, merge, Joining, same, Done, done, above}
+use Rattle.book.specs.Rules.{mergeable, mergeHeads, linkHeads, headsOf, decide, writeBook, joinBook}
 use Rattle.book.specs.Two.{Areas, areas, two, twoBook}
 use Rattle.book.specs.Steps.{saysPair, linkTwo, hangTwo}
 use Rattle.book.proofs.Checks.{fits-same}
@@ -75,14 +76,16 @@ module _ (w : View) (g h : ℕ) where
   link-already e = simp (eq-eqb g h e)
 
   module _ (apart : g ≡ h → ⊥) where
-    link-apart : linkHeads w (heads g h) ≡ check (mergeable (w .count) (w .size g) (w .size h)) unsound (gives (mergeHeads (w .size g) (w .size h) g h))
+    link-apart : linkHeads w (heads g h) ≡ check (mergeable (w .count) (w .size g) (w .size h)) unsound
+        (gives (mergeHeads (w .size g) (w .size h) g h))
     unfolding linkHeads
     link-apart = simp (ne-eqb g h apart)
 
     pub link-unsound : mergeable (w .count) (w .size g) (w .size h) ≡ false → linkHeads w (heads g h) ≡ refuses (plain unsound)
     link-unsound e = link-apart ∙ check-off _ unsound _ e
 
-    pub link-merges : mergeable (w .count) (w .size g) (w .size h) ≡ true → linkHeads w (heads g h) ≡ gives (mergeHeads (w .size g) (w .size h) g h)
+    pub link-merges : mergeable (w .count) (w .size g) (w .size h) ≡ true
+        → linkHeads w (heads g h) ≡ gives (mergeHeads (w .size g) (w .size h) g h)
     link-merges e = link-apart ∙ check-on _ unsound _ e
 
 -- ---- the code's `link`
@@ -100,7 +103,8 @@ module _ (ps ss : List ℕ) (g h : ℕ) where
     pub two-sum : not t ≡ false → getD ss g 0 + getD ss h 0 ≤ length ps
     two-sum f = mergeable-sum (length ps) (getD ss g 0) (getD ss h 0) (held t _ e f)
 
-    two-merges : not t ≡ false → (s : Step) → mergeHeads (getD ss g 0) (getD ss h 0) g h ≡ s → writeBook twoBook (gives s) (areas ps ss) ≡ linkTwo ps ss g h
+    two-merges : not t ≡ false → (s : Step) → mergeHeads (getD ss g 0) (getD ss h 0) g h ≡ s
+        → writeBook twoBook (gives s) (areas ps ss) ≡ linkTwo ps ss g h
     unfolding linkTwo two
     two-merges f s q = sym (ap (λ d. writeBook twoBook d (areas ps ss)) (link-merges (two ps ss) g h apart (held t _ e f) ∙ ap gives q))
 

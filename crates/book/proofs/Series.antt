@@ -13,15 +13,18 @@ use Rattle.basis.proofs.Tests.{and-first, and-second}
 use Rattle.basis.specs.declared.refusal.Refusal.{Refusal}
 use Rattle.basis.specs.Refusal.{Said, gives, refuses, plain, notThere}
 use Rattle.basis.specs.Scan.{each, allBelow}
-use Rattle.book.specs.Rules.{View, Machine, found, Step, Joining, merged, same, done, Each, all, stopped, EachDone, counted, behind, joinEach, walkFrom, openBook, joinBook, writeBook, decide, largest}
-use Rattle.book.specs.Series.{Call, Answer, State, state, slip, Linked, Kept, Demand3, putEach, mergesOf, after, afterJoin, afterEach, joinings, answer, run, headIn, movesIn, headAt, movesAt, members, shown}
+use Rattle.book.specs.Rules.{View, Machine, found, Step, Joining, merged, same, done, Each, all, stopped, EachDone}
+use Rattle.book.specs.Rules.{counted, behind, joinEach, walkFrom, openBook, joinBook, writeBook, decide, largest}
+use Rattle.book.specs.Series.{Call, Answer, State, state, slip, Linked, Kept, Demand3, putEach, mergesOf, after, afterJoin}
+use Rattle.book.specs.Series.{afterEach, joinings, answer, run, headIn, movesIn, headAt, movesAt, members, shown}
 use Rattle.book.proofs.Walks.{walk-head}
 use Rattle.book.proofs.Powers.{largest-low, largest-high, largest-most}
 use Rattle.book.proofs.Tally.{tally-same, tally-le}
 use Rattle.book.proofs.Answers.{mergesBy, each-said, each-stopped}
 use Rattle.book.proofs.Faithful.{Faithful}
 use Rattle.book.proofs.Forest.{Whose}
-use Rattle.book.proofs.Book.{Sound, Joins, joins, sound-already, sound-merged, sound-open, join-outside, head-in, walk-is, head-answer, same-answer, size-answer, limit-answer, count-answer, linked-iff, size-group, size-pos}
+use Rattle.book.proofs.Book.{Sound, Joins, joins, sound-already, sound-merged, sound-open, join-outside, head-in, walk-is}
+use Rattle.book.proofs.Book.{head-answer, same-answer, size-answer, limit-answer, count-answer, linked-iff, size-group, size-pos}
 
 -- the state's book keeps the invariant
 abbrev pub Whole : (M : Machine) → ℕ → State (M .Area) → Type 0
@@ -31,7 +34,8 @@ Whole M n s = Sound n (M .view (s .area)) (s .slips) (s .merges)
 abbrev AllAccepted : (M : Machine) → ℕ → State (M .Area) → Type 0
 AllAccepted M n s =
     (u : ℕ) (ws : List ℕ) → u < n → allBelow n ws ≡ true
-    → (answer M s (Call.joiningEach u ws) ≡ Answer.joinsEach (all (run M s (joinings u ws) .merges - s .merges))) × (after M s (Call.joiningEach u ws) ≡ run M s (joinings u ws))
+    → (answer M s (Call.joiningEach u ws) ≡ Answer.joinsEach (all (run M s (joinings u ws) .merges - s .merges)))
+    × (after M s (Call.joiningEach u ws) ≡ run M s (joinings u ws))
 
 -- areas that are well lent are opened
 pub open-is : (M : Machine) (a : M .Area) → M .view a .fit ≡ true → openBook M a ≡ done (gives tt) (M .opened a)
@@ -61,7 +65,8 @@ module _ (M : Machine) where
 
   module _ (s : State (M .Area)) (u w : ℕ) (ws : List ℕ) where
     -- where it is refused nothing is joined
-    each-ends : (r : Refusal) → joinBook M (s .area) u w .said ≡ refuses r → after M s (Call.joiningEach u (w ∷ ws)) ≡ after M s (Call.joining u w)
+    each-ends : (r : Refusal) → joinBook M (s .area) u w .said ≡ refuses r
+        → after M s (Call.joiningEach u (w ∷ ws)) ≡ after M s (Call.joining u w)
     unfolding after putEach
     each-ends r e =
         let b = joinBook M (s .area) u w .area in
@@ -71,14 +76,17 @@ module _ (M : Machine) where
         ∙ ap (λ (d : Said Joining). afterJoin u w d b s) (sym e)
 
     -- what is put and counted behind the first join
-    put-first : (j : Joining) (x : Each) (b c : M .Area) → afterEach u (w ∷ ws) (counted 1 (mergesBy j) x) c s ≡ afterEach u ws x c (afterJoin u w (gives j) b s)
+    put-first : (j : Joining) (x : Each) (b c : M .Area)
+        → afterEach u (w ∷ ws) (counted 1 (mergesBy j) x) c s ≡ afterEach u ws x c (afterJoin u w (gives j) b s)
     unfolding putEach
-    put-first merged (all m) b c = let e : s .merges + (m + 1) ≡ suc (s .merges) + m = omega arith in ap (state c (s .latest) (putEach u ws (slip u w ∷ s .slips))) e
+    put-first merged (all m) b c =
+        let e : s .merges + (m + 1) ≡ suc (s .merges) + m = omega arith in ap (state c (s .latest) (putEach u ws (slip u w ∷ s .slips))) e
     put-first merged (stopped k m r) b c =
         let e : s .merges + (m + 1) ≡ suc (s .merges) + m = omega arith in
         let q : k + 1 ≡ suc k = omega arith in
         rw q (ap (state c (s .latest) (putEach u (take k ws) (slip u w ∷ s .slips))) e)
-    put-first same (all m) b c = let e : s .merges + (m + 0) ≡ s .merges + m = omega arith in ap (state c (s .latest) (putEach u ws (slip u w ∷ s .slips))) e
+    put-first same (all m) b c =
+        let e : s .merges + (m + 0) ≡ s .merges + m = omega arith in ap (state c (s .latest) (putEach u ws (slip u w ∷ s .slips))) e
     put-first same (stopped k m r) b c =
         let e : s .merges + (m + 0) ≡ s .merges + m = omega arith in
         let q : k + 1 ≡ suc k = omega arith in
@@ -93,7 +101,8 @@ module _ (M : Machine) where
         ap (λ (d : EachDone (M .Area)). afterEach u (w ∷ ws) (d .said) (d .area) s) (each-said M u (s .area) w ws j e)
         ∙ put-first j (x .said) b (x .area)
         ∙ ap (λ (d : Said Joining). afterEach u ws (x .said) (x .area) (afterJoin u w d b s)) (sym e)
-        ∙ ap (λ (a : M .Area). afterEach u ws (joinEach M a u ws .said) (joinEach M a u ws .area) (after M s (Call.joining u w))) (sym (join-area s u w))
+        ∙ ap (λ (a : M .Area). afterEach u ws (joinEach M a u ws .said) (joinEach M a u ws .area) (after M s (Call.joining u w)))
+        (sym (join-area s u w))
 
 -- ---- the calls keep the invariant
 
@@ -105,9 +114,11 @@ module _ (M : Machine) (L : Faithful M) (n : ℕ) where
       w : View
       w = M .view (s .area)
 
-      kept : u < n → v < n → Joins n (M .view (s .area)) (s .slips) (s .merges) (W .forest .head) u v → Whole M n (after M s (Call.joining u v))
+      kept : u < n → v < n → Joins n (M .view (s .area)) (s .slips) (s .merges) (W .forest .head) u v
+          → Whole M n (after M s (Call.joining u v))
       kept k l (inl t) =
-          let e : joinBook M (s .area) u v ≡ done (gives same) (s .area) = unfold joinBook writeBook in ap (λ d. writeBook M d (s .area)) (t .0) in
+          let e : joinBook M (s .area) u v ≡ done (gives same) (s .area) = unfold joinBook writeBook in
+          ap (λ d. writeBook M d (s .area)) (t .0) in
           rw e (sound-already n w _ _ W u v k l (t .1))
       kept k l (inr t) =
           let e : joinBook M (s .area) u v ≡ done (gives merged) (M .merged (t .0) (t .1) (w .size (t .0) + w .size (t .1)) (s .area))
@@ -116,7 +127,8 @@ module _ (M : Machine) (L : Faithful M) (n : ℕ) where
 
       out : (n ≤ u) ⊎ (n ≤ v) → Whole M n (after M s (Call.joining u v))
       out o =
-          let e : joinBook M (s .area) u v ≡ done (refuses (plain notThere)) (s .area) = unfold joinBook writeBook in ap (λ d. writeBook M d (s .area)) (join-outside n w _ _ W u v o) in
+          let e : joinBook M (s .area) u v ≡ done (refuses (plain notThere)) (s .area) = unfold joinBook writeBook in
+          ap (λ d. writeBook M d (s .area)) (join-outside n w _ _ W u v o) in
           rw e W
 
       go : Dec (u < n) → Dec (v < n) → Whole M n (after M s (Call.joining u v))
@@ -128,7 +140,8 @@ module _ (M : Machine) (L : Faithful M) (n : ℕ) where
   each-whole s W u [] = subst (Whole M n) (sym (each-nothing M s u)) W
   each-whole s W u (w ∷ ws) = go (joinBook M (s .area) u w .said) refl (each-whole (after M s (Call.joining u w)) (join-whole s W u w) u ws)
     where
-      go : (d : Said Joining) → joinBook M (s .area) u w .said ≡ d → Whole M n (after M (after M s (Call.joining u w)) (Call.joiningEach u ws))
+      go : (d : Said Joining) → joinBook M (s .area) u w .said ≡ d
+          → Whole M n (after M (after M s (Call.joining u w)) (Call.joiningEach u ws))
           → Whole M n (after M s (Call.joiningEach u (w ∷ ws)))
       go (gives j) e ih = subst (Whole M n) (sym (each-goes M s u w ws j e)) ih
       go (refuses r) e ih = subst (Whole M n) (sym (each-ends M s u w ws r e)) (join-whole s W u w)
@@ -160,7 +173,9 @@ module _ (M : Machine) (n : ℕ) (s : State (M .Area)) (W : Whole M n s) where
 
   members-are : (v : ℕ) → v < n → members (M .view (s .area)) v ≡ M .view (s .area) .size (W .forest .head v)
   members-are v l =
-      rw (W .count) (tally-same (λ x. eqb (headIn (walkFrom (M .view (s .area) .next) n x)) (headIn (walkFrom (M .view (s .area) .next) n v))) (λ x. eqb (W .forest .head x) (W .forest .head v)) n
+      rw (W .count)
+      (tally-same (λ x. eqb (headIn (walkFrom (M .view (s .area) .next) n x)) (headIn (walkFrom (M .view (s .area) .next) n v)))
+      (λ x. eqb (W .forest .head x) (W .forest .head v)) n
       (λ x k. ap₂ eqb (rw (W .count) at (head-is x k)) (rw (W .count) at (head-is v l)))
       ∙ sym (size-group n _ _ _ W v l))
 
@@ -168,14 +183,16 @@ module _ (M : Machine) (n : ℕ) (s : State (M .Area)) (W : Whole M n s) where
   kept-linked u v k l = rw (head-is u k, head-is v l) (linked-iff n _ _ _ W u v k l)
 
   -- a join of two vertices of the book finds one group where their heads are equal, else it merges two
-  join-said : (u v : ℕ) → u < n → v < n → joinBook M (s .area) u v .said ≡ gives (cond (eqb (headAt (shown M s) u) (headAt (shown M s) v)) same merged)
+  join-said : (u v : ℕ) → u < n → v < n → joinBook M (s .area) u v .said
+      ≡ gives (cond (eqb (headAt (shown M s) u) (headAt (shown M s) v)) same merged)
   unfolding joinBook writeBook
   join-said u v k l = rw (head-is u k, head-is v l) (go (joins n _ _ _ W u v k l))
     where
       g : ℕ → ℕ
       g = W .forest .head
 
-      say : (d : Said Step) → decide (shown M s) u v ≡ d → (t : Bool) → eqb (g u) (g v) ≡ t → writeBook M d (s .area) .said ≡ gives (cond t same merged)
+      say : (d : Said Step) → decide (shown M s) u v ≡ d → (t : Bool) → eqb (g u) (g v) ≡ t
+          → writeBook M d (s .area) .said ≡ gives (cond t same merged)
           → writeBook M (decide (shown M s) u v) (s .area) .said ≡ gives (cond (eqb (g u) (g v)) same merged)
       say d e t f q = rw (e, f) q
 
@@ -183,18 +200,26 @@ module _ (M : Machine) (n : ℕ) (s : State (M .Area)) (W : Whole M n s) where
       apart t d a (inl p) q = a (sym (p .0) ∙ q ∙ p .1)
       apart t d a (inr p) q = a (sym (p .1) ∙ sym q ∙ p .0)
 
-      go : Joins n (shown M s) (s .slips) (s .merges) g u v → writeBook M (decide (shown M s) u v) (s .area) .said ≡ gives (cond (eqb (g u) (g v)) same merged)
+      go : Joins n (shown M s) (s .slips) (s .merges) g u v
+          → writeBook M (decide (shown M s) u v) (s .area) .said ≡ gives (cond (eqb (g u) (g v)) same merged)
       go (inl t) = say _ (t .0) true (eq-eqb _ _ (t .1)) refl
       go (inr t) = say _ (t .2) false (ne-eqb _ _ (apart (t .0) (t .1) (t .3 .apart) (t .4))) refl
 
   size-range : (v : ℕ) → v < n → (0 < members (M .view (s .area)) v) × (members (M .view (s .area)) v ≤ 65536)
   size-range v l = (
     omega (arith, members-are v l, size-pos n _ _ _ W v l),
-    omega (arith, W .within, W .count, tally-le (λ x. eqb (headAt (M .view (s .area)) x) (headAt (M .view (s .area)) v)) (M .view (s .area) .count)),
+    omega (
+      arith,
+      W .within,
+      W .count,
+      tally-le (λ x. eqb (headAt (M .view (s .area)) x) (headAt (M .view (s .area)) v))
+          (M .view (s .area) .count),
+    ),
   )
 
   kept-limited : (v : ℕ) → v < n
-      → (k : ℕ) × (answer M s (Call.limiting v) ≡ Answer.reads (gives k)) × (2 ^ k ≤ members (M .view (s .area)) v) × (members (M .view (s .area)) v < 2 ^ suc k)
+      → (k : ℕ) × (answer M s (Call.limiting v) ≡ Answer.reads (gives k)) × (2 ^ k ≤ members (M .view (s .area)) v)
+      × (members (M .view (s .area)) v < 2 ^ suc k)
       × (movesAt (M .view (s .area)) v ≤ k)
   unfolding answer
   kept-limited v l =
@@ -210,7 +235,8 @@ module _ (M : Machine) (n : ℕ) (s : State (M .Area)) (W : Whole M n s) where
   kept-settled : (v : ℕ) → v < n → headAt (M .view (s .area)) (headAt (M .view (s .area)) v) ≡ headAt (M .view (s .area)) v
   kept-settled v l =
       let e : walkFrom (M .view (s .area) .next) (M .view (s .area) .count) (W .forest .head v) ≡ gives (found (W .forest .head v) 0)
-      = unfold walkFrom in walk-head (M .view (s .area) .next) (M .view (s .area) .count) 16 0 (W .forest .head v) (head-in n _ _ _ W v l .1) in
+      = unfold walkFrom in walk-head (M .view (s .area) .next) (M .view (s .area) .count) 16 0 (W .forest .head v)
+      (head-in n _ _ _ W v l .1) in
       rw (head-is v l) (ap headIn e)
 
   whole-kept : s .latest ≡ gives tt → AllAccepted M n s → Kept M n s
@@ -219,11 +245,14 @@ module _ (M : Machine) (n : ℕ) (s : State (M .Area)) (W : Whole M n s) where
     opened = ready;
     fit = W .fit;
     count = W .count;
-    headed = λ v l. ap Answer.heads (head-answer n _ _ _ W v l ∙ ap₂ (λ (h k : ℕ). gives (found h k)) (sym (head-is v l)) (sym (moves-are v l)));
+    headed = λ v l. ap Answer.heads (head-answer n _ _ _ W v l
+        ∙ ap₂ (λ (h k : ℕ). gives (found h k)) (sym (head-is v l)) (sym (moves-are v l)));
     inside = λ v l. omega (arith, head-is v l, head-in n _ _ _ W v l .0);
     settled = kept-settled;
     linked = kept-linked;
-    compared = λ u v k l. ap Answer.compares (same-answer n _ _ _ W u v k l ∙ ap₂ (λ (g h : ℕ). gives (eqb g h)) (sym (head-is u k)) (sym (head-is v l)));
+    compared =
+        λ u v k l. ap Answer.compares (same-answer n _ _ _ W u v k l
+        ∙ ap₂ (λ (g h : ℕ). gives (eqb g h)) (sym (head-is u k)) (sym (head-is v l)));
     accepted = λ u v k l. ap Answer.joins (join-said u v k l);
     allAccepted = each;
     sized = λ v l. ap Answer.reads (size-answer n _ _ _ W v l ∙ ap gives (sym (members-are v l)));
@@ -244,8 +273,12 @@ module _ (M : Machine) (L : Faithful M) (n : ℕ) where
       let j : Joining = cond (eqb (headAt (shown M s) u) (headAt (shown M s) w)) same merged in
       let e : joinBook M (s .area) u w .said ≡ gives j = join-said M n s W u w k l in
       let ih = each-accepted (after M s (Call.joining u w)) (join-whole M L n s W u w) u ws k (and-second (ltb w n) (allBelow n ws) b) in
-      let q : joinEach M (joinBook M (s .area) u w .area) u ws .said ≡ all (ih .0) = ap (λ (a : M .Area). joinEach M a u ws .said) (sym (join-area M s u w)) ∙ ih .1 in
-      (ih .0 + mergesBy j, ap (λ (d : EachDone (M .Area)). d .said) (each-said M u (s .area) w ws j e) ∙ ap (counted 1 (mergesBy j)) q, each-goes M s u w ws j e ∙ ih .2)
+      let q : joinEach M (joinBook M (s .area) u w .area) u ws .said
+      ≡ all (ih .0) = ap (λ (a : M .Area). joinEach M a u ws .said) (sym (join-area M s u w)) ∙ ih .1 in (
+        ih .0 + mergesBy j,
+        ap (λ (d : EachDone (M .Area)). d .said) (each-said M u (s .area) w ws j e) ∙ ap (counted 1 (mergesBy j)) q,
+        each-goes M s u w ws j e ∙ ih .2,
+      )
 
   every-accepted : (s : State (M .Area)) → Whole M n s → AllAccepted M n s
   unfolding answer after

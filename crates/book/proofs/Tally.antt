@@ -77,5 +77,11 @@ tally-one h zero l = absurd (omega arith)
 tally-one h (suc n) l = go (ℕ-discrete n h) (λ m. tally-one h n m)
   where
     go : Dec (n ≡ h) → (h < n → tally (λ x. eqb x h) n ≡ 1) → tally (λ x. eqb x h) (suc n) ≡ 1
-    go (yes q) ih = omega (arith, tally-step (λ x. eqb x h) n, ap bit (eq-eqb n h q), tally-none (λ x. eqb x h) n (λ x m. ne-eqb x h (λ r. omega arith)))
+    go (yes q) ih =
+        omega (
+          arith,
+          tally-step (λ x. eqb x h) n,
+          ap bit (eq-eqb n h q),
+          tally-none (λ x. eqb x h) n (λ x m. ne-eqb x h (λ r. omega arith)),
+        )
     go (no q) ih = omega (arith, tally-step (λ x. eqb x h) n, ap bit (ne-eqb n h q), ih (omega arith))

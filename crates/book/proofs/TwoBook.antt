@@ -21,7 +21,8 @@ faithful-two = record {
   opened-fit = λ a f.
       let n = length (a .parents) in
       let e : length (column (λ v. v) 0 n) ≡ n = column-length (λ v. v) 0 n in
-      fits-of (column (λ v. v) 0 n) (replicate n 1) (omega (arith, e, fits-within (a .parents) (a .sizes) f)) (length-replicate {A = ℕ} n 1 ∙ sym e);
+      fits-of (column (λ v. v) 0 n) (replicate n 1) (omega (arith, e, fits-within (a .parents) (a .sizes) f))
+      (length-replicate {A = ℕ} n 1 ∙ sym e);
   opened-count = λ a. column-length (λ v. v) 0 (length (a .parents));
   opened-next = λ a v l. next-head (column (λ v. v) 0 (length (a .parents))) v (column-at (λ v. v) (length (a .parents)) v 0 l);
   opened-size = λ a v l. getD-replicate {A = ℕ} (length (a .parents)) v 1 0 l;

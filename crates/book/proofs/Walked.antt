@@ -37,8 +37,11 @@ walked-of at moves k =
 
 -- ---- the code's loop, where the rest of the walk from `at` is the walk from v
 module _ (ps : List ℕ) (v at moves : ℕ) (e : walkFrom (nextIn ps) (length ps) v ≡ walk (nextIn ps) (length ps) (16 - moves) moves at) where
-  pub loop-found : at < length ps → length ps ≤ 65536 → moves ≤ 16 → getD ps at 0 ≡ at → saysWalked (moves * 65536 + at) ≡ walkFrom (nextIn ps) (length ps) v
-  loop-found l k m h = walked-of at moves (omega arith) ∙ check-on (leb moves 16) unsound _ (le-leb moves 16 m) ∙ sym (e ∙ walk-head (nextIn ps) (length ps) (16 - moves) moves at (next-head ps at h))
+  pub loop-found : at < length ps → length ps ≤ 65536 → moves ≤ 16 → getD ps at 0 ≡ at
+      → saysWalked (moves * 65536 + at) ≡ walkFrom (nextIn ps) (length ps) v
+  loop-found l k m h =
+      walked-of at moves (omega arith) ∙ check-on (leb moves 16) unsound _ (le-leb moves 16 m)
+      ∙ sym (e ∙ walk-head (nextIn ps) (length ps) (16 - moves) moves at (next-head ps at h))
 
   module _ (other : getD ps at 0 ≡ at → ⊥) where
     pub loop-late : 16 ≤ moves → saysWalked 1114112 ≡ walkFrom (nextIn ps) (length ps) v
@@ -47,7 +50,8 @@ module _ (ps : List ℕ) (v at moves : ℕ) (e : walkFrom (nextIn ps) (length ps
         walked-late 1114112 (omega arith) ∙ sym (e ∙ rw z (walk-late (nextIn ps) (length ps) moves at _ (next-other ps at other)))
 
     pub loop-out : length ps ≤ getD ps at 0 → saysWalked 1114112 ≡ walkFrom (nextIn ps) (length ps) v
-    loop-out l = walked-late 1114112 (omega arith) ∙ sym (e ∙ walk-out (nextIn ps) (length ps) (16 - moves) moves at _ (next-other ps at other) l)
+    loop-out l =
+        walked-late 1114112 (omega arith) ∙ sym (e ∙ walk-out (nextIn ps) (length ps) (16 - moves) moves at _ (next-other ps at other) l)
 
     pub loop-moves : moves < 16 → getD ps at 0 < length ps
         → walkFrom (nextIn ps) (length ps) v ≡ walk (nextIn ps) (length ps) (16 - (moves + 1)) (moves + 1) (getD ps at 0)
@@ -74,7 +78,11 @@ module _ (w : View) (t : Bool) (e : t ≡ w .fit) (f : not t ≡ false) where
 
     module _ (m : a / 65536 ≤ 16) (b : ℕ) (q : saysWalked b ≡ walkFrom (w .next) (w .count) v) where
       pub heads-late2 : (x : Refusal) → 16 < b / 65536 → x ≡ plain unsound → refuses x ≡ headsOf w u v
-      heads-late2 x n r = heads-walked w u v t e (gives (found (a % 65536) (a / 65536))) (refuses x) f k l (sym (walked-ends a m) ∙ p) (ap refuses r ∙ sym (walked-late b n) ∙ q)
+      heads-late2 x n r =
+          heads-walked w u v t e (gives (found (a % 65536) (a / 65536))) (refuses x) f k l (sym (walked-ends a m) ∙ p)
+          (ap refuses r ∙ sym (walked-late b n) ∙ q)
 
       pub heads-end : b / 65536 ≤ 16 → gives (heads (a % 65536) (b % 65536)) ≡ headsOf w u v
-      heads-end n = heads-walked w u v t e (gives (found (a % 65536) (a / 65536))) (gives (found (b % 65536) (b / 65536))) f k l (sym (walked-ends a m) ∙ p) (sym (walked-ends b n) ∙ q)
+      heads-end n =
+          heads-walked w u v t e (gives (found (a % 65536) (a / 65536))) (gives (found (b % 65536) (b / 65536))) f k l
+          (sym (walked-ends a m) ∙ p) (sym (walked-ends b n) ∙ q)

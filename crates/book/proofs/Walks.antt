@@ -16,7 +16,8 @@ module _ (next : ℕ → Next) (n : ℕ) where
   walk-head zero moves at e = simp e
   walk-head (suc left) moves at e = simp e
 
-  step-check : (left moves at p : ℕ) → next at ≡ to p → walk next n (suc left) moves at ≡ check (ltb p n) unsound (walk next n left (moves + 1) p)
+  step-check : (left moves at p : ℕ) → next at ≡ to p
+      → walk next n (suc left) moves at ≡ check (ltb p n) unsound (walk next n left (moves + 1) p)
   unfolding walk
   step-check left moves at p e = simp e
 
@@ -29,9 +30,11 @@ module _ (next : ℕ → Next) (n : ℕ) where
 
   pub walk-out : (left moves at p : ℕ) → next at ≡ to p → n ≤ p → walk next n left moves at ≡ refuses (plain unsound)
   walk-out zero moves at p e l = walk-late moves at p e
-  walk-out (suc left) moves at p e l = step-check left moves at p e ∙ check-off (ltb p n) unsound (walk next n left (moves + 1) p) (le-ltb p n l)
+  walk-out (suc left) moves at p e l =
+      step-check left moves at p e ∙ check-off (ltb p n) unsound (walk next n left (moves + 1) p) (le-ltb p n l)
 
-  head-here : (left moves at : ℕ) (f : Found) → at < n → walk next n left moves at ≡ gives f → next at ≡ stop → (f .head < n) × (next (f .head) ≡ stop)
+  head-here : (left moves at : ℕ) (f : Found) → at < n → walk next n left moves at ≡ gives f → next at ≡ stop
+      → (f .head < n) × (next (f .head) ≡ stop)
   head-here left moves at f l e q = let i : at ≡ f .head = cc (walk-head left moves at q) in (rw i at l, rw i at q)
 
   -- where a walk ends there is a head, in the area
@@ -43,7 +46,8 @@ module _ (next : ℕ → Next) (n : ℕ) where
       go (to p) q = refused-given (sym (walk-late moves at p q) ∙ e)
   walk-in (suc left) moves at f l e = go (next at) refl (λ p k d. walk-in left (moves + 1) p f k d)
     where
-      go : (x : Next) → next at ≡ x → ((p : ℕ) → p < n → walk next n left (moves + 1) p ≡ gives f → (f .head < n) × (next (f .head) ≡ stop)) → (f .head < n) × (next (f .head) ≡ stop)
+      go : (x : Next) → next at ≡ x → ((p : ℕ) → p < n → walk next n left (moves + 1) p ≡ gives f → (f .head < n) × (next (f .head) ≡ stop))
+          → (f .head < n) × (next (f .head) ≡ stop)
       go stop q ih = head-here (suc left) moves at f l e q
       go (to p) q ih =
           let t = check-passed (ltb p n) unsound (walk next n left (moves + 1) p) f (sym (step-check left moves at p q) ∙ e) in

@@ -3,7 +3,8 @@ use mathlib.Core.Path.{_≡_, refl}
 use mathlib.Core.List.{[], _∷_}
 use Rattle.basis.specs.Refusal.{gives, refuses, plain, noRoom}
 use Rattle.basis.specs.Area.{column}
-use Rattle.book.specs.Rules.{walk, walkFrom, above, mergeable, mergeHeads, linkHeads, headsOf, decide, openBook, writeBook, joinBook, groupCount, tally}
+use Rattle.book.specs.Rules.{walk, walkFrom, above, mergeable, mergeHeads, linkHeads, headsOf}
+use Rattle.book.specs.Rules.{decide, openBook, writeBook, joinBook, groupCount, tally}
 use Rattle.book.specs.Two.{Areas, areas, nextIn, fits, two, twoBook}
 use Rattle.book.specs.Series.{Call, Answer, State, state, after, answer, run}
 
@@ -19,5 +20,6 @@ unfolding run after walk walkFrom column nextIn fits two openBook above mergeabl
 p12-areas = refl
 
 pub p12-count : answer twoBook p12 Call.counting ≡ Answer.reads (gives 1)
-unfolding answer run after walk walkFrom column nextIn fits two openBook above mergeable mergeHeads linkHeads headsOf decide writeBook joinBook groupCount tally
+unfolding answer run after walk walkFrom column nextIn fits two openBook above mergeable mergeHeads linkHeads headsOf decide writeBook
+    joinBook groupCount tally
 p12-count = refl

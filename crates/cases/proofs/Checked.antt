@@ -26,11 +26,18 @@ use Rattle.load.specs.Load.{arcsRead, listsRead, loaded, outcomeOf, loadCall}
 use Rattle.matching.specs.Close.{isClose}
 use Rattle.matching.specs.Verdict.{firstLine, sameKind, agrees, failingLine, unlikeLine, judgedBy}
 use Rattle.matching.specs.Calls.{numbersCall, nearWithin, coefficientsSays}
-use Rattle.book.specs.Rules.{walk, walkFrom, above, mergeable, mergeHeads, linkHeads, headsOf, decide, openBook, writeBook, joinBook, groupCount, tally}
+use Rattle.book.specs.Rules.{walk, walkFrom, above, mergeable, mergeHeads, linkHeads, headsOf}
+use Rattle.book.specs.Rules.{decide, openBook, writeBook, joinBook, groupCount, tally}
 use Rattle.book.specs.Two.{nextIn, fits, two}
 use Rattle.book.specs.Series.{after, run}
 use Rattle.cases.specs.Cases.{cases, computeds, expecteds}
 
 pub checked : computeds cases ≡ expecteds cases
-unfolding column every each mem within digitOf pastPoint wholeIsGood signedPower powerAt partsOf fractionOf decimalOf lineBy twoOf edgeTest linesFrom valuesFrom arcsRead listsRead loaded outcomeOf loadCall placeFrom between partOf soundIds soundOffsets soundSide mirrored soundSides soundGraph kernelSays leastFrom ends ring depthOf bfsSays bfsCall beside chain firstFrom first labelOf wcc-roomFor wcc-leftBy wccCall times mostTimes standing mostCommon smallest smallestOr nextLabel around labelsAt nextAt oneRound rounds cdlpOf goodRounds cdlp-roomFor cdlp-leftBy cdlpCall commonCount euclid gcdOf lowest those neighbours arcsFrom coefficientAmong numerator denominator room lccSays lccCall isClose firstLine sameKind agrees failingLine unlikeLine judgedBy numbersCall nearWithin coefficientsSays walk walkFrom above mergeable mergeHeads linkHeads headsOf decide openBook writeBook joinBook groupCount tally nextIn fits two after run
+unfolding column every each mem within digitOf pastPoint wholeIsGood signedPower powerAt partsOf fractionOf decimalOf lineBy twoOf edgeTest
+    linesFrom valuesFrom arcsRead listsRead loaded outcomeOf loadCall placeFrom between partOf soundIds soundOffsets soundSide mirrored
+    soundSides soundGraph kernelSays leastFrom ends ring depthOf bfsSays bfsCall beside chain firstFrom first labelOf wcc-roomFor wcc-leftBy
+    wccCall times mostTimes standing mostCommon smallest smallestOr nextLabel around labelsAt nextAt oneRound rounds cdlpOf goodRounds
+    cdlp-roomFor cdlp-leftBy cdlpCall commonCount euclid gcdOf lowest those neighbours arcsFrom coefficientAmong numerator denominator room
+    lccSays lccCall isClose firstLine sameKind agrees failingLine unlikeLine judgedBy numbersCall nearWithin coefficientsSays walk walkFrom
+    above mergeable mergeHeads linkHeads headsOf decide openBook writeBook joinBook groupCount tally nextIn fits two after run
 checked = refl

@@ -23,13 +23,15 @@ pub record Filled (io is oo ot labels next₀ next : List ℕ) (v : ℕ) : Type 
 
 -- the next label of v from its two parts
 next-of : (io is oo ot labels a b : List ℕ) (v : ℕ) → a ≡ partOf (length labels) io is v → b ≡ partOf (length labels) oo ot v
-    → nextLabel eqb ltb (getD labels v 0) (labelsAt 0 labels (a ++ b)) ≡ nextAt eqb ltb 0 (near (length labels) io is oo ot) (length labels) labels v
+    → nextLabel eqb ltb (getD labels v 0) (labelsAt 0 labels (a ++ b))
+    ≡ nextAt eqb ltb 0 (near (length labels) io is oo ot) (length labels) labels v
 unfolding nextAt around
 next-of io is oo ot labels a b v p q = ap₂ (λ x y. nextLabel eqb ltb (getD labels v 0) (labelsAt 0 labels (x ++ y))) p q
 
 module _ {io is oo ot labels : List ℕ} where
   -- what `settle` asks of v
-  pub parts-of : {next counts a b C : List ℕ} → Board io is oo ot labels next counts → (v : ℕ) → v < length labels → a ≡ partOf (length labels) io is v → b ≡ partOf (length labels) oo ot v → C ≡ counts → Parts a b labels C
+  pub parts-of : {next counts a b C : List ℕ} → Board io is oo ot labels next counts → (v : ℕ) → v < length labels
+      → a ≡ partOf (length labels) io is v → b ≡ partOf (length labels) oo ot v → C ≡ counts → Parts a b labels C
   parts-of s v h p q e =
       record {
         sides = rw (p, q) (s .inside v h);
@@ -40,17 +42,21 @@ module _ {io is oo ot labels : List ℕ} where
   pub filled-none : {next : List ℕ} → Filled io is oo ot labels next next 0
   filled-none {next} = record { front = column-none (nextAt eqb ltb 0 (near (length labels) io is oo ot) (length labels) labels) next }
 
-  pub filled-more : {next₀ counts next a b : List ℕ} {v r : ℕ} → Board io is oo ot labels next₀ counts → v < length labels → Filled io is oo ot labels next₀ next v
-      → a ≡ partOf (length labels) io is v → b ≡ partOf (length labels) oo ot v → r ≡ nextLabel eqb ltb (getD labels v 0) (labelsAt 0 labels (a ++ b))
+  pub filled-more : {next₀ counts next a b : List ℕ} {v r : ℕ} → Board io is oo ot labels next₀ counts → v < length labels
+      → Filled io is oo ot labels next₀ next v
+      → a ≡ partOf (length labels) io is v → b ≡ partOf (length labels) oo ot v
+      → r ≡ nextLabel eqb ltb (getD labels v 0) (labelsAt 0 labels (a ++ b))
       → Filled io is oo ot labels next₀ (set next v r) (v + 1)
   filled-more {next₀} {counts} {next} {a} {b} {v} {r} s h f p q e =
       record {
         front =
-            column-more (nextAt eqb ltb 0 (near (length labels) io is oo ot) (length labels) labels) v next₀ next r (let l = s .roomNext in omega arith) (f .front)
+            column-more (nextAt eqb ltb 0 (near (length labels) io is oo ot) (length labels) labels) v next₀ next r
+            (let l = s .roomNext in omega arith) (f .front)
             (e ∙ next-of io is oo ot labels a b v p q);
       }
 
-  pub filled-all : {next₀ counts next : List ℕ} {v : ℕ} → Board io is oo ot labels next₀ counts → v ≤ length labels → length labels ≤ v → Filled io is oo ot labels next₀ next v
+  pub filled-all : {next₀ counts next : List ℕ} {v : ℕ} → Board io is oo ot labels next₀ counts → v ≤ length labels → length labels ≤ v
+      → Filled io is oo ot labels next₀ next v
       → next ≡ nextNumbers io is oo ot labels
   unfolding oneRound
   filled-all {next₀} {counts} {next} {v} s g h f =
@@ -63,7 +69,8 @@ near-low n io is oo ot h v l = below-append n (partOf n io is v) (partOf n oo ot
 
 module _ {io is oo ot L N C : List ℕ} (s : Board io is oo ot L N C) where
   -- after any number of rounds the next one can be run
-  pub board-on : {L′ N′ C′ : List ℕ} (k : ℕ) → L′ ≡ numbersAfter io is oo ot L k → length N′ ≡ length N → C′ ≡ C → Board io is oo ot L′ N′ C′
+  pub board-on : {L′ N′ C′ : List ℕ} (k : ℕ) → L′ ≡ numbersAfter io is oo ot L k → length N′ ≡ length N → C′ ≡ C
+      → Board io is oo ot L′ N′ C′
   board-on {L′} k e p q =
       let nears = near-low (length L) io is oo ot (s .inside) in
       let len : length L′ ≡ length L = ap length e ∙ rounds-length (near (length L) io is oo ot) (length L) nears L k refl in
@@ -78,12 +85,14 @@ module _ {io is oo ot L N C : List ℕ} (s : Board io is oo ot L N C) where
 
 -- one round more: the labels are what was copied into them, the next labels
 module _ (io is oo ot L : List ℕ) where
-  pub round-on : (L′ M X : List ℕ) (k : ℕ) → L′ ≡ numbersAfter io is oo ot L k → length L′ ≡ length L → M ≡ nextNumbers io is oo ot L′ → X ≡ copied (length M) M L′
+  pub round-on : (L′ M X : List ℕ) (k : ℕ) → L′ ≡ numbersAfter io is oo ot L k → length L′ ≡ length L → M ≡ nextNumbers io is oo ot L′
+      → X ≡ copied (length M) M L′
       → X ≡ numbersAfter io is oo ot L (k + 1)
   unfolding rounds oneRound
   round-on L′ M X k e l m q =
       let f = nextAt eqb ltb 0 (near (length L′) io is oo ot) (length L′) L′ in
-      q ∙ copied-all M L′ (sym (ap length m ∙ column-length f 0 (length L′))) ∙ m ∙ ap₂ (λ n M. oneRound eqb ltb 0 (near n io is oo ot) n M) l e ∙ rw (add-one k) refl
+      q ∙ copied-all M L′ (sym (ap length m ∙ column-length f 0 (length L′))) ∙ m
+      ∙ ap₂ (λ n M. oneRound eqb ltb 0 (near n io is oo ot) n M) l e ∙ rw (add-one k) refl
 
   pub round-none : L ≡ numbersAfter io is oo ot L 0
   unfolding rounds

@@ -42,7 +42,8 @@ unfolding goodRounds
 allowed-within z h g = rw (h, g)
 
 -- ---- room for n places in the shortest area
-pub room-all : (n : ℕ) (R : List ℤ) (L N C : List ℕ) {a b c : ℕ} → a ≡ min (length R) (length L) → b ≡ min a (length N) → c ≡ min b (length C) → leb n c ≡ roomFor n R L N C
+pub room-all : (n : ℕ) (R : List ℤ) (L N C : List ℕ) {a b c : ℕ} → a ≡ min (length R) (length L) → b ≡ min a (length N)
+    → c ≡ min b (length C) → leb n c ≡ roomFor n R L N C
 unfolding roomFor
 room-all n R L N C p q r =
     let a = min (length R) (length L) in
@@ -53,7 +54,8 @@ pub works : {L M N O C D : List ℕ} → L ≡ M → N ≡ O → C ≡ D → wor
 works p q r = cc
 
 -- equal parts, equal outcomes
-outcomes : {s t : Said (Unit {0})} {R R′ : List ℤ} {L L′ N N′ C C′ : List ℕ} → s ≡ t → R ≡ R′ → L ≡ L′ → N ≡ N′ → C ≡ C′ → outcome s R L N C ≡ outcome t R′ L′ N′ C′
+outcomes : {s t : Said (Unit {0})} {R R′ : List ℤ} {L L′ N N′ C C′ : List ℕ} → s ≡ t → R ≡ R′ → L ≡ L′ → N ≡ N′ → C ≡ C′
+    → outcome s R L N C ≡ outcome t R′ L′ N′ C′
 outcomes d p q r t = cc
 
 module _ (s : Said (Unit {0})) (k : ℕ) (R R₁ : List ℤ) (L N C L₁ N₁ C₁ : List ℕ) where
@@ -109,7 +111,8 @@ module _ (n : ℕ) (R : List ℤ) (L N C : List ℕ) (h : roomFor n R L N C ≡ 
   pub taken-counts : n ≡ length (take n C)
   taken-counts = sym (length-take-le n C first-counts)
 
-pub ready-of : (size : Size) (ids : List ℤ) (oo ot io is : List ℕ) (R R₁ : List ℤ) (L N C : List ℕ) → soundGraph (lent size ids oo ot io is) ≡ true
+pub ready-of : (size : Size) (ids : List ℤ) (oo ot io is : List ℕ) (R R₁ : List ℤ) (L N C : List ℕ)
+    → soundGraph (lent size ids oo ot io is) ≡ true
     → roomFor (size .vertices) R L N C ≡ true → length R₁ ≡ length R
     → Ready size ids oo ot io is (take (size .vertices) R₁) (take (size .vertices) L) (take (size .vertices) N) (take (size .vertices) C)
 ready-of size ids oo ot io is R R₁ L N C s h e =
@@ -122,8 +125,10 @@ ready-of size ids oo ot io is R R₁ L N C s h e =
     }
 
 -- the labels with zeros behind them
-fill-result : (g : Graph) (k : ℕ) (R R₁ X : List ℤ) → Sound g → R₁ ≡ clearedZ R → X ≡ cdlpOf g k → X ++ drop (g .vertices) R₁ ≡ padWith (pos 0) (length R) (cdlpOf g k)
-fill-result g k R R₁ X s e q = ap₂ (λ x y. x ++ drop (g .vertices) y) q e ∙ pad-lent (pos 0) (g .vertices) (length R) (cdlpOf g k) (cdlp-length g s k)
+fill-result : (g : Graph) (k : ℕ) (R R₁ X : List ℤ) → Sound g → R₁ ≡ clearedZ R → X ≡ cdlpOf g k
+    → X ++ drop (g .vertices) R₁ ≡ padWith (pos 0) (length R) (cdlpOf g k)
+fill-result g k R R₁ X s e q =
+    ap₂ (λ x y. x ++ drop (g .vertices) y) q e ∙ pad-lent (pos 0) (g .vertices) (length R) (cdlpOf g k) (cdlp-length g s k)
 
 -- zeros throughout, whatever the first places held
 front-cleared : (n : ℕ) (L M : List ℕ) → length M ≡ length (take n L) → cleared (M ++ drop n L) ≡ cleared L
@@ -131,8 +136,10 @@ front-cleared n L M e = ap (λ (k : ℕ). replicate k 0) (length-front L M n e)
 
 module _ (size : Size) (ids : List ℤ) (oo ot io is : List ℕ) (k : ℕ) (R R₁ X : List ℤ) (L N C L₂ N₂ C₂ L₃ N₃ C₃ : List ℕ) where
   pub fill-all : soundGraph (lent size ids oo ot io is) ≡ true → R₁ ≡ clearedZ R → X ≡ cdlpOf (lent size ids oo ot io is) k
-      → length L₂ ≡ length (take (size .vertices) L) → length N₂ ≡ length (take (size .vertices) N) → length C₂ ≡ length (take (size .vertices) C)
-      → worked L₃ N₃ C₃ ≡ worked (cleared (L₂ ++ drop (size .vertices) L)) (cleared (N₂ ++ drop (size .vertices) N)) (cleared (C₂ ++ drop (size .vertices) C))
+      → length L₂ ≡ length (take (size .vertices) L) → length N₂ ≡ length (take (size .vertices) N)
+      → length C₂ ≡ length (take (size .vertices) C)
+      → worked L₃ N₃ C₃ ≡ worked (cleared (L₂ ++ drop (size .vertices) L)) (cleared (N₂ ++ drop (size .vertices) N))
+      (cleared (C₂ ++ drop (size .vertices) C))
       → outcome (gives tt) (X ++ drop (size .vertices) R₁) L₃ N₃ C₃ ≡ leftBy (gives tt) (cdlpOf (lent size ids oo ot io is) k) R L N C
   unfolding leftBy
   fill-all h e q l n c w =

@@ -14,17 +14,22 @@ use Rattle.cdlp.specs.Rounds.{around, labelsAt, nextAt, oneRound, rounds
 use Rattle.cdlp.specs.Promise.{goodRounds, roomFor, outcome, leftBy, cdlpCall}
 
 pub p6 : cdlpOf sheetGraph 2 ≡ negsuc 2 ∷ pos 2 ∷ pos 5 ∷ pos 2 ∷ pos 2 ∷ []
-unfolding between partOf column times mostTimes standing mostCommon smallest smallestOr nextLabel around labelsAt nextAt oneRound rounds cdlpOf
+unfolding between partOf column times mostTimes standing mostCommon smallest smallestOr nextLabel around labelsAt nextAt oneRound rounds
+    cdlpOf
 p6 = refl
 
 pub p8 : cdlpOf sheetGraph 1 ≡ negsuc 2 ∷ pos 5 ∷ pos 2 ∷ pos 2 ∷ pos 9 ∷ []
-unfolding between partOf column times mostTimes standing mostCommon smallest smallestOr nextLabel around labelsAt nextAt oneRound rounds cdlpOf
+unfolding between partOf column times mostTimes standing mostCommon smallest smallestOr nextLabel around labelsAt nextAt oneRound rounds
+    cdlpOf
 p8 = refl
 
 -- P6 through the call, in areas with a place to spare
-pub p6-call : cdlpCall sheetGraph (pos 2) (pos 7 ∷ pos 7 ∷ pos 7 ∷ pos 7 ∷ pos 7 ∷ pos 7 ∷ []) (1 ∷ 1 ∷ 1 ∷ 1 ∷ 1 ∷ []) (1 ∷ 1 ∷ 1 ∷ 1 ∷ 1 ∷ []) (1 ∷ 1 ∷ 1 ∷ 1 ∷ 1 ∷ 1 ∷ [])
-    ≡ outcome (gives tt) (negsuc 2 ∷ pos 2 ∷ pos 5 ∷ pos 2 ∷ pos 2 ∷ pos 0 ∷ []) (0 ∷ 0 ∷ 0 ∷ 0 ∷ 0 ∷ []) (0 ∷ 0 ∷ 0 ∷ 0 ∷ 0 ∷ []) (0 ∷ 0 ∷ 0 ∷ 0 ∷ 0 ∷ 0 ∷ [])
-unfolding cdlpCall leftBy kernelSays goodRounds roomFor soundSides soundGraph soundIds soundSide soundOffsets mirrored every each mem between partOf column times mostTimes standing mostCommon smallest smallestOr nextLabel around labelsAt nextAt oneRound rounds cdlpOf
+pub p6-call : cdlpCall sheetGraph (pos 2) (pos 7 ∷ pos 7 ∷ pos 7 ∷ pos 7 ∷ pos 7 ∷ pos 7 ∷ []) (1 ∷ 1 ∷ 1 ∷ 1 ∷ 1 ∷ [])
+    (1 ∷ 1 ∷ 1 ∷ 1 ∷ 1 ∷ []) (1 ∷ 1 ∷ 1 ∷ 1 ∷ 1 ∷ 1 ∷ [])
+    ≡ outcome (gives tt) (negsuc 2 ∷ pos 2 ∷ pos 5 ∷ pos 2 ∷ pos 2 ∷ pos 0 ∷ []) (0 ∷ 0 ∷ 0 ∷ 0 ∷ 0 ∷ []) (0 ∷ 0 ∷ 0 ∷ 0 ∷ 0 ∷ [])
+    (0 ∷ 0 ∷ 0 ∷ 0 ∷ 0 ∷ 0 ∷ [])
+unfolding cdlpCall leftBy kernelSays goodRounds roomFor soundSides soundGraph soundIds soundSide soundOffsets mirrored every each mem
+    between partOf column times mostTimes standing mostCommon smallest smallestOr nextLabel around labelsAt nextAt oneRound rounds cdlpOf
 p6-call = refl
 
 -- a round too many comes before an area too short: 11, then 8; zero rounds of no vertices are answered
@@ -33,5 +38,6 @@ unfolding cdlpCall leftBy kernelSays goodRounds soundSides soundGraph soundIds s
 too-many = refl
 
 pub too-short : cdlpCall sheetGraph (pos 1000) (pos 7 ∷ []) (3 ∷ []) [] [] ≡ outcome (refuses (plain 8)) (pos 0 ∷ []) (0 ∷ []) [] []
-unfolding cdlpCall leftBy kernelSays goodRounds roomFor soundSides soundGraph soundIds soundSide soundOffsets mirrored every each mem between partOf
+unfolding cdlpCall leftBy kernelSays goodRounds roomFor soundSides soundGraph soundIds soundSide soundOffsets mirrored every each mem
+    between partOf
 too-short = refl

@@ -56,7 +56,8 @@ module _ {A : Type 0} {same less : A → A → Bool} (order : Order same less) w
   unfolding mostTimes
   most-ge ls [] x h = absurd (times-none x h)
   most-ge ls (c ∷ cs) x h =
-      times-case (λ y. times same y ls ≤ larger (times same c ls) (mostTimes same ls cs)) x c cs h (larger-left (times same c ls) (mostTimes same ls cs))
+      times-case (λ y. times same y ls ≤ larger (times same c ls) (mostTimes same ls cs)) x c cs h
+      (larger-left (times same c ls) (mostTimes same ls cs))
       (λ l. let a = most-ge ls cs x l in let b = larger-right (times same c ls) (mostTimes same ls cs) in omega arith)
 
   most-bound : (ls : List A) (x : A) → times same x ls ≤ mostTimes same ls ls
@@ -74,7 +75,9 @@ module _ {A : Type 0} {same less : A → A → Bool} (order : Order same less) w
       go : (t : Bool) → ltb (times same c ls) (mostTimes same ls cs) ≡ t
           → (0 < mostTimes same ls cs → (x : A) × (0 < times same x cs) × (times same x ls ≡ mostTimes same ls cs))
           → (x : A) × (0 < times same x (c ∷ cs)) × (times same x ls ≡ cond t (mostTimes same ls cs) (times same c ls))
-      go true e r = let l = ltb-true (times same c ls) (mostTimes same ls cs) e in let s = r (omega arith) in (s .0, times-there (s .0) c cs (s .1), s .2)
+      go true e r =
+          let l = ltb-true (times same c ls) (mostTimes same ls cs) e in let s = r (omega arith) in
+          (s .0, times-there (s .0) c cs (s .1), s .2)
       go false e r = (c, times-here c cs, refl)
 
   standing-at : (k : ℕ) (ls cs : List A) (x : A) → 0 < times same x (standing same k ls cs) → (times same x ls ≡ k) × (0 < times same x cs)
@@ -86,7 +89,8 @@ module _ {A : Type 0} {same less : A → A → Bool} (order : Order same less) w
           → (0 < times same x (standing same k ls cs) → (times same x ls ≡ k) × (0 < times same x cs))
           → (times same x ls ≡ k) × (0 < times same x (c ∷ cs))
       go true e l r =
-          times-case (λ y. (times same y ls ≡ k) × (0 < times same y (c ∷ cs))) x c (standing same k ls cs) l (eqb-true (times same c ls) k e, times-here c cs)
+          times-case (λ y. (times same y ls ≡ k) × (0 < times same y (c ∷ cs))) x c (standing same k ls cs) l
+          (eqb-true (times same c ls) k e, times-here c cs)
           (λ m. (r m .0, times-there x c cs (r m .1)))
       go false e l r = (r l .0, times-there x c cs (r l .1))
 
@@ -94,11 +98,13 @@ module _ {A : Type 0} {same less : A → A → Bool} (order : Order same less) w
   unfolding standing
   standing-has k ls [] x e h = absurd (times-none x h)
   standing-has k ls (c ∷ cs) x e h =
-      times-case (λ y. times same y ls ≡ k → 0 < times same y (cond (eqb (times same c ls) k) (c ∷ standing same k ls cs) (standing same k ls cs))) x c cs h
+      times-case (λ y. times same y ls ≡ k → 0 < times same y
+      (cond (eqb (times same c ls) k) (c ∷ standing same k ls cs) (standing same k ls cs))) x c cs h
       (λ q. rw (eq-eqb (times same c ls) k q) (times-here c (standing same k ls cs)))
       (λ m q. go (eqb (times same c ls) k) (standing-has k ls cs x e m)) e
     where
-      go : (t : Bool) → 0 < times same x (standing same k ls cs) → 0 < times same x (cond t (c ∷ standing same k ls cs) (standing same k ls cs))
+      go : (t : Bool) → 0 < times same x (standing same k ls cs)
+          → 0 < times same x (cond t (c ∷ standing same k ls cs) (standing same k ls cs))
       go true l = times-there x c (standing same k ls cs) l
       go false l = l
 
@@ -108,7 +114,8 @@ module _ {A : Type 0} {same less : A → A → Bool} (order : Order same less) w
   small-in a [] = times-here a []
   small-in a (c ∷ cs) = go (less c a) (small-in (cond (less c a) c a) cs)
     where
-      go : (t : Bool) → 0 < times same (smallest less (cond t c a) cs) (cond t c a ∷ cs) → 0 < times same (smallest less (cond t c a) cs) (a ∷ c ∷ cs)
+      go : (t : Bool) → 0 < times same (smallest less (cond t c a) cs) (cond t c a ∷ cs)
+          → 0 < times same (smallest less (cond t c a) cs) (a ∷ c ∷ cs)
       go true h = times-there (smallest less c cs) a (c ∷ cs) h
       go false h =
           times-case (λ y. 0 < times same y (a ∷ c ∷ cs)) (smallest less a cs) a cs h (times-here a (c ∷ cs))
@@ -119,7 +126,8 @@ module _ {A : Type 0} {same less : A → A → Bool} (order : Order same less) w
   small-least a [] x h = times-case (λ y. less y a ≡ false) x a [] h (order .less-not a) (λ l. absurd (times-none x l))
   small-least a (c ∷ cs) x h = go (less c a) refl (small-least (cond (less c a) c a) cs)
     where
-      go : (t : Bool) → less c a ≡ t → ((y : A) → 0 < times same y (cond t c a ∷ cs) → less y (smallest less (cond t c a) cs) ≡ false) → less x (smallest less (cond t c a) cs) ≡ false
+      go : (t : Bool) → less c a ≡ t → ((y : A) → 0 < times same y (cond t c a ∷ cs) → less y (smallest less (cond t c a) cs) ≡ false)
+          → less x (smallest less (cond t c a) cs) ≡ false
       go true e r =
           let low = r c (times-here c cs) in
           times-case (λ y. less y (smallest less c cs) ≡ false) x a (c ∷ cs) h
@@ -128,7 +136,8 @@ module _ {A : Type 0} {same less : A → A → Bool} (order : Order same less) w
       go false e r =
           let low = r a (times-here a cs) in
           times-case (λ y. less y (smallest less a cs) ≡ false) x a (c ∷ cs) h low
-          (λ l. times-case (λ y. less y (smallest less a cs) ≡ false) x c cs l (order .less-down c a (smallest less a cs) e low) (λ m. r x (times-there x a cs m)))
+          (λ l. times-case (λ y. less y (smallest less a cs) ≡ false) x c cs l (order .less-down c a (smallest less a cs) e low)
+          (λ m. r x (times-there x a cs m)))
 
   -- the next label of a vertex with neighbours is the chosen one
   pub next-chosen : (own l : A) (ls : List A) → Chosen same less (l ∷ ls) (nextLabel same less own (l ∷ ls))
@@ -181,4 +190,5 @@ module _ {A : Type 0} {same less : A → A → Bool} (order : Order same less) w
   pub next-twice : (own : A) (ls : List A) → nextLabel same less own (ls ++ ls) ≡ nextLabel same less own ls
   next-twice own [] = refl
   next-twice own (l ∷ ls) =
-      chosen-one order (l ∷ ls) _ _ (twice-chosen (l ∷ ls) (nextLabel same less own (l ∷ ls ++ l ∷ ls)) (next-chosen order own l (ls ++ l ∷ ls))) (next-chosen order own l ls)
+      chosen-one order (l ∷ ls) _ _ (twice-chosen (l ∷ ls) (nextLabel same less own (l ∷ ls ++ l ∷ ls))
+      (next-chosen order own l (ls ++ l ∷ ls))) (next-chosen order own l ls)

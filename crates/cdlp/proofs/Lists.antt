@@ -23,9 +23,11 @@ pub labels-low : (n : ℕ) (L us : List ℕ) → allBelow (length L) us ≡ true
 unfolding labelsAt
 labels-low n L [] h g = below-none n
 labels-low n L (u ∷ us) h g =
-    below-more n (getD L u 0) (labelsAt 0 L us) (below-at n L g u (below-first (length L) u us h)) (labels-low n L us (below-rest (length L) u us h) g)
+    below-more n (getD L u 0) (labelsAt 0 L us) (below-at n L g u (below-first (length L) u us h))
+    (labels-low n L us (below-rest (length L) u us h) g)
 
-pub labels-step : (L part : List ℕ) (i : ℕ) → i < length part → labelsAt 0 L (drop i part) ≡ getD L (getD part i 0) 0 ∷ labelsAt 0 L (drop (i + 1) part)
+pub labels-step : (L part : List ℕ) (i : ℕ) → i < length part
+    → labelsAt 0 L (drop i part) ≡ getD L (getD part i 0) 0 ∷ labelsAt 0 L (drop (i + 1) part)
 unfolding labelsAt
 labels-step L part i h = ap (labelsAt 0 L) (drop-cons part i 0 h) ∙ rw (add-one i) refl
 
@@ -57,7 +59,8 @@ module _ {A : Type 0} (z : A) where
   pub column-look : (L : List A) (us : List ℕ) → column (look L us) 0 (length us) ≡ labelsAt z L us
   column-look L us = column-is (look L us) z (labelsAt z L us) (length us) (labels-length L us) (labels-at L us)
 
-  pub column-labels : (L : List A) (g : ℕ → A) (f : ℕ → ℕ) (s k m : ℕ) → s + k ≤ m → ((v : ℕ) → v < m → g v ≡ getD L (f v) z) → column g s k ≡ labelsAt z L (column f s k)
+  pub column-labels : (L : List A) (g : ℕ → A) (f : ℕ → ℕ) (s k m : ℕ) → s + k ≤ m → ((v : ℕ) → v < m → g v ≡ getD L (f v) z)
+      → column g s k ≡ labelsAt z L (column f s k)
   unfolding column labelsAt
   column-labels L g f s zero m e h = refl
   column-labels L g f s (suc k) m e h = ap₂ (λ x t. x ∷ t) (h s (omega arith)) (column-labels L g f (suc s) k m (omega arith) h)
@@ -66,4 +69,5 @@ module _ {A : Type 0} (z : A) where
   pub labels-front : (n : ℕ) (L : List A) (us : List ℕ) → allBelow n us ≡ true → labelsAt z L us ≡ labelsAt z (take n L) us
   unfolding labelsAt
   labels-front n L [] h = refl
-  labels-front n L (u ∷ us) h = ap₂ (λ x t. x ∷ t) (sym (getD-take n L u z (below-first n u us h))) (labels-front n L us (below-rest n u us h))
+  labels-front n L (u ∷ us) h =
+      ap₂ (λ x t. x ∷ t) (sym (getD-take n L u z (below-first n u us h))) (labels-front n L us (below-rest n u us h))

@@ -1,4 +1,5 @@
--- What the definition says, in the words of document 000, 2.3.4, over identifiers; and what stands in a call's result area. Assumes nothing.
+-- What the definition says, in the words of document 000, 2.3.4, over identifiers; and what stands in a call's result area.
+-- Assumes nothing.
 use Prim.Native.Nat.{ℕ, zero, suc, _+_, _≤_, _<_}
 use mathlib.Core.Path.{_≡_, refl, sym, ap, ap₂, _∙_, subst}
 use mathlib.Core.Bool.{true}
@@ -52,7 +53,8 @@ module _ (g : Graph) where
   next-is k v h = column-at _ (g .vertices) v (pos 0) h
 
   -- the frequency of a label in (2.5): from inward neighbours and from outward ones, so from one that is both, twice
-  pub heard-twice : (k v : ℕ) (x : ℤ) → times sameZ x (heardBy k v) ≡ times sameZ x (labelsOf k (inward g v)) + times sameZ x (labelsOf k (outward g v))
+  pub heard-twice : (k v : ℕ) (x : ℤ) → times sameZ x (heardBy k v)
+      ≡ times sameZ x (labelsOf k (inward g v)) + times sameZ x (labelsOf k (outward g v))
   unfolding around
   heard-twice k v x =
       ap (times sameZ x) (labels-append (pos 0) (cdlpOf g k) (inward g v) (outward g v))
@@ -92,7 +94,8 @@ module _ (g : Graph) (k : ℕ) where
     unfolding times
     heard-none x q n = not-suc-le-zero (rw n at q)
 
-    heard-most : (ls : List ℤ) → heardBy g k v ≡ ls → (x : ℤ) → times sameZ x (heardBy g k v) ≤ times sameZ (label g (suc k) v) (heardBy g k v)
+    heard-most : (ls : List ℤ) → heardBy g k v ≡ ls → (x : ℤ)
+        → times sameZ x (heardBy g k v) ≤ times sameZ (label g (suc k) v) (heardBy g k v)
     unfolding times
     heard-most [] e x = rw e (omega arith)
     heard-most (l ∷ ls) e x = settled g k v h (λ n. no-case (let z : l ∷ ls ≡ [] = sym e ∙ n in cc)) .most x
@@ -103,7 +106,8 @@ module _ (g : Graph) (k : ℕ) where
           kept = λ a b. alone g k v h (unfold around in ap₂ (λ (s t : List ℕ). s ++ t) a b);
           most = λ x. rw (frequency-times v x, frequency-times v (label g (suc k) v)) (heard-most (heardBy g k v) refl x);
           least = λ x p e.
-              settled g k v h (heard-none x (rw (frequency-times v x) at p)) .least x (sym (frequency-times v x) ∙ e ∙ frequency-times v (label g (suc k) v));
+              settled g k v h (heard-none x (rw (frequency-times v x) at p)) .least x
+              (sym (frequency-times v x) ∙ e ∙ frequency-times v (label g (suc k) v));
         }
 
 -- labels that agree on the vertices
@@ -136,16 +140,19 @@ next-one g L v x y a b = by (inward g v) (outward g v) refl refl
     by (u ∷ i) o p q = by-heard u (let h : 0 < bearers L (L u) (inward g v) = rw p (heard-first L u i) in omega arith)
 
 -- it looks at the labels of vertices only
-bearers-same : (n : ℕ) (L M : ℕ → ℤ) → ((u : ℕ) → u < n → L u ≡ M u) → (l : ℤ) (us : List ℕ) → allBelow n us ≡ true → bearers L l us ≡ bearers M l us
+bearers-same : (n : ℕ) (L M : ℕ → ℤ) → ((u : ℕ) → u < n → L u ≡ M u) → (l : ℤ) (us : List ℕ) → allBelow n us ≡ true
+    → bearers L l us ≡ bearers M l us
 unfolding bearers
 bearers-same n L M e l [] h = refl
 bearers-same n L M e l (u ∷ us) h =
     ap₂ (λ (z : ℤ) (k : ℕ). one (sameZ l z) + k) (e u (below-first n u us h)) (bearers-same n L M e l us (below-rest n u us h))
 
-next-same : (g : Graph) → Sound g → (L M : ℕ → ℤ) → ((u : ℕ) → u < g .vertices → L u ≡ M u) → (v : ℕ) → v < g .vertices → (x : ℤ) → Next g L v x → Next g M v x
+next-same : (g : Graph) → Sound g → (L M : ℕ → ℤ) → ((u : ℕ) → u < g .vertices → L u ≡ M u) → (v : ℕ) → v < g .vertices → (x : ℤ)
+    → Next g L v x → Next g M v x
 next-same g s L M e v h x a =
     let same : (y : ℤ) → frequency g L v y ≡ frequency g M v y = λ y.
-    ap₂ (λ (i j : ℕ). i + j) (bearers-same (g .vertices) L M e y (inward g v) (inward-below g s v h)) (bearers-same (g .vertices) L M e y (outward g v) (outward-below g s v h)) in
+    ap₂ (λ (i j : ℕ). i + j) (bearers-same (g .vertices) L M e y (inward g v) (inward-below g s v h))
+    (bearers-same (g .vertices) L M e y (outward g v) (outward-below g s v h)) in
     record {
       kept = λ p q. a .kept p q ∙ e v h;
       most = λ y. omega (arith, a .most y, same y, same x);
@@ -161,7 +168,8 @@ labels-only g s (suc k) L h v l =
 
 -- ---- the call
 module _ (g : Graph) (z : ℤ) (R : List ℤ) (L N C : List ℕ) where
-  call-done : soundGraph g ≡ true → (k : ℕ) → z ≡ pos k → k ≤ 1000 → roomFor (g .vertices) R L N C ≡ true → Done g k R L N C (cdlpCall g z R L N C)
+  call-done : soundGraph g ≡ true → (k : ℕ) → z ≡ pos k → k ≤ 1000 → roomFor (g .vertices) R L N C ≡ true
+      → Done g k R L N C (cdlpCall g z R L N C)
   unfolding cdlpCall leftBy kernelSays
   call-done s k e h r =
       let n = g .vertices in
@@ -183,7 +191,8 @@ module _ (g : Graph) (z : ℤ) (R : List ℤ) (L N C : List ℕ) where
 
 -- ---- an undirected graph
 module _ (g : Graph) (sound : soundGraph g ≡ true) (both : Undirected g) where
-  -- "If the graph is directed and a neighbor is reachable via both an incoming and outgoing edge, its label will be counted twice": in an undirected graph each
+  -- "If the graph is directed and a neighbor is reachable via both an incoming and outgoing edge, its label will be counted twice":
+  -- in an undirected graph each
   -- neighbour is heard twice, and the labels are those of hearing each once
   pub undirected-once : (k : ℕ) → cdlpOf g k ≡ heardOnce g k
   unfolding cdlpOf rounds oneRound nextAt around
@@ -193,6 +202,7 @@ module _ (g : Graph) (sound : soundGraph g ≡ true) (both : Undirected g) where
       (λ v l.
       let M = heardOnce g k in
       ap (λ (K : List ℤ). nextLabel sameZ ltZ (byPlace K v) (labelsAt (pos 0) K (inward g v ++ outward g v))) (undirected-once k)
-      ∙ ap (λ (us : List ℕ). nextLabel sameZ ltZ (byPlace M v) (labelsAt (pos 0) M (us ++ outward g v))) (same-neighbours g (sound-of g sound) both v l)
+      ∙ ap (λ (us : List ℕ). nextLabel sameZ ltZ (byPlace M v) (labelsAt (pos 0) M (us ++ outward g v)))
+      (same-neighbours g (sound-of g sound) both v l)
       ∙ ap (nextLabel sameZ ltZ (byPlace M v)) (labels-append (pos 0) M (outward g v) (outward g v))
       ∙ next-twice signed-order (byPlace M v) (labelsAt (pos 0) M (outward g v)))

@@ -22,7 +22,8 @@ unfolding standing
 standing-low n k ls [] h = below-none n
 standing-low n k ls (c ∷ cs) h = go (eqb (times eqb c ls) k) (standing-low n k ls cs (below-rest n c cs h))
   where
-    go : (t : Bool) → allBelow n (standing eqb k ls cs) ≡ true → allBelow n (cond t (c ∷ standing eqb k ls cs) (standing eqb k ls cs)) ≡ true
+    go : (t : Bool) → allBelow n (standing eqb k ls cs) ≡ true
+        → allBelow n (cond t (c ∷ standing eqb k ls cs) (standing eqb k ls cs)) ≡ true
     go true l = below-more n c (standing eqb k ls cs) (below-first n c cs h) l
     go false l = l
 
@@ -49,7 +50,8 @@ module _ (near : ℕ → List ℕ) (n : ℕ) (inside : (v : ℕ) → v < n → a
   unfolding oneRound nextAt
   round-low L e h =
       column-low (nextAt eqb ltb 0 near n L) n n
-      (λ v l. next-low n (getD L v 0) (labelsAt 0 L (near v)) (below-at n L h v (omega arith)) (labels-low n L (near v) (subst (λ (m : ℕ). allBelow m (near v) ≡ true) (sym e) (inside v l)) h))
+      (λ v l. next-low n (getD L v 0) (labelsAt 0 L (near v)) (below-at n L h v (omega arith))
+      (labels-low n L (near v) (subst (λ (m : ℕ). allBelow m (near v) ≡ true) (sym e) (inside v l)) h))
 
   pub rounds-length : (L : List ℕ) (k : ℕ) → length L ≡ n → length (rounds eqb ltb 0 near n L k) ≡ n
   unfolding rounds oneRound
@@ -73,25 +75,31 @@ module _ {B : Type 0} {same less : B → B → Bool} (order : Order same less) (
   times-named : (x : ℕ) (ls : List ℕ) → x < n → allBelow n ls ≡ true → times same (getD F x z) (labelsAt z F ls) ≡ times eqb x ls
   unfolding times labelsAt
   times-named x [] h g = refl
-  times-named x (l ∷ ls) h g = ap₂ (λ t k. one t + k) (same-places order z F r x l h (below-first n l ls g)) (times-named x ls h (below-rest n l ls g))
+  times-named x (l ∷ ls) h g =
+      ap₂ (λ t k. one t + k) (same-places order z F r x l h (below-first n l ls g)) (times-named x ls h (below-rest n l ls g))
 
-  most-named : (ls cs : List ℕ) → allBelow n ls ≡ true → allBelow n cs ≡ true → mostTimes same (labelsAt z F ls) (labelsAt z F cs) ≡ mostTimes eqb ls cs
+  most-named : (ls cs : List ℕ) → allBelow n ls ≡ true → allBelow n cs ≡ true
+      → mostTimes same (labelsAt z F ls) (labelsAt z F cs) ≡ mostTimes eqb ls cs
   unfolding mostTimes labelsAt
   most-named ls [] h g = refl
   most-named ls (c ∷ cs) h g = ap₂ larger (times-named c ls (below-first n c cs g) h) (most-named ls cs h (below-rest n c cs g))
 
-  standing-named : (k : ℕ) (ls cs : List ℕ) → allBelow n ls ≡ true → allBelow n cs ≡ true → standing same k (labelsAt z F ls) (labelsAt z F cs) ≡ labelsAt z F (standing eqb k ls cs)
+  standing-named : (k : ℕ) (ls cs : List ℕ) → allBelow n ls ≡ true → allBelow n cs ≡ true
+      → standing same k (labelsAt z F ls) (labelsAt z F cs) ≡ labelsAt z F (standing eqb k ls cs)
   unfolding standing labelsAt
   standing-named k ls [] h g = refl
   standing-named k ls (c ∷ cs) h g =
-      ap₂ (λ m t. cond (eqb m k) (getD F c z ∷ t) t) (times-named c ls (below-first n c cs g) h) (standing-named k ls cs h (below-rest n c cs g))
+      ap₂ (λ m t. cond (eqb m k) (getD F c z ∷ t) t) (times-named c ls (below-first n c cs g) h)
+      (standing-named k ls cs h (below-rest n c cs g))
       ∙ go (eqb (times eqb c ls) k)
     where
-      go : (t : Bool) → cond t (getD F c z ∷ labelsAt z F (standing eqb k ls cs)) (labelsAt z F (standing eqb k ls cs)) ≡ labelsAt z F (cond t (c ∷ standing eqb k ls cs) (standing eqb k ls cs))
+      go : (t : Bool) → cond t (getD F c z ∷ labelsAt z F (standing eqb k ls cs)) (labelsAt z F (standing eqb k ls cs))
+          ≡ labelsAt z F (cond t (c ∷ standing eqb k ls cs) (standing eqb k ls cs))
       go true = refl
       go false = refl
 
-  smallest-named : (a : ℕ) (cs : List ℕ) → a < n → allBelow n cs ≡ true → smallest less (getD F a z) (labelsAt z F cs) ≡ getD F (smallest ltb a cs) z
+  smallest-named : (a : ℕ) (cs : List ℕ) → a < n → allBelow n cs ≡ true
+      → smallest less (getD F a z) (labelsAt z F cs) ≡ getD F (smallest ltb a cs) z
   unfolding smallest labelsAt
   smallest-named a [] h g = refl
   smallest-named a (c ∷ cs) h g =
@@ -107,12 +115,14 @@ module _ {B : Type 0} {same less : B → B → Bool} (order : Order same less) (
       go true e = e
       go false e = e
 
-  smallestOr-named : (own : ℕ) (cs : List ℕ) → own < n → allBelow n cs ≡ true → smallestOr less (getD F own z) (labelsAt z F cs) ≡ getD F (smallestOr ltb own cs) z
+  smallestOr-named : (own : ℕ) (cs : List ℕ) → own < n → allBelow n cs ≡ true
+      → smallestOr less (getD F own z) (labelsAt z F cs) ≡ getD F (smallestOr ltb own cs) z
   unfolding smallestOr labelsAt
   smallestOr-named own [] h g = refl
   smallestOr-named own (c ∷ cs) h g = smallest-named c cs (below-first n c cs g) (below-rest n c cs g)
 
-  next-named : (own : ℕ) (ls : List ℕ) → own < n → allBelow n ls ≡ true → nextLabel same less (getD F own z) (labelsAt z F ls) ≡ getD F (nextLabel eqb ltb own ls) z
+  next-named : (own : ℕ) (ls : List ℕ) → own < n → allBelow n ls ≡ true
+      → nextLabel same less (getD F own z) (labelsAt z F ls) ≡ getD F (nextLabel eqb ltb own ls) z
   unfolding nextLabel mostCommon
   next-named own ls h g =
       ap (λ k. smallestOr less (getD F own z) (standing same k (labelsAt z F ls) (labelsAt z F ls))) (most-named ls ls g g)
@@ -122,10 +132,12 @@ module _ {B : Type 0} {same less : B → B → Bool} (order : Order same less) (
   labels-named : (L us : List ℕ) → allBelow (length L) us ≡ true → labelsAt z (labelsAt z F L) us ≡ labelsAt z F (labelsAt 0 L us)
   unfolding labelsAt
   labels-named L [] h = refl
-  labels-named L (u ∷ us) h = ap₂ (λ x t. x ∷ t) (labels-at z F L u (below-first (length L) u us h)) (labels-named L us (below-rest (length L) u us h))
+  labels-named L (u ∷ us) h =
+      ap₂ (λ x t. x ∷ t) (labels-at z F L u (below-first (length L) u us h)) (labels-named L us (below-rest (length L) u us h))
 
   module _ (near : ℕ → List ℕ) (inside : (v : ℕ) → v < n → allBelow n (near v) ≡ true) where
-    round-named : (L : List ℕ) → length L ≡ n → allBelow n L ≡ true → oneRound same less z near n (labelsAt z F L) ≡ labelsAt z F (oneRound eqb ltb 0 near n L)
+    round-named : (L : List ℕ) → length L ≡ n → allBelow n L ≡ true
+        → oneRound same less z near n (labelsAt z F L) ≡ labelsAt z F (oneRound eqb ltb 0 near n L)
     unfolding oneRound nextAt
     round-named L e h =
         column-labels z F (nextAt same less z near n (labelsAt z F L)) (nextAt eqb ltb 0 near n L) 0 n n (omega arith)
@@ -135,7 +147,8 @@ module _ {B : Type 0} {same less : B → B → Bool} (order : Order same less) (
         ap₂ (nextLabel same less) (labels-at z F L v w) (labels-named L (near v) m)
         ∙ next-named (getD L v 0) (labelsAt 0 L (near v)) (below-at n L h v w) (labels-low n L (near v) m h))
 
-    rounds-named : (L : List ℕ) (k : ℕ) → length L ≡ n → allBelow n L ≡ true → rounds same less z near n (labelsAt z F L) k ≡ labelsAt z F (rounds eqb ltb 0 near n L k)
+    rounds-named : (L : List ℕ) (k : ℕ) → length L ≡ n → allBelow n L ≡ true
+        → rounds same less z near n (labelsAt z F L) k ≡ labelsAt z F (rounds eqb ltb 0 near n L k)
     unfolding rounds
     rounds-named L zero e h = refl
     rounds-named L (suc k) e h =
@@ -144,9 +157,12 @@ module _ {B : Type 0} {same less : B → B → Bool} (order : Order same less) (
 
     named-all : labelsAt z F (upTo n) ≡ F
     unfolding upTo
-    named-all = sym (column-labels z F (λ i. getD F i z) itself 0 n n (omega arith) (λ v l. refl)) ∙ column-is (λ i. getD F i z) z F n refl (λ i h. refl)
+    named-all =
+        sym (column-labels z F (λ i. getD F i z) itself 0 n n (omega arith) (λ v l. refl))
+        ∙ column-is (λ i. getD F i z) z F n refl (λ i h. refl)
 
     -- rounds on vertex numbers, named in the end, are rounds on names
     pub numbers-named : (k : ℕ) → labelsAt z F (rounds eqb ltb 0 near n (upTo n) k) ≡ rounds same less z near n F k
     unfolding upTo
-    numbers-named k = sym (rounds-named (upTo n) k (column-length itself 0 n) (upTo-low n)) ∙ ap (λ L. rounds same less z near n L k) named-all
+    numbers-named k =
+        sym (rounds-named (upTo n) k (column-length itself 0 n) (upTo-low n)) ∙ ap (λ L. rounds same less z near n L k) named-all

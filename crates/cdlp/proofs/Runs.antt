@@ -51,7 +51,8 @@ cdlp-numbers g s k =
     let n = names-length g s in
     subst (λ (j : ℕ). labelsAt (pos 0) (names g) (rounds eqb ltb 0 near j (upTo j) k) ≡ rounds sameZ ltZ (pos 0) near j (names g) k) n
     (numbers-named signed-order (pos 0) (names g) (s .idsRise) near
-    (λ v l. subst (λ (j : ℕ). allBelow j (near v) ≡ true) (sym n) (near-low (g .vertices) (g .inOffsets) (g .inSources) (g .outOffsets) (g .outTargets) (sound-inside g s) v (omega arith))) k)
+    (λ v l. subst (λ (j : ℕ). allBelow j (near v) ≡ true) (sym n)
+    (near-low (g .vertices) (g .inOffsets) (g .inSources) (g .outOffsets) (g .outTargets) (sound-inside g s) v (omega arith))) k)
 
 module _ {size : Size} {ids : List ℤ} {oo ot io is : List ℕ} {R : List ℤ} {L N C L₁ C₁ : List ℕ} (x : Ready size ids oo ot io is R L N C)
     (e₁ : L₁ ≡ upTo (length L)) (e₂ : C₁ ≡ cleared C) where
@@ -79,7 +80,9 @@ module _ {size : Size} {ids : List ℤ} {oo ot io is : List ℕ} {R : List ℤ} 
       let c : length C₁ ≡ length C = ap length e₂ ∙ length-replicate (length C) 0 in
       record {
         inside = subst (λ (k : ℕ). Inside k io is oo ot) (sym numbers-length) (sound-inside g s);
-        lowLabels = subst (λ (k : ℕ). allBelow k L₁ ≡ true) (sym numbers-length) (subst (λ (l : List ℕ). allBelow n l ≡ true) (sym numbers) (upTo-low n));
+        lowLabels =
+            subst (λ (k : ℕ). allBelow k L₁ ≡ true) (sym numbers-length)
+            (subst (λ (l : List ℕ). allBelow n l ≡ true) (sym numbers) (upTo-low n));
         roomNext = x .roomNext ∙ sym numbers-length;
         roomCounts = c ∙ x .roomCounts ∙ sym numbers-length;
         fresh = e₂ ∙ ap (λ (k : ℕ). replicate k 0) (sym c);
@@ -93,7 +96,8 @@ module _ {size : Size} {ids : List ℤ} {oo ot io is : List ℕ} {R : List ℤ} 
     run = e₃ ∙ ap₂ (λ j M. rounds eqb ltb 0 (near j io is oo ot) j M k) numbers-length numbers
 
     low : allBelow n L₂ ≡ true
-    low = subst (λ (l : List ℕ). allBelow n l ≡ true) (sym run) (rounds-low (near n io is oo ot) n nears (upTo n) k upTo-length (upTo-low n))
+    low = subst (λ (l : List ℕ). allBelow n l ≡ true) (sym run)
+        (rounds-low (near n io is oo ot) n nears (upTo n) k upTo-length (upTo-low n))
 
     pub run-nameable : Nameable ids L₂ R
     run-nameable =

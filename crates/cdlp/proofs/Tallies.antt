@@ -43,7 +43,8 @@ module _ (b : Best) (l k : ℕ) where
 pub hear-more : (L part : List ℕ) (i : ℕ) (C : List ℕ) (b r : Best) (whole : Tally) → i < length part
     → countedAll (labelsAt 0 L (drop i part)) (tally C b) ≡ whole
     → r ≡ leading b (getD L (getD part i 0) 0) (getD C (getD L (getD part i 0) 0) 0 + 1)
-    → countedAll (labelsAt 0 L (drop (i + 1) part)) (tally (set C (getD L (getD part i 0) 0) (getD C (getD L (getD part i 0) 0) 0 + 1)) r) ≡ whole
+    → countedAll (labelsAt 0 L (drop (i + 1) part)) (tally (set C (getD L (getD part i 0) 0) (getD C (getD L (getD part i 0) 0) 0 + 1)) r)
+    ≡ whole
 unfolding countedAll counted
 hear-more L part i C b r whole h e q =
     let l = getD L (getD part i 0) 0 in
@@ -67,7 +68,8 @@ pub forget-more : (L part : List ℕ) (i : ℕ) (C whole : List ℕ) → i < len
 unfolding forgotten
 forget-more L part i C whole h e = sym (ap (λ (s : List ℕ). forgotten s C) (labels-step L part i h)) ∙ e
 
-pub forget-end : (L part : List ℕ) (i : ℕ) (C whole : List ℕ) → length part ≤ i → forgotten (labelsAt 0 L (drop i part)) C ≡ whole → C ≡ whole
+pub forget-end : (L part : List ℕ) (i : ℕ) (C whole : List ℕ) → length part ≤ i → forgotten (labelsAt 0 L (drop i part)) C ≡ whole
+    → C ≡ whole
 unfolding forgotten
 forget-end L part i C whole h e = sym (ap (λ (s : List ℕ). forgotten s C) (labels-end L part i h)) ∙ e
 
@@ -142,12 +144,14 @@ module _ (T : ℕ → ℕ) (own l : ℕ) (b : Best) (v : Lead T own b) where
       even true h q = let a = ltb-true l (b .label) h in taken (omega arith) (λ _. a)
       even false h q = let a = ltb-false l (b .label) h in stays (omega arith) (λ _. a)
 
-      down : (t : Bool) → ltb (T l + 1) (b .count) ≡ t → T l + 1 ≤ b .count → Lead (heard l T) own (cond t b (cond (ltb l (b .label)) (best l (T l + 1)) b))
+      down : (t : Bool) → ltb (T l + 1) (b .count) ≡ t → T l + 1 ≤ b .count
+          → Lead (heard l T) own (cond t b (cond (ltb l (b .label)) (best l (T l + 1)) b))
       down true h g = let a = ltb-true (T l + 1) (b .count) h in stays (omega arith) (λ q. absurd (let w = q in omega arith))
       down false h g = let a = ltb-false (T l + 1) (b .count) h in even (ltb l (b .label)) refl (omega arith)
 
       up : (t : Bool) → ltb (b .count) (T l + 1) ≡ t
-          → Lead (heard l T) own (cond t (best l (T l + 1)) (cond (ltb (T l + 1) (b .count)) b (cond (ltb l (b .label)) (best l (T l + 1)) b)))
+          → Lead (heard l T) own (cond t (best l (T l + 1))
+          (cond (ltb (T l + 1) (b .count)) b (cond (ltb l (b .label)) (best l (T l + 1)) b)))
       up true h = let a = ltb-true (b .count) (T l + 1) h in taken (omega arith) (λ q. absurd (let w = q in omega arith))
       up false h = let a = ltb-false (b .count) (T l + 1) h in down (ltb (T l + 1) (b .count)) refl a
 
@@ -166,8 +170,10 @@ counted-one n T own l S h v =
           elim (ℕ-discrete j l) as (λ _. getD (set (S .counts) l (getD (S .counts) l 0 + 1)) j 0 ≡ one (eqb j l) + T j) [
             | yes e ↦
                 let a : l < length (S .counts) = rw (v .len) h in
-                rw (e, getD-set-same (S .counts) l (getD (S .counts) l 0 + 1) 0 a) (let o = one-same l l refl in let q = v .nums l h in omega arith)
-            | no d ↦ rw (getD-set-other (S .counts) l j (getD (S .counts) l 0 + 1) 0 d) (let o = one-other j l d in let q = v .nums j g in omega arith)
+                rw (e, getD-set-same (S .counts) l (getD (S .counts) l 0 + 1) 0 a)
+                (let o = one-same l l refl in let q = v .nums l h in omega arith)
+            | no d ↦ rw (getD-set-other (S .counts) l j (getD (S .counts) l 0 + 1) 0 d)
+                (let o = one-other j l d in let q = v .nums j g in omega arith)
           ];
       leads = lead-heard T own l (S .lead) (v .leads) (getD (S .counts) l 0 + 1) (let q = v .nums l h in omega arith);
     }
@@ -182,10 +188,12 @@ unfolding times told
 told-times [] T x = omega arith
 told-times (l ∷ ls) T x = let r = told-times ls (heard l T) x in omega arith
 
-counted-all : (n own : ℕ) (ls : List ℕ) (T : ℕ → ℕ) (S : Tally) → allBelow n ls ≡ true → Counting n T own S → Counting n (told ls T) own (countedAll ls S)
+counted-all : (n own : ℕ) (ls : List ℕ) (T : ℕ → ℕ) (S : Tally) → allBelow n ls ≡ true → Counting n T own S
+    → Counting n (told ls T) own (countedAll ls S)
 unfolding countedAll told
 counted-all n own [] T S h v = v
-counted-all n own (l ∷ ls) T S h v = counted-all n own ls (heard l T) (counted l S) (below-rest n l ls h) (counted-one n T own l S (below-first n l ls h) v)
+counted-all n own (l ∷ ls) T S h v =
+    counted-all n own ls (heard l T) (counted l S) (below-rest n l ls h) (counted-one n T own l S (below-first n l ls h) v)
 
 nothing : ℕ → ℕ
 nothing x = 0
@@ -207,7 +215,8 @@ first-times l ls = let o = one-same l l refl in omega arith
 lead-next : (ls : List ℕ) (own : ℕ) (b : Best) → Lead (told ls nothing) own b → b .label ≡ nextLabel eqb ltb own ls
 unfolding nextLabel mostCommon standing smallestOr told nothing
 lead-next [] own b v = v .kept (v .size)
-lead-next (l ∷ ls) own b v = chosen-one number-order (l ∷ ls) (b .label) (nextLabel eqb ltb own (l ∷ ls)) here (next-chosen number-order own l ls)
+lead-next (l ∷ ls) own b v =
+    chosen-one number-order (l ∷ ls) (b .label) (nextLabel eqb ltb own (l ∷ ls)) here (next-chosen number-order own l ls)
   where
     at : (x : ℕ) → told (l ∷ ls) nothing x ≡ times eqb x (l ∷ ls)
     at x = let r = told-times (l ∷ ls) nothing x in r ∙ add-zero (times eqb x (l ∷ ls))
@@ -268,7 +277,8 @@ after n own ls = countedAll ls (tally (replicate n 0) (best own 0))
 
 module _ (n own : ℕ) (L us : List ℕ) (h : allBelow (length L) us ≡ true) (hL : allBelow n L ≡ true) where
   counting : Counting n (told (labelsAt 0 L us) nothing) own (after n own (labelsAt 0 L us))
-  counting = counted-all n own (labelsAt 0 L us) nothing (tally (replicate n 0) (best own 0)) (labels-low n L us h hL) (counting-start n own)
+  counting =
+      counted-all n own (labelsAt 0 L us) nothing (tally (replicate n 0) (best own 0)) (labels-low n L us h hL) (counting-start n own)
 
   count-at : (j : ℕ) → j < n → getD (after n own (labelsAt 0 L us) .counts) j 0 ≡ times eqb j (labelsAt 0 L us)
   unfolding nothing
@@ -278,14 +288,17 @@ module _ (n own : ℕ) (L us : List ℕ) (h : allBelow (length L) us ≡ true) (
   after-under j =
       elim (decLt j n) as (λ _. getD (after n own (labelsAt 0 L us) .counts) j 0 ≤ length us) [
         | yes g ↦ let e = count-at j g in let t = times-le j (labelsAt 0 L us) in let l = labels-length 0 L us in omega arith
-        | no g ↦ let e = List·getD-eq-default (after n own (labelsAt 0 L us) .counts) 0 {n = j} (let k = counting .len in omega arith) in omega arith
+        | no g ↦ let e = List·getD-eq-default (after n own (labelsAt 0 L us) .counts) 0 {n = j} (let k = counting .len in omega arith) in
+            omega arith
       ]
 
   after-forgotten : forgotten (labelsAt 0 L us) (after n own (labelsAt 0 L us) .counts) ≡ replicate n 0
   after-forgotten =
-      let len : length (forgotten (labelsAt 0 L us) (after n own (labelsAt 0 L us) .counts)) ≡ n = forgotten-length (labelsAt 0 L us) (after n own (labelsAt 0 L us) .counts) ∙ counting .len in
+      let len : length (forgotten (labelsAt 0 L us) (after n own (labelsAt 0 L us) .counts))
+      ≡ n = forgotten-length (labelsAt 0 L us) (after n own (labelsAt 0 L us) .counts) ∙ counting .len in
       ext-getD 0 (forgotten (labelsAt 0 L us) (after n own (labelsAt 0 L us) .counts)) (replicate n 0) (len ∙ sym (length-replicate n 0))
-      (λ j g. forgotten-zero (labelsAt 0 L us) (after n own (labelsAt 0 L us) .counts) j (λ e. count-at j (omega arith) ∙ e) ∙ sym (replicate-at 0 n j))
+      (λ j g. forgotten-zero (labelsAt 0 L us) (after n own (labelsAt 0 L us) .counts) j (λ e. count-at j (omega arith) ∙ e)
+      ∙ sym (replicate-at 0 n j))
 
 -- ---- a vertex's two parts: what the steps of `settle` ask, and what they give in the end
 pub walk-in : {L a b C D : List ℕ} → Parts a b L C → length D ≡ length C → Walk a L D
@@ -317,7 +330,8 @@ module _ (own : ℕ) (L a b C₀ : List ℕ) (p : Parts a b L C₀) (C₁ : List
   settle-second =
       record {
         walk = walk-out p (ap length once-counts ∙ counting n own L a (p .sides .lowIn) (p .lowLabels) .len);
-        under = λ j. let u = after-under n own L a (p .sides .lowIn) (p .lowLabels) j in let s = p .sides .shortIn in rw once-counts (omega arith);
+        under = λ j. let u = after-under n own L a (p .sides .lowIn) (p .lowLabels) j in let s = p .sides .shortIn in
+            rw once-counts (omega arith);
         short = p .sides .shortOut;
       }
 
@@ -327,13 +341,15 @@ module _ (own : ℕ) (L a b C₀ : List ℕ) (p : Parts a b L C₀) (C₁ : List
 
     twice : tally C₂ b₂ ≡ after n own (labelsAt 0 L (a ++ b))
     twice =
-        e₂ ∙ ap (countedAll (labelsAt 0 L b)) once ∙ sym (counted-append (labelsAt 0 L a) (labelsAt 0 L b) (tally (replicate n 0) (best own 0)))
+        e₂ ∙ ap (countedAll (labelsAt 0 L b)) once
+        ∙ sym (counted-append (labelsAt 0 L a) (labelsAt 0 L b) (tally (replicate n 0) (best own 0)))
         ∙ ap (after n own) (sym (labels-append 0 L a b))
 
     pub settle-label : b₂ .label ≡ nextLabel eqb ltb own (labelsAt 0 L (a ++ b))
     settle-label =
         ap (λ (S : Tally). S .lead .label) twice
-        ∙ lead-next (labelsAt 0 L (a ++ b)) own (after n own (labelsAt 0 L (a ++ b)) .lead) (counting n own L (a ++ b) low (p .lowLabels) .leads)
+        ∙ lead-next (labelsAt 0 L (a ++ b)) own (after n own (labelsAt 0 L (a ++ b)) .lead)
+        (counting n own L (a ++ b) low (p .lowLabels) .leads)
 
     pub settle-counts : (C₃ C₄ : List ℕ) → C₃ ≡ forgotten (labelsAt 0 L a) C₂ → C₄ ≡ forgotten (labelsAt 0 L b) C₃ → C₄ ≡ C₀
     settle-counts C₃ C₄ e₃ e₄ =

@@ -78,7 +78,9 @@ module _ {A : Type 0} {less : A → A → Bool} {z : A} {l : List A} {x : A} {lo
         (λ k a s. record { turns = k; enough = omega arith; same = sym (bisect-down less z l x k low high g (rw e at t) (rw e at u)) ∙ s })
 
     pub halving-here : less y x ≡ false → less x y ≡ false → At (low + (high - low) / 2) ≡ bisectBy less z l x
-    halving-here t u = left (At (low + (high - low) / 2) ≡ bisectBy less z l x) (λ k a s. sym (bisect-here less z l x k low high g (rw e at t) (rw e at u)) ∙ s)
+    halving-here t u =
+        left (At (low + (high - low) / 2) ≡ bisectBy less z l x)
+        (λ k a s. sym (bisect-here less z l x k low high g (rw e at t) (rw e at u)) ∙ s)
 
 -- ---- what a search must answer: a place that holds x, or that no place does
 module _ {A : Type 0} (z : A) (l : List A) (x : A) where
@@ -142,16 +144,20 @@ module _ {A : Type 0} {same less : A → A → Bool} (order : Order same less) (
         | no h ↦ rw (bisect-far less z l x (suc turns) low high (omega arith)) (bracket-none low high b (omega arith))
         | yes h ↦
             bool-cases (less y x) X
-            (λ t. rw (bisect-up less z l x turns low high h t) (bisect-right turns (middle + 1) high (omega arith) (bracket-up low high middle b (omega arith) t)))
+            (λ t. rw (bisect-up less z l x turns low high h t)
+            (bisect-right turns (middle + 1) high (omega arith) (bracket-up low high middle b (omega arith) t)))
             (λ t.
             bool-cases (less x y) X
-            (λ u. rw (bisect-down less z l x turns low high h t u) (bisect-right turns low middle (omega arith) (bracket-down low high middle b (omega arith) u)))
+            (λ u. rw (bisect-down less z l x turns low high h t u)
+            (bisect-right turns low middle (omega arith) (bracket-down low high middle b (omega arith) u)))
             (λ u. rw (bisect-here less z l x turns low high h t u) (let e = b .inside in (omega arith, order .less-eq y x t u))))
       ]
 
   -- the bisection of a rising list is right
   pub bisect-finds : Right z l x (bisectBy less z l x)
-  bisect-finds = bisect-right (length l) 0 (length l) (omega arith) (record { inside = omega arith; before = λ i g. absurd (not-suc-le-zero g); behind = λ i g k. absurd (omega arith) })
+  bisect-finds =
+      bisect-right (length l) 0 (length l) (omega arith)
+      (record { inside = omega arith; before = λ i g. absurd (not-suc-le-zero g); behind = λ i g k. absurd (omega arith) })
 
 -- ---- identifiers
 abbrev From : ℕ → List ℤ → ℤ → Found → Type 0
@@ -173,7 +179,8 @@ unfolding placeFrom
 place-from i [] id = λ k g e. absurd (not-suc-le-zero g)
 place-from i (x ∷ l) id = by (sameZ x id) refl (place-from (i + 1) l id)
   where
-    by : (t : Bool) → sameZ x id ≡ t → From (i + 1) l id (placeFrom (i + 1) l id) → From i (x ∷ l) id (elim t [ true ↦ At i | false ↦ placeFrom (i + 1) l id ])
+    by : (t : Bool) → sameZ x id ≡ t → From (i + 1) l id (placeFrom (i + 1) l id)
+        → From i (x ∷ l) id (elim t [ true ↦ At i | false ↦ placeFrom (i + 1) l id ])
     by true t h = (omega arith, omega arith, ap (λ (k : ℕ). getD (x ∷ l) k (pos 0)) (sub-self i) ∙ signed-order .same-eq x id t)
     by false t h = from-next i x l id (placeFrom (i + 1) l id) t h
 
@@ -187,11 +194,13 @@ place-right l id = by (placeIn l id) (place-from 0 l id)
 
 -- in a list that rises the bisection finds the vertex number of an identifier
 pub find-rising : (l : List ℤ) (id : ℤ) → risingZ l ≡ true → bisected l id ≡ placeIn l id
-find-rising l id r = right-one signed-order (pos 0) l r id (bisected l id) (placeIn l id) (bisect-finds signed-order (pos 0) l r id) (place-right l id)
+find-rising l id r =
+    right-one signed-order (pos 0) l r id (bisected l id) (placeIn l id) (bisect-finds signed-order (pos 0) l r id) (place-right l id)
 
 -- an identifier has the number i exactly where it stands at place i
 pub place-at : (l : List ℤ) (id : ℤ) → risingZ l ≡ true → (i : ℕ) → (placeIn l id ≡ At i) ↔ StandsAt l id i
-place-at l id r i = ((λ e. rw e at (place-right l id)), λ h. right-one signed-order (pos 0) l r id (placeIn l id) (At i) (place-right l id) h)
+place-at l id r i =
+    ((λ e. rw e at (place-right l id)), λ h. right-one signed-order (pos 0) l r id (placeIn l id) (At i) (place-right l id) h)
 
 -- ---- what a search answers, from where it ends
 said-at : (f : Found) (i : ℕ) → foundSays f ≡ gives i → f ≡ At i

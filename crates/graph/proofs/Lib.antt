@@ -1,4 +1,5 @@
--- Laws of parts, of the bisection and of sound graphs, then the laws behind the soundness check, by search and by a walk, and graphs computed.
+-- Laws of parts, of the bisection and of sound graphs, then the laws behind the soundness check, by search and by a walk,
+-- and graphs computed.
 pub mod Parts
 pub mod Finds
 pub mod Sounds

@@ -29,7 +29,8 @@ module _ (n : ℕ) (off tgt : List ℕ) (v : ℕ) where
 
     pub part-passes : length tgt < getD off (v + 1) 0 → [] ≡ partOf n off tgt v
     unfolding between
-    part-passes k = rw (part-between, lt-leb (getD off (v + 1) 0) (length tgt) k, and-off (leb (getD off v 0) (getD off (v + 1) 0)) false refl)
+    part-passes k =
+        rw (part-between, lt-leb (getD off (v + 1) 0) (length tgt) k, and-off (leb (getD off v 0) (getD off (v + 1) 0)) false refl)
 
     pub part-whole : getD off v 0 ≤ getD off (v + 1) 0 → getD off (v + 1) 0 ≤ length tgt
         → take (getD off (v + 1) 0 - getD off v 0) (drop (getD off v 0) tgt) ≡ partOf n off tgt v

@@ -18,7 +18,8 @@ use Rattle.basis.proofs.Scans.{every-at, every-of, each-at, each-of, mem-index,
 use Rattle.basis.proofs.Sets.{rising-starts, starts-same}
 use Rattle.basis.proofs.Orders.{rising-lt}
 use Rattle.graph.specs.Part.{partOf}
-use Rattle.graph.specs.Sound.{Graph, outward, inward, names, soundIds, soundOffsets, other, soundPart, soundSide, mirrored, soundSides, soundGraph, Undirected}
+use Rattle.graph.specs.Sound.{Graph, outward, inward, names, soundIds, soundOffsets, other}
+use Rattle.graph.specs.Sound.{soundPart, soundSide, mirrored, soundSides, soundGraph, Undirected}
 use Rattle.graph.specs.Find.{placeIn, bisected}
 use Rattle.graph.proofs.Parts.{part-whole}
 use Rattle.graph.proofs.Finds.{find-rising}
@@ -46,7 +47,8 @@ side-of n m off tgt h =
       targetsRoom = leb-true m (length tgt) (and-second a b r);
       begins = eqb-true (getD off 0 0) 0 (and-first c d t);
       ends = eqb-true (getD off n 0) m (and-second c d t);
-      grows = λ v l. leb-true (getD off v 0) (getD off (v + 1) 0) (every-at (λ v. leb (getD off v 0) (getD off (v + 1) 0)) n v l (and-second (c && d) e s));
+      grows = λ v l. leb-true (getD off v 0) (getD off (v + 1) 0)
+          (every-at (λ v. leb (getD off v 0) (getD off (v + 1) 0)) n v l (and-second (c && d) e s));
       good = λ v l. every-at (λ v. soundPart n v (partOf n off tgt v)) n v l (and-second ((a && b) && ((c && d) && e)) f h);
     }
 
@@ -81,7 +83,8 @@ unfolding soundSides soundGraph soundIds
 sound-of g h =
     let a = leb (g .vertices) 65536 in let b = leb (g .arcs) 2097152 in
     let i = leb (g .vertices) (length (g .ids)) in let j = risingZ (names g) in
-    let c = soundSide (g .vertices) (g .arcs) (g .outOffsets) (g .outTargets) in let d = soundSide (g .vertices) (g .arcs) (g .inOffsets) (g .inSources) in
+    let c = soundSide (g .vertices) (g .arcs) (g .outOffsets) (g .outTargets) in
+    let d = soundSide (g .vertices) (g .arcs) (g .inOffsets) (g .inSources) in
     let e = mirrored (g .vertices) (outward g) (inward g) in let f = mirrored (g .vertices) (inward g) (outward g) in
     let p = and-first (((a && b) && (i && j)) && (c && d)) (e && f) h in
     let q = and-second (((a && b) && (i && j)) && (c && d)) (e && f) h in
@@ -101,12 +104,14 @@ sound-of g h =
     }
 
 -- ---- each arc stands at its other end
-pub mirrored-at : (n : ℕ) (from back : ℕ → List ℕ) → mirrored n from back ≡ true → (u w : ℕ) → u < n → mem w (from u) ≡ true → mem u (back w) ≡ true
+pub mirrored-at : (n : ℕ) (from back : ℕ → List ℕ) → mirrored n from back ≡ true → (u w : ℕ) → u < n → mem w (from u) ≡ true
+    → mem u (back w) ≡ true
 unfolding mirrored
 mirrored-at n from back h u w l m =
     each-mem (λ w. mem u (back w)) (from u) (every-at (λ u. each (λ w. mem u (back w)) (from u)) n u l h) w m
 
-pub mirrored-of : (n : ℕ) (from back : ℕ → List ℕ) → ((u w : ℕ) → u < n → mem w (from u) ≡ true → mem u (back w) ≡ true) → mirrored n from back ≡ true
+pub mirrored-of : (n : ℕ) (from back : ℕ → List ℕ) → ((u w : ℕ) → u < n → mem w (from u) ≡ true → mem u (back w) ≡ true)
+    → mirrored n from back ≡ true
 unfolding mirrored
 mirrored-of n from back h =
     every-of (λ u. each (λ w. mem u (back w)) (from u)) n
@@ -138,8 +143,10 @@ module _ (g : Graph) (s : Sound g) where
 
   -- an arc stands outward exactly where it stands inward
   pub arcs-agree : (u w : ℕ) → u < g .vertices → w < g .vertices → (mem w (outward g u) ≡ true) ↔ (mem u (inward g w) ≡ true)
-  arcs-agree u w lu lw =
-      (mirrored-at (g .vertices) (outward g) (inward g) (s .back) u w lu, mirrored-at (g .vertices) (inward g) (outward g) (s .forth) w u lw)
+  arcs-agree u w lu lw = (
+    mirrored-at (g .vertices) (outward g) (inward g) (s .back) u w lu,
+    mirrored-at (g .vertices) (inward g) (outward g) (s .forth) w u lw,
+  )
 
   -- of an undirected graph, where "each edge is bidirectional", the incoming neighbours are the outgoing ones
   pub same-neighbours : Undirected g → (v : ℕ) → v < g .vertices → inward g v ≡ outward g v
@@ -198,7 +205,8 @@ vertex-found g s id = find-rising (names g) id (s .idsRise)
 
 -- ---- how many members a part has
 -- a rising list that leaves v out runs ahead of its places by one behind v
-ahead : (n v : ℕ) (l : List ℕ) → rising l ≡ true → each (other n v) l ≡ true → (i : ℕ) → i < length l → (i ≤ getD l i 0) × (v < getD l i 0 → i < getD l i 0)
+ahead : (n v : ℕ) (l : List ℕ) → rising l ≡ true → each (other n v) l ≡ true → (i : ℕ) → i < length l
+    → (i ≤ getD l i 0) × (v < getD l i 0 → i < getD l i 0)
 ahead n v l r o zero h = (omega arith, λ a. omega arith)
 ahead n v l r o (suc i) h =
     let b = ahead n v l r o i (omega arith) in

@@ -22,7 +22,8 @@ use Rattle.graph.specs.declared.find.Found.{Found}
 use Rattle.graph.specs.declared.find.Found.the-variants.{At, Missing}
 use Rattle.graph.specs.Part.{partOf}
 use Rattle.graph.specs.Find.{bisectBy, isThere}
-use Rattle.graph.specs.Sound.{Graph, outward, inward, lent, idsRise, soundIds, other, neverFall, soundOffsets, soundPart, soundParts, soundSide, mirrored, bothWays, soundSides, soundGraph}
+use Rattle.graph.specs.Sound.{Graph, outward, inward, lent, idsRise, soundIds, other, neverFall, soundOffsets}
+use Rattle.graph.specs.Sound.{soundPart, soundParts, soundSide, mirrored, bothWays, soundSides, soundGraph}
 use Rattle.graph.specs.Steps.{bisectFinds, answered}
 use Rattle.graph.specs.Walk.{Ways}
 use Rattle.graph.proofs.Parts.{part-far}
@@ -51,13 +52,15 @@ module _ (n : ℕ) (ids : List ℤ) where
         (λ k g. let e = length-take n ids in
         rw (ids-at k (omega arith), ids-at (suc k) (omega arith), ← add-one k) (every-at (ascends ltZ (pos 0) ids) i k (omega arith) a))))
 
-    pub ids-stop : (i : ℕ) (x y : ℤ) → i + 1 < n → x ≡ getD ids i (pos 0) → y ≡ getD ids (i + 1) (pos 0) → ltZ x y ≡ false → false ≡ idsRise n ids
+    pub ids-stop : (i : ℕ) (x y : ℤ) → i + 1 < n → x ≡ getD ids i (pos 0) → y ≡ getD ids (i + 1) (pos 0) → ltZ x y ≡ false
+        → false ≡ idsRise n ids
     ids-stop i x y h p q t =
         rw (le-leb n (length ids) l)
         (sym (risingBy-fail ltZ (pos 0) (take n ids) i (let e = length-take n ids in omega arith)
         (rw (ids-at i (omega arith), ids-at (suc i) (omega arith), ← add-one i, ← p, ← q) t)))
 
-pub ids-more : (ids : List ℤ) (i : ℕ) (x y : ℤ) → every i (ascends ltZ (pos 0) ids) ≡ true → x ≡ getD ids i (pos 0) → y ≡ getD ids (i + 1) (pos 0) → ltZ x y ≡ true
+pub ids-more : (ids : List ℤ) (i : ℕ) (x y : ℤ) → every i (ascends ltZ (pos 0) ids) ≡ true → x ≡ getD ids i (pos 0)
+    → y ≡ getD ids (i + 1) (pos 0) → ltZ x y ≡ true
     → every (i + 1) (ascends ltZ (pos 0) ids) ≡ true
 ids-more ids i x y a p q t = every-more (ascends ltZ (pos 0) ids) i a (rw (← p, ← q) t)
 
@@ -83,7 +86,8 @@ next-above : (x : ℕ) (l : List ℕ) → startsAt (x + 1) l ≡ aboveBy ltb x l
 next-above x [] = refl
 next-above x (y ∷ l) =
     ap (λ (t : Bool). t && aboveBy ltb y l)
-    (same-test (leb (x + 1) y) (ltb x y) (λ h. lt-ltb x y (let e = leb-true (x + 1) y h in omega arith)) (λ h. le-leb (x + 1) y (let e = ltb-true x y h in omega arith)))
+    (same-test (leb (x + 1) y) (ltb x y) (λ h. lt-ltb x y (let e = leb-true (x + 1) y h in omega arith))
+    (λ h. le-leb (x + 1) y (let e = ltb-true x y h in omega arith)))
 
 and-swap : (a b c d : Bool) → ((a && b) && (c && d)) ≡ ((a && c) && (b && d))
 and-swap true true c d = refl
@@ -95,7 +99,8 @@ fitting-is : (n v least : ℕ) (l : List ℕ) → fitting n v least l ≡ (start
 unfolding each
 fitting-is n v least [] = refl
 fitting-is n v least (x ∷ l) =
-    ap (λ (t : Bool). (leb least x && other n v x) && t) (fitting-is n v (x + 1) l ∙ ap (λ (t : Bool). t && each (other n v) l) (next-above x l))
+    ap (λ (t : Bool). (leb least x && other n v x) && t)
+    (fitting-is n v (x + 1) l ∙ ap (λ (t : Bool). t && each (other n v) l) (next-above x l))
     ∙ and-swap (leb least x) (other n v x) (aboveBy ltb x l) (each (other n v) l)
 
 pub part-begin : (n v : ℕ) (l : List ℕ) → fitting n v 0 (drop 0 l) ≡ soundPart n v l
@@ -115,7 +120,8 @@ module _ (n v least : ℕ) (l : List ℕ) (i : ℕ) (g : i < length l) (e : fitt
   pub part-self : getD l i 0 ≡ v → false ≡ soundPart n v l
   part-self h = rw (eq-eqb (getD l i 0) v h, and-off (ltb (getD l i 0) n) false refl, and-off (leb least (getD l i 0)) false refl) at left
 
-  pub part-more : least ≤ getD l i 0 → getD l i 0 < n → (getD l i 0 ≡ v → ⊥) → fitting n v (getD l i 0 + 1) (drop (i + 1) l) ≡ soundPart n v l
+  pub part-more : least ≤ getD l i 0 → getD l i 0 < n → (getD l i 0 ≡ v → ⊥)
+      → fitting n v (getD l i 0 + 1) (drop (i + 1) l) ≡ soundPart n v l
   part-more a b d = rw (le-leb least (getD l i 0) a, lt-ltb (getD l i 0) n b, ne-eqb (getD l i 0) v d) at left
 
 pub part-end : (n v least : ℕ) (l : List ℕ) (i : ℕ) → length l ≤ i → fitting n v least (drop i l) ≡ soundPart n v l → true ≡ soundPart n v l
@@ -170,7 +176,8 @@ module _ (n m : ℕ) (off tgt : List ℕ) where
 
 -- ---- "the inward arcs are exactly the outward ones reversed"
 module _ (l : List ℕ) (x low high : ℕ) (h : Halving ltb 0 l x low high) where
-  pub found-here : low < high → ltb (getD l (low + (high - low) / 2) 0) x ≡ false → ltb x (getD l (low + (high - low) / 2) 0) ≡ false → true ≡ bisectFinds l x
+  pub found-here : low < high → ltb (getD l (low + (high - low) / 2) 0) x ≡ false → ltb x (getD l (low + (high - low) / 2) 0) ≡ false
+      → true ≡ bisectFinds l x
   found-here g t u = ap isThere (halving-here h g (getD l (low + (high - low) / 2) 0) refl t u)
 
   pub found-none : high ≤ low → false ≡ bisectFinds l x
@@ -193,7 +200,8 @@ parts-rise n off tgt s v =
 
 module _ (n : ℕ) (off tgt : List ℕ) (u : ℕ) (m : List ℕ) where
   -- a scan of the members of a part of u; l is the part at the other end
-  module _ (s : soundParts n off tgt ≡ true) (i : ℕ) (l : List ℕ) (q : l ≡ partOf n off tgt (getD m i 0)) (t : Bool) (e : t ≡ bisectFinds l u) where
+  module _ (s : soundParts n off tgt ≡ true) (i : ℕ) (l : List ℕ) (q : l ≡ partOf n off tgt (getD m i 0)) (t : Bool)
+      (e : t ≡ bisectFinds l u) where
     stands : t ≡ mem u (partOf n off tgt (getD m i 0))
     stands = e ∙ finds-member l u (rw q (parts-rise n off tgt s (getD m i 0))) ∙ ap (mem u) q
 
@@ -257,7 +265,8 @@ module _ (size : Size) (ids : List ℤ) (oo ot io is : List ℕ) where
     graph-back h = rw (graph-is (lent size ids oo ot io is), s, h)
 
     pub graph-forth : mirrored (size .vertices) (partOf (size .vertices) oo ot) (partOf (size .vertices) io is) ≡ true
-        → (t : Bool) → t ≡ mirrored (size .vertices) (partOf (size .vertices) io is) (partOf (size .vertices) oo ot) → t ≡ soundGraph (lent size ids oo ot io is)
+        → (t : Bool) → t ≡ mirrored (size .vertices) (partOf (size .vertices) io is) (partOf (size .vertices) oo ot)
+        → t ≡ soundGraph (lent size ids oo ot io is)
     graph-forth h t e = rw (graph-is (lent size ids oo ot io is), s, h) e
 
     sides-ways : (soundSide (size .vertices) (size .arcs) oo ot && soundSide (size .vertices) (size .arcs) io is) ≡ true
@@ -266,10 +275,14 @@ module _ (size : Size) (ids : List ℤ) (oo ot io is : List ℕ) where
         (soundSide (size .vertices) (size .arcs) oo ot && soundSide (size .vertices) (size .arcs) io is) (unfold soundSides in s)
 
     pub sides-outward : soundParts (size .vertices) oo ot ≡ true
-    sides-outward = side-parts (size .vertices) (size .arcs) oo ot (and-first (soundSide (size .vertices) (size .arcs) oo ot) (soundSide (size .vertices) (size .arcs) io is) sides-ways)
+    sides-outward =
+        side-parts (size .vertices) (size .arcs) oo ot
+        (and-first (soundSide (size .vertices) (size .arcs) oo ot) (soundSide (size .vertices) (size .arcs) io is) sides-ways)
 
     pub sides-inward : soundParts (size .vertices) io is ≡ true
-    sides-inward = side-parts (size .vertices) (size .arcs) io is (and-second (soundSide (size .vertices) (size .arcs) oo ot) (soundSide (size .vertices) (size .arcs) io is) sides-ways)
+    sides-inward =
+        side-parts (size .vertices) (size .arcs) io is
+        (and-second (soundSide (size .vertices) (size .arcs) oo ot) (soundSide (size .vertices) (size .arcs) io is) sides-ways)
 
     pub sides-told : Ways (size .vertices) (partOf (size .vertices) oo ot) io is
     sides-told =
@@ -279,5 +292,6 @@ module _ (size : Size) (ids : List ℤ) (oo ot io is : List ℕ) where
           inward = and-second (soundSide (size .vertices) (size .arcs) oo ot) (soundSide (size .vertices) (size .arcs) io is) sides-ways;
         }
 
-    pub graph-ways : (t : Bool) → t ≡ bothWays (size .vertices) (partOf (size .vertices) oo ot) (partOf (size .vertices) io is) → t ≡ soundGraph (lent size ids oo ot io is)
+    pub graph-ways : (t : Bool) → t ≡ bothWays (size .vertices) (partOf (size .vertices) oo ot) (partOf (size .vertices) io is)
+        → t ≡ soundGraph (lent size ids oo ot io is)
     graph-ways t e = rw (graph-is (lent size ids oo ot io is), s) e

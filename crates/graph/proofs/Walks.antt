@@ -1,4 +1,5 @@
--- Laws of the walk over the outward arcs: where it begins, at an arc, where it breaks off, at a vertex's end and at its own. Assumes nothing.
+-- Laws of the walk over the outward arcs: where it begins, at an arc, where it breaks off, at a vertex's end and at its own.
+-- Assumes nothing.
 use Prim.Native.Nat.{ℕ, zero, suc, _+_, _-_, _≤_, _<_}
 use mathlib.Core.Path.{_≡_, refl, sym, ap, ap₂, _∙_}
 use mathlib.Core.Bool.{Bool, true, false, not, _&&_, _||_}
@@ -7,7 +8,8 @@ use native.Mathlib.Omega.{arith}
 use native.Mathlib.Nat.{add-zero, add-suc, sub-self}
 use native.Mathlib.Numerals.{add-one}
 use native.Mathlib.Decide.{ℕ-discrete, decLt}
-use lib.ListN.{length, getD, take, drop, set, replicate, length-append, length-take, length-drop, length-set, drop-of-length-le, List·getD-append}
+use lib.ListN.{length, getD, take, drop, set, replicate, length-append, length-take}
+use lib.ListN.{length-drop, length-set, drop-of-length-le, List·getD-append}
 use lib.Seq.{getD-take, getD-drop, take-take, take-suc, take-all, drop-cons, getD-set-same, getD-set-other, getD-at}
 use lib.Dec.{eqb, ltb}
 use borrow.Author.Tests.{lt-ltb, le-ltb, ltb-true, eq-eqb, ne-eqb, eqb-true, not-true, not-false}
@@ -15,13 +17,15 @@ use Rattle.basis.specs.Order.{rising}
 use Rattle.basis.specs.Scan.{each, mem, allBelow}
 use Rattle.basis.specs.Area.{cleared, copied}
 use Rattle.basis.proofs.Tests.{clash, false-of, bool-cases, same-test, and-first, and-second, and-both, and-off, or-first, or-second}
-use Rattle.basis.proofs.Scans.{every-at, every-of, every-fail, each-mem, mem-index, mem-none, mem-head, mem-append, each-at, below-at, below-of}
+use Rattle.basis.proofs.Scans.{every-at, every-of, every-fail, each-mem, mem-index}
+use Rattle.basis.proofs.Scans.{mem-none, mem-head, mem-append, each-at, below-at, below-of}
 use Rattle.basis.proofs.Orders.{rising-lt, risingBy-of}
 use Rattle.basis.proofs.Areas.{copied-length, copied-at}
 use Rattle.graph.specs.Part.{partOf}
 use Rattle.graph.specs.Sound.{soundPart, other, soundParts, mirrored, bothWays}
 use Rattle.graph.specs.Walk.{Ways, Checked, checked, isNext, stepped, walked, atEnds}
-use Rattle.graph.proofs.Sounds.{Side, side-of, offset-most, part-slice, part-rises, part-others, other-below, mirrored-at, mirrored-of}
+use Rattle.graph.proofs.Sounds.{Side, side-of, offset-most, part-slice, part-rises}
+use Rattle.graph.proofs.Sounds.{part-others, other-below, mirrored-at, mirrored-of}
 
 or-none : (t : Bool) → (t || false) ≡ t
 or-none true = refl
@@ -44,7 +48,8 @@ mem-before x y l d =
 mem-new : (l : List ℕ) (c : ℕ) → rising l ≡ true → c < length l → mem (getD l c 0) (take c l) ≡ false
 mem-new l c r h =
     mem-none (getD l c 0) (take c l)
-    (λ j g e. let a = length-take c l in let b = rising-lt l r j c (omega arith) h in let d = getD-take c l j 0 (omega arith) in omega arith)
+    (λ j g e. let a = length-take c l in let b = rising-lt l r j c (omega arith) h in let d = getD-take c l j 0 (omega arith) in
+    omega arith)
 
 -- one member more than all others
 rising-last : (x : ℕ) (l : List ℕ) → rising l ≡ true → ((v : ℕ) → mem v l ≡ true → v < x) → rising (l ++ (x ∷ [])) ≡ true
@@ -173,7 +178,9 @@ module _ {n : ℕ} {out : ℕ → List ℕ} {off src : List ℕ} (s : Ways n out
   out-rises u l = part-rises n u (out u) (every-at (λ v. soundPart n v (out v)) n u l (s .outward))
 
   out-below : (u w : ℕ) → u < n → mem w (out u) ≡ true → w < n
-  out-below u w l h = other-below n u w (each-mem (other n u) (out u) (part-others n u (out u) (every-at (λ v. soundPart n v (out v)) n u l (s .outward))) w h)
+  out-below u w l h =
+      other-below n u w (each-mem (other n u) (out u) (part-others n u (out u) (every-at (λ v. soundPart n v (out v)) n u l (s .outward))) w
+      h)
 
   module _ (w : ℕ) (l : w < n) where
     into-is : partOf n off src w ≡ stretch src (start off w) (end off w)
@@ -187,10 +194,12 @@ module _ {n : ℕ} {out : ℕ → List ℕ} {off src : List ℕ} (s : Ways n out
     into-rises = rw (← into-is) (part-rises n w (partOf n off src w) (side .good w l))
 
     into-below : (v : ℕ) → mem v (partOf n off src w) ≡ true → v < n
-    into-below v h = other-below n w v (each-mem (other n w) (partOf n off src w) (part-others n w (partOf n off src w) (side .good w l)) v h)
+    into-below v h =
+        other-below n w v (each-mem (other n w) (partOf n off src w) (part-others n w (partOf n off src w) (side .good w l)) v h)
 
   -- the walk begins
-  walk-none : (cursors : List ℕ) → n ≤ length cursors → ((w : ℕ) → w < n → getD cursors w 0 ≡ start off w) → Cursors n out off src 0 0 cursors
+  walk-none : (cursors : List ℕ) → n ≤ length cursors → ((w : ℕ) → w < n → getD cursors w 0 ≡ start off w)
+      → Cursors n out off src 0 0 cursors
   walk-none cursors h e =
       record {
         room = h;
@@ -231,11 +240,13 @@ module _ {n : ℕ} {out : ℕ → List ℕ} {off src : List ℕ} (s : Ways n out
           upto = moves (λ x y. y ≤ length src) (omega arith) (λ x l f. k .upto x l);
           exact = moves (λ x y. (v : ℕ) → mem v (stretch src (start off x) y) ≡ passed out u (i + 1) v x) here-exact other-exact;
           rises = moves (λ x y. rising (stretch src (start off x) y) ≡ true)
-              (rw moved (rising-last u (stretch src (start off w) c) (k .rises w lw) (λ v h. passed-less out u i v w (sym (k .exact w lw v) ∙ h) unpassed))) (λ x l f. k .rises x l);
+              (rw moved (rising-last u (stretch src (start off w) c) (k .rises w lw)
+              (λ v h. passed-less out u i v w (sym (k .exact w lw v) ∙ h) unpassed))) (λ x l f. k .rises x l);
         }
       where
         -- what holds of w at its new cursor, and of the others at theirs
-        moves : (P : ℕ → ℕ → Type 0) → P w (c + 1) → ((x : ℕ) → x < n → (x ≡ w → ⊥) → P x (getD cursors x 0)) → (x : ℕ) → x < n → P x (getD (set cursors w (c + 1)) x 0)
+        moves : (P : ℕ → ℕ → Type 0) → P w (c + 1) → ((x : ℕ) → x < n → (x ≡ w → ⊥) → P x (getD cursors x 0)) → (x : ℕ) → x < n
+            → P x (getD (set cursors w (c + 1)) x 0)
         moves P a b x l =
             elim (ℕ-discrete x w) as (λ _. P x (getD (set cursors w (c + 1)) x 0)) [
               | yes q ↦ rw (q, getD-set-same cursors w (c + 1) 0 (let r = k .room in let g = lw in omega arith)) a
@@ -251,13 +262,16 @@ module _ {n : ℕ} {out : ℕ → List ℕ} {off src : List ℕ} (s : Ways n out
         here-exact : (v : ℕ) → mem v (stretch src (start off w) (c + 1)) ≡ passed out u (i + 1) v w
         here-exact v =
             elim (ℕ-discrete v u) as (λ _. mem v (stretch src (start off w) (c + 1)) ≡ passed out u (i + 1) v w) [
-              | yes e ↦ rw (e, passed-self out u (i + 1) w, moved, more) (mem-last u (stretch src (start off w) c) ∙ sym (mem-last w (take i (out u))))
+              | yes e ↦ rw (e, passed-self out u (i + 1) w, moved, more)
+                  (mem-last u (stretch src (start off w) c) ∙ sym (mem-last w (take i (out u))))
               | no d ↦
                   rw moved
-                  (mem-before v u (stretch src (start off w) c) d ∙ k .exact w lw v ∙ passed-other out u i v w d ∙ sym (passed-other out u (i + 1) v w d))
+                  (mem-before v u (stretch src (start off w) c) d ∙ k .exact w lw v ∙ passed-other out u i v w d
+                  ∙ sym (passed-other out u (i + 1) v w d))
             ]
 
-        other-exact : (x : ℕ) → x < n → (x ≡ w → ⊥) → (v : ℕ) → mem v (stretch src (start off x) (getD cursors x 0)) ≡ passed out u (i + 1) v x
+        other-exact : (x : ℕ) → x < n → (x ≡ w → ⊥) → (v : ℕ)
+            → mem v (stretch src (start off x) (getD cursors x 0)) ≡ passed out u (i + 1) v x
         other-exact x l f v =
             k .exact x l v
             ∙ elim (ℕ-discrete v u) as (λ _. passed out u i v x ≡ passed out u (i + 1) v x) [
@@ -267,21 +281,28 @@ module _ {n : ℕ} {out : ℕ → List ℕ} {off src : List ℕ} (s : Ways n out
 
     -- it does not: the arcs are not each other's reversed
     walk-breaks : (c < length src → getD src c 0 ≡ u → ⊥) → bothWays n out (partOf n off src) ≡ false
-    walk-breaks no-next = false-of (bothWays n out (partOf n off src)) (λ h. clash (rw (into-is w lw) at (back h)) (mem-none u (stretch src (start off w) (end off w)) (stands h)))
+    walk-breaks no-next =
+        false-of (bothWays n out (partOf n off src))
+        (λ h. clash (rw (into-is w lw) at (back h)) (mem-none u (stretch src (start off w) (end off w)) (stands h)))
       where
         back : bothWays n out (partOf n off src) ≡ true → mem u (partOf n off src w) ≡ true
-        back h = mirrored-at n out (partOf n off src) (and-first (mirrored n out (partOf n off src)) (mirrored n (partOf n off src) out) h) u w lu here
+        back h = mirrored-at n out (partOf n off src) (and-first (mirrored n out (partOf n off src)) (mirrored n (partOf n off src) out) h)
+            u w lu here
 
-        -- u does not stand before the cursor, since its arc to w is not passed yet, nor behind it, since what is next is above all whose arcs are passed
-        stands : bothWays n out (partOf n off src) ≡ true → (j : ℕ) → j < length (stretch src (start off w) (end off w)) → getD (stretch src (start off w) (end off w)) j 0 ≡ u → ⊥
+        -- u does not stand before the cursor, since its arc to w is not passed yet, nor behind it,
+        -- since what is next is above all whose arcs are passed
+        stands : bothWays n out (partOf n off src) ≡ true → (j : ℕ) → j < length (stretch src (start off w) (end off w))
+            → getD (stretch src (start off w) (end off w)) j 0 ≡ u → ⊥
         stands h j g e =
-            let lj : start off w + j < end off w = (let x = stretch-length src (start off w) (end off w) (side .grows w lw) (end-low w lw) in omega arith) in
+            let lj : start off w + j < end off w =
+            (let x = stretch-length src (start off w) (end off w) (side .grows w lw) (end-low w lw) in omega arith) in
             let f = end-low w lw in
             let b = k .from w lw in
             let y : getD src (start off w + j) 0 ≡ u = sym (stretch-at src (start off w) (end off w) j lj) ∙ e in
             elim (decLt (start off w + j) c) as (λ _. ⊥) [
               | yes a ↦
-                  let z : mem (getD src (start off w + j) 0) (stretch src (start off w) c) ≡ true = stretch-mem src (start off w) c (start off w + j) (omega arith) a (k .upto w lw) in
+                  let z : mem (getD src (start off w + j) 0) (stretch src (start off w) c)
+                  ≡ true = stretch-mem src (start off w) c (start off w + j) (omega arith) a (k .upto w lw) in
                   clash (rw y at z) (k .exact w lw u ∙ passed-self out u i w ∙ unpassed)
               | no a ↦
                   elim (ℕ-discrete c (start off w + j)) as (λ _. ⊥) [
@@ -290,7 +311,8 @@ module _ {n : ℕ} {out : ℕ → List ℕ} {off src : List ℕ} (s : Ways n out
                         let lc : c < end off w = omega arith in
                         let x = stretch-place src (start off w) (end off w) c b lc in
                         let z = rising-lt (stretch src (start off w) (end off w)) (into-rises w lw) (c - start off w) j (omega arith) g in
-                        let o = mirrored-at n (partOf n off src) out (and-second (mirrored n out (partOf n off src)) (mirrored n (partOf n off src) out) h) w (getD src c 0) lw
+                        let o = mirrored-at n (partOf n off src) out
+                        (and-second (mirrored n out (partOf n off src)) (mirrored n (partOf n off src) out) h) w (getD src c 0) lw
                         (rw (into-is w lw) (stretch-mem src (start off w) (end off w) c b lc f)) in
                         clash (k .exact w lw (getD src c 0) ∙ passed-of out u i (getD src c 0) w (omega arith) o)
                         (stretch-new src (start off w) (end off w) c b lc f (into-rises w lw))
@@ -315,15 +337,20 @@ module _ {n : ℕ} {out : ℕ → List ℕ} {off src : List ℕ} (s : Ways n out
           eq-eqb (getD cursors w 0) (end off w)
           (elim (decLt (getD cursors w 0) (end off w)) as (λ _. getD cursors w 0 ≡ end off w) [
             | yes g ↦ early w l g
-            | no g ↦ elim (decLt (end off w) (getD cursors w 0)) as (λ _. getD cursors w 0 ≡ end off w) [ yes f ↦ late w l f | no f ↦ omega arith ]
+            | no g ↦ elim (decLt (end off w) (getD cursors w 0)) as (λ _. getD cursors w 0
+                ≡ end off w) [ yes f ↦ late w l f | no f ↦ omega arith ]
           ]))
         where
           -- the source at a cursor that is before its part's end is one whose arc is passed
           early : (w : ℕ) → w < n → getD cursors w 0 < end off w → getD cursors w 0 ≡ end off w
           early w l g =
-              let m : mem (getD src (getD cursors w 0) 0) (partOf n off src w) ≡ true = rw (into-is w l) (stretch-mem src (start off w) (end off w) (getD cursors w 0) (k .from w l) g (end-low w l)) in
-              let o = mirrored-at n (partOf n off src) out (and-second (mirrored n out (partOf n off src)) (mirrored n (partOf n off src) out) h) w (getD src (getD cursors w 0) 0) l m in
-              clash (k .exact w l (getD src (getD cursors w 0) 0) ∙ passed-of out n 0 (getD src (getD cursors w 0) 0) w (into-below w l (getD src (getD cursors w 0) 0) m) o)
+              let m : mem (getD src (getD cursors w 0) 0) (partOf n off src w)
+              ≡ true = rw (into-is w l) (stretch-mem src (start off w) (end off w) (getD cursors w 0) (k .from w l) g (end-low w l)) in
+              let o = mirrored-at n (partOf n off src) out
+              (and-second (mirrored n out (partOf n off src)) (mirrored n (partOf n off src) out) h) w (getD src (getD cursors w 0) 0) l
+              m in
+              clash (k .exact w l (getD src (getD cursors w 0) 0)
+              ∙ passed-of out n 0 (getD src (getD cursors w 0) 0) w (into-below w l (getD src (getD cursors w 0) 0) m) o)
               (stretch-new src (start off w) (end off w) (getD cursors w 0) (k .from w l) g (end-low w l) (into-rises w l))
 
           -- the first source behind the part's end, of a cursor that passed it, is one of the part's
@@ -331,10 +358,12 @@ module _ {n : ℕ} {out : ℕ → List ℕ} {off src : List ℕ} (s : Ways n out
           late w l g =
               let p = sym (passed-below out n (getD src (end off w) 0) w) ∙ sym (k .exact w l (getD src (end off w) 0))
               ∙ stretch-mem src (start off w) (getD cursors w 0) (end off w) (side .grows w l) g (k .upto w l) in
-              let m = mirrored-at n out (partOf n off src) (and-first (mirrored n out (partOf n off src)) (mirrored n (partOf n off src) out) h) (getD src (end off w) 0) w
+              let m = mirrored-at n out (partOf n off src)
+              (and-first (mirrored n out (partOf n off src)) (mirrored n (partOf n off src) out) h) (getD src (end off w) 0) w
               (ltb-true (getD src (end off w) 0) n (and-first (ltb (getD src (end off w) 0) n) (mem w (out (getD src (end off w) 0))) p))
               (and-second (ltb (getD src (end off w) 0) n) (mem w (out (getD src (end off w) 0))) p) in
-              clash (rw (into-is w l) at m) (stretch-new src (start off w) (getD cursors w 0) (end off w) (side .grows w l) g (k .upto w l) (k .rises w l))
+              clash (rw (into-is w l) at m) (stretch-new src (start off w) (getD cursors w 0) (end off w) (side .grows w l) g (k .upto w l)
+              (k .rises w l))
 
 -- ---- the walk as the code makes it
 module _ (src : List ℕ) (u : ℕ) (l : List ℕ) (i : ℕ) (cursors : List ℕ) where
@@ -359,18 +388,22 @@ module _ (src : List ℕ) (u : ℕ) (l : List ℕ) (i : ℕ) (cursors : List ℕ
 
       pub step-differs : (getD src (getD cursors (getD l i 0) 0) 0 ≡ u → ⊥) → checked false cursors ≡ whole
       step-differs d =
-          sym (stepped-off (and-off (ltb (getD cursors (getD l i 0) 0) (length src)) (eqb (getD src (getD cursors (getD l i 0) 0) 0) u) (ne-eqb (getD src (getD cursors (getD l i 0) 0) 0) u d))) ∙ k
+          sym (stepped-off (and-off (ltb (getD cursors (getD l i 0) 0) (length src)) (eqb (getD src (getD cursors (getD l i 0) 0) 0) u)
+          (ne-eqb (getD src (getD cursors (getD l i 0) 0) 0) u d))) ∙ k
 
       pub step-more : getD cursors (getD l i 0) 0 < length src → getD src (getD cursors (getD l i 0) 0) 0 ≡ u
           → stepped src u (drop (i + 1) l) (set cursors (getD l i 0) (getD cursors (getD l i 0) 0 + 1)) ≡ whole
-      step-more a b = sym (stepped-on (and-both (lt-ltb (getD cursors (getD l i 0) 0) (length src) a) (eq-eqb (getD src (getD cursors (getD l i 0) 0) 0) u b))) ∙ k
+      step-more a b =
+          sym (stepped-on (and-both (lt-ltb (getD cursors (getD l i 0) 0) (length src) a)
+          (eq-eqb (getD src (getD cursors (getD l i 0) 0) 0) u b))) ∙ k
 
   pub step-end : (whole : Checked) → stepped src u (drop i l) cursors ≡ whole → length l ≤ i → checked true cursors ≡ whole
   step-end whole k h = sym (stepped-end h) ∙ k
 
 -- ---- the arcs of every vertex
 module _ (src : List ℕ) (out : ℕ → List ℕ) (cursors : List ℕ) where
-  walked-on : (u : ℕ) → walked src out u cursors .sound ≡ true → walked src out (suc u) cursors ≡ stepped src u (out u) (walked src out u cursors .cursors)
+  walked-on : (u : ℕ) → walked src out u cursors .sound ≡ true
+      → walked src out (suc u) cursors ≡ stepped src u (out u) (walked src out u cursors .cursors)
   unfolding walked
   walked-on u h = rw h
 
@@ -390,11 +423,13 @@ module _ (src : List ℕ) (out : ℕ → List ℕ) (cursors : List ℕ) where
       ap (λ (j : ℕ). walked src out j cursors) (add-suc u k) ∙ walked-off (u + k) (ap (λ (x : Checked). x .sound) e ∙ h) ∙ e
 
   -- l is u's part
-  module _ (u : ℕ) (here : List ℕ) (k : walked src out u cursors ≡ checked true here) (l : List ℕ) (q : l ≡ out u) (t : Bool) (after : List ℕ)
+  module _ (u : ℕ) (here : List ℕ) (k : walked src out u cursors ≡ checked true here) (l : List ℕ) (q : l ≡ out u) (t : Bool)
+      (after : List ℕ)
       (e : checked t after ≡ stepped src u l here) where
     stepped-to : walked src out (u + 1) cursors ≡ checked t after
     stepped-to =
-        rw add-one (walked-on u (ap (λ (x : Checked). x .sound) k) ∙ ap₂ (λ (p : List ℕ) (x : Checked). stepped src u p (x .cursors)) (sym q) k ∙ sym e)
+        rw add-one (walked-on u (ap (λ (x : Checked). x .sound) k)
+        ∙ ap₂ (λ (p : List ℕ) (x : Checked). stepped src u p (x .cursors)) (sym q) k ∙ sym e)
 
     pub walked-more : not t ≡ false → walked src out (u + 1) cursors ≡ checked true after
     walked-more h = stepped-to ∙ ap (λ (s : Bool). checked s after) (not-false t h)
@@ -405,11 +440,13 @@ module _ (src : List ℕ) (out : ℕ → List ℕ) (cursors : List ℕ) where
         let z : (u + 1) + (n - (u + 1)) ≡ n = omega arith in
         sym (ap (λ (j : ℕ). walked src out j cursors) (sym z) ∙ broken (u + 1) (n - (u + 1)) (ap (λ (x : Checked). x .sound) s) ∙ s)
 
-  pub walked-all : (u n : ℕ) (here : List ℕ) → n ≤ u → u ≤ n → walked src out u cursors ≡ checked true here → checked true here ≡ walked src out n cursors
+  pub walked-all : (u n : ℕ) (here : List ℕ) → n ≤ u → u ≤ n → walked src out u cursors ≡ checked true here
+      → checked true here ≡ walked src out n cursors
   walked-all u n here a b k = let e : u ≡ n = omega arith in sym k ∙ ap (λ (j : ℕ). walked src out j cursors) e
 
 -- a target has a cursor
-pub target-low : (d cursors l : List ℕ) (i : ℕ) → allBelow (length d) l ≡ true → length cursors ≡ length d → i < length l → getD l i 0 < length cursors
+pub target-low : (d cursors l : List ℕ) (i : ℕ) → allBelow (length d) l ≡ true → length cursors ≡ length d → i < length l
+    → getD l i 0 < length cursors
 target-low d cursors l i h e g = let x = below-at (length d) l h i g in omega arith
 
 -- all of them have; l is u's part
@@ -417,7 +454,8 @@ pub targets-low : (n : ℕ) (off tgt : List ℕ) (u : ℕ) (l d cursors : List �
     → n ≤ length d → length cursors ≡ length d → allBelow (length cursors) l ≡ true
 targets-low n off tgt u l d cursors s h q r e =
     below-of (length cursors) l
-    (λ i g. let o : each (other n u) l ≡ true = rw q (part-others n u (partOf n off tgt u) (every-at (λ v. soundPart n v (partOf n off tgt v)) n u h s)) in
+    (λ i g. let o : each (other n u) l ≡ true = rw q
+    (part-others n u (partOf n off tgt u) (every-at (λ v. soundPart n v (partOf n off tgt v)) n u h s)) in
     let x = other-below n u (getD l i 0) (each-at (other n u) 0 l o i g) in omega arith)
 
 -- ---- what the walk says
@@ -425,17 +463,21 @@ module _ {n : ℕ} {out : ℕ → List ℕ} {off src : List ℕ} (s : Ways n out
   told-step : (u : ℕ) → u < n → (left i : ℕ) → i + left ≡ length (out u) → (cursors : List ℕ) → Cursors n out off src u i cursors
       → Told n out off src (u + 1) (stepped src u (drop i (out u)) cursors)
   told-step u lu zero i e cursors k =
-      rw (stepped-end src u (out u) i cursors (omega arith)) (record { came = λ _. walk-on s u i cursors (omega arith) k; broke = λ h. clash refl h })
+      rw (stepped-end src u (out u) i cursors (omega arith))
+      (record { came = λ _. walk-on s u i cursors (omega arith) k; broke = λ h. clash refl h })
   told-step u lu (suc left) i e cursors k =
       let li : i < length (out u) = omega arith in
       let w = getD (out u) i 0 in
       bool-cases (isNext src u cursors (getD (out u) i 0)) (Told n out off src (u + 1) (stepped src u (drop i (out u)) cursors))
       (λ h. rw (stepped-on src u (out u) i cursors li h) (told-step u lu left (i + 1) (omega arith) (set cursors w (getD cursors w 0 + 1))
-      (walk-more s u i lu li cursors k (ltb-true (getD cursors w 0) (length src) (and-first (ltb (getD cursors w 0) (length src)) (eqb (getD src (getD cursors w 0) 0) u) h))
-      (eqb-true (getD src (getD cursors w 0) 0) u (and-second (ltb (getD cursors w 0) (length src)) (eqb (getD src (getD cursors w 0) 0) u) h)))))
+      (walk-more s u i lu li cursors k (ltb-true (getD cursors w 0) (length src)
+      (and-first (ltb (getD cursors w 0) (length src)) (eqb (getD src (getD cursors w 0) 0) u) h))
+      (eqb-true (getD src (getD cursors w 0) 0) u (and-second (ltb (getD cursors w 0) (length src)) (eqb (getD src (getD cursors w 0) 0) u)
+      h)))))
       (λ h. rw (stepped-off src u (out u) i cursors li h) (record {
         came = λ f. clash f refl;
-        broke = λ _. walk-breaks s u i lu li cursors k (λ a b. clash (and-both (lt-ltb (getD cursors w 0) (length src) a) (eq-eqb (getD src (getD cursors w 0) 0) u b)) h);
+        broke = λ _. walk-breaks s u i lu li cursors k
+            (λ a b. clash (and-both (lt-ltb (getD cursors w 0) (length src) a) (eq-eqb (getD src (getD cursors w 0) 0) u b)) h);
       }))
 
   told-walk : (cursors : List ℕ) → Cursors n out off src 0 0 cursors → (u : ℕ) → u ≤ n → Told n out off src u (walked src out u cursors)
@@ -443,7 +485,8 @@ module _ {n : ℕ} {out : ℕ → List ℕ} {off src : List ℕ} (s : Ways n out
   told-walk cursors k (suc u) h =
       let b = told-walk cursors k u (omega arith) in
       bool-cases (walked src out u cursors .sound) (Told n out off src (suc u) (walked src out (suc u) cursors))
-      (λ t. rw (walked-on src out cursors u t, ← add-one u) (told-step u (omega arith) (length (out u)) 0 (omega arith) (walked src out u cursors .cursors) (b .came t)))
+      (λ t. rw (walked-on src out cursors u t, ← add-one u)
+      (told-step u (omega arith) (length (out u)) 0 (omega arith) (walked src out u cursors .cursors) (b .came t)))
       (λ f. rw (walked-off src out cursors u f) (record { came = λ t. clash t f; broke = λ _. b .broke f }))
 
 module _ {n : ℕ} {out : ℕ → List ℕ} {off src : List ℕ} (s : Ways n out off src) where
@@ -451,7 +494,8 @@ module _ {n : ℕ} {out : ℕ → List ℕ} {off src : List ℕ} (s : Ways n out
   ways-room = side s .offsetsRoom
 
   -- d is what stood in the area, b and a stand there before and after the walk
-  module _ (d b : List ℕ) (room : n ≤ length d) (q : b ≡ copied n off d) (t : Bool) (a : List ℕ) (e : checked t a ≡ walked src out n b) where
+  module _ (d b : List ℕ) (room : n ≤ length d) (q : b ≡ copied n off d) (t : Bool) (a : List ℕ)
+      (e : checked t a ≡ walked src out n b) where
     told : Told n out off src n (checked t a)
     told =
         rw e (told-walk s b (walk-none s b (let x = ap length q ∙ copied-length n off d in omega arith)
@@ -469,13 +513,15 @@ module _ (n : ℕ) (off cursors : List ℕ) (w : ℕ) where
   ends-more h = eq-eqb (getD cursors w 0) (getD off (w + 1) 0) h
 
   pub ends-stop : w < n → (getD cursors w 0 ≡ getD off (w + 1) 0 → ⊥) → false ≡ atEnds n off cursors
-  ends-stop l h = sym (every-fail (λ w. eqb (getD cursors w 0) (getD off (w + 1) 0)) n w l (ne-eqb (getD cursors w 0) (getD off (w + 1) 0) h))
+  ends-stop l h =
+      sym (every-fail (λ w. eqb (getD cursors w 0) (getD off (w + 1) 0)) n w l (ne-eqb (getD cursors w 0) (getD off (w + 1) 0) h))
 
 -- ---- the answer and the area
 pub checks : {r s : Bool} {a : List ℕ} (b : List ℕ) → r ≡ s → a ≡ cleared b → checked r a ≡ checked s (cleared b)
 checks b p q = ap₂ checked p q
 
-pub checks-late : {r s : Bool} {a : List ℕ} (b c : List ℕ) → r ≡ s → length c ≡ length b → a ≡ cleared c → checked r a ≡ checked s (cleared b)
+pub checks-late : {r s : Bool} {a : List ℕ} (b c : List ℕ) → r ≡ s → length c ≡ length b → a ≡ cleared c
+    → checked r a ≡ checked s (cleared b)
 checks-late b c p h q = ap₂ checked p (q ∙ ap (λ (k : ℕ). replicate k 0) h)
 
 -- ---- for callers: what the check says of the graph, and of the area that it was lent

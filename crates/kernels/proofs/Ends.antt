@@ -1,4 +1,5 @@
--- How a kernel's call ends, by the code's tests in their order: one law for each way, whatever the call leaves in its areas by what it says. Assumes nothing.
+-- How a kernel's call ends, by the code's tests in their order:
+-- one law for each way, whatever the call leaves in its areas by what it says. Assumes nothing.
 use Prim.Native.Nat.{ℕ}
 use mathlib.Core.Path.{_≡_}
 use mathlib.Core.Bool.{Bool, true, false, not}

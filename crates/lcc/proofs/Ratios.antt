@@ -1,7 +1,9 @@
 -- Laws of Euclid's rule: its own step, that it divides both, that it is the greatest, and lowest terms. Assumes nothing.
 use mathlib.Core.Path.{_≡_, refl, sym, ap, _∙_, subst}
 use Prim.Native.Nat.{ℕ, zero, suc, _*_, _/_, _%_, _≤_, _<_, _∣_}
-use native.Mathlib.Nat.{mod-lt, dvd-refl, dvd-antisymm, dvd-mul-right, dvd-zero, dvd-mod-iff, pos-of-dvd-of-pos, mul-dvd-mul-left, mul-div-cancel', div-mul-cancel, dvd-of-mul-dvd-mul-left, eq-one-of-dvd-one, mul-one, zero-div, div-self, div-zero, mul-assoc}
+use native.Mathlib.Nat.{mod-lt, dvd-refl, dvd-antisymm, dvd-mul-right, dvd-zero, dvd-mod-iff, pos-of-dvd-of-pos}
+use native.Mathlib.Nat.{mul-dvd-mul-left, mul-div-cancel', div-mul-cancel, dvd-of-mul-dvd-mul-left}
+use native.Mathlib.Nat.{eq-one-of-dvd-one, mul-one, zero-div, div-self, div-zero, mul-assoc}
 use native.Mathlib.Omega.{arith}
 use Rattle.lcc.specs.Ratio.{Lowest, euclid, gcdOf, lowest}
 

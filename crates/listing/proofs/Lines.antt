@@ -11,11 +11,13 @@ use Rattle.text.specs.Line.{lf, space}
 use Rattle.write.specs.Put.{Written, written, putAt}
 use Rattle.write.specs.Decimal.{decimal, signedText}
 use Rattle.write.proofs.Puts.{put-then, putting-more, putting-end}
-use Rattle.listing.specs.Listing.{slash, refusedWord, spacedText, numbersText, refusedText, headText, namedText, pairText, fractionText, ratioText, pairLines, ratioLines}
+use Rattle.listing.specs.Listing.{slash, refusedWord, spacedText, numbersText, refusedText, headText}
+use Rattle.listing.specs.Listing.{namedText, pairText, fractionText, ratioText, pairLines, ratioLines}
 
 -- ---- two texts or three, one after another
 module _ (o : List ℕ) (at : ℕ) {o₁ o₂ : List ℕ} {p₁ p₂ : ℕ} where
-  pub spaced-put : (n : ℕ) → written o₁ p₁ ≡ putAt o at (space ∷ []) → written o₂ p₂ ≡ putAt o₁ p₁ (decimal n) → written o₂ p₂ ≡ putAt o at (spacedText n)
+  pub spaced-put : (n : ℕ) → written o₁ p₁ ≡ putAt o at (space ∷ []) → written o₂ p₂ ≡ putAt o₁ p₁ (decimal n)
+      → written o₂ p₂ ≡ putAt o at (spacedText n)
   unfolding spacedText
   spaced-put n x y = put-then o at (space ∷ []) x (decimal n) y
 
@@ -92,7 +94,8 @@ module _ {w : Written} (o : List ℕ) (p : ℕ) (ids vs : List ℤ) (i : ℕ) (l
       putting-more o p (pairText x y) (pairLines (drop (i + 1) ids) (drop (i + 1) vs))
       (rw (e, f, add-one i) (rw (drop-cons ids i (pos 0) h, drop-cons vs i (pos 0) g) at left)) step
 
-module _ {w : Written} (o : List ℕ) (p : ℕ) (ids : List ℤ) (ns ds : List ℕ) (i : ℕ) (left : putAt o p (ratioLines (drop i ids) (drop i ns) (drop i ds)) ≡ w) where
+module _ {w : Written} (o : List ℕ) (p : ℕ) (ids : List ℤ) (ns ds : List ℕ) (i : ℕ)
+    (left : putAt o p (ratioLines (drop i ids) (drop i ns) (drop i ds)) ≡ w) where
   pub ratios-end : length ids ≤ i → written o p ≡ w
   unfolding ratioLines
   ratios-end h = putting-end o p _ left (rw (drop-of-length-le ids h))

@@ -31,16 +31,20 @@ module _ {A : Type 0} (z : A) where
 
   sets-append : (d a b : List A) (i : ℕ) → sets d i (a ++ b) ≡ sets (sets d i a) (i + length a) b
   sets-append d [] b i = let e : i ≡ i + 0 = omega arith in ap (λ (k : ℕ). sets d k b) e
-  sets-append d (v ∷ a) b i = let e : suc i + length a ≡ i + suc (length a) = omega arith in sets-append (set d i v) a b (suc i) ∙ ap (λ (k : ℕ). sets (sets (set d i v) (suc i) a) k b) e
+  sets-append d (v ∷ a) b i =
+      let e : suc i + length a ≡ i + suc (length a) = omega arith in
+      sets-append (set d i v) a b (suc i) ∙ ap (λ (k : ℕ). sets (sets (set d i v) (suc i) a) k b) e
 
   front : (k : ℕ) (vs : List A) → length vs ≤ k → sets (replicate k z) 0 vs ≡ padWith z k vs
   front k vs h =
       let l = length-replicate k z in
       sets-eq vs (replicate k z) 0 (omega arith) ∙ pad-lent z (0 + length vs) k vs (sym (zero-add (length vs)))
 
-  rest-out : (k : ℕ) (vs : List A) → sets (sets (replicate k z) 0 (take k vs)) (0 + length (take k vs)) (drop k vs) ≡ sets (replicate k z) 0 (take k vs)
+  rest-out : (k : ℕ) (vs : List A) → sets (sets (replicate k z) 0 (take k vs)) (0 + length (take k vs)) (drop k vs)
+      ≡ sets (replicate k z) 0 (take k vs)
   rest-out k vs =
-      elim (decLt k (length vs)) as (λ _. sets (sets (replicate k z) 0 (take k vs)) (0 + length (take k vs)) (drop k vs) ≡ sets (replicate k z) 0 (take k vs)) [
+      elim (decLt k (length vs)) as (λ _. sets (sets (replicate k z) 0 (take k vs)) (0 + length (take k vs)) (drop k vs)
+      ≡ sets (replicate k z) 0 (take k vs)) [
         | yes h ↦
             let t = length-take k vs in
             let l = length-sets (replicate k z) 0 (take k vs) in
@@ -53,26 +57,33 @@ module _ {A : Type 0} (z : A) where
   pub put-front : (k : ℕ) (vs : List A) → sets (replicate k z) 0 vs ≡ padWith z k (take k vs)
   put-front k vs =
       let t = length-take k vs in
-      ap (sets (replicate k z) 0) (sym (take-append-drop k vs)) ∙ sets-append (replicate k z) (take k vs) (drop k vs) 0 ∙ rest-out k vs ∙ front k (take k vs) (omega arith)
+      ap (sets (replicate k z) 0) (sym (take-append-drop k vs)) ∙ sets-append (replicate k z) (take k vs) (drop k vs) 0 ∙ rest-out k vs
+      ∙ front k (take k vs) (omega arith)
 
 -- ---- the calls
 -- cleared once more
-again : {A : Type 0} (z : A) (size : ℕ) (a b : List A) → a ≡ replicate size z → length b ≡ length a → replicate (length b) z ≡ replicate size z
+again : {A : Type 0} (z : A) (size : ℕ) (a b : List A) → a ≡ replicate size z → length b ≡ length a
+    → replicate (length b) z ≡ replicate size z
 again z size a b e k = ap (λ (j : ℕ). replicate j z) (k ∙ ap length e ∙ length-replicate size z)
 
-module _ (most : ℕ) (s : List ℕ) (size : ℕ) (a : List ℤ) (e : a ≡ replicate size (pos 0)) (x : Listed) (b : List ℤ) (told : idsLeft x b ≡ said (idsInto a 0) (identifiers most s)) where
+module _ (most : ℕ) (s : List ℕ) (size : ℕ) (a : List ℤ) (e : a ≡ replicate size (pos 0)) (x : Listed) (b : List ℤ)
+    (told : idsLeft x b ≡ said (idsInto a 0) (identifiers most s)) where
   pub vertices-lines : (n : ℕ) → x ≡ Lines n → vertexOutcome (gives n) b ≡ vertexCall most s size
   vertices-lines n q =
       let g = said-gives (idsInto a 0) (identifiers most s) (n, b) (ap (λ y. idsLeft y b) (sym q) ∙ told) in
       let c : n ≡ length (g .0) = ap (λ (y : ℕ × List ℤ). y .0) (g .2) ∙ zero-add (length (g .0)) in
-      let d : b ≡ padZ size (take size (g .0)) = ap (λ (y : ℕ × List ℤ). y .1) (g .2) ∙ ap (λ (l : List ℤ). sets l 0 (g .0)) e ∙ put-front (pos 0) size (g .0) in
+      let d : b ≡ padZ size (take size (g .0)) = ap (λ (y : ℕ × List ℤ). y .1) (g .2) ∙ ap (λ (l : List ℤ). sets l 0 (g .0)) e
+      ∙ put-front (pos 0) size (g .0) in
       rw (g .1) (ap₂ (λ (k : ℕ) (l : List ℤ). vertexOutcome (gives k) l) c d)
 
-  pub vertices-refused : (r : Refusal) → x ≡ Refused r → length b ≡ length a → (c : List ℤ) → c ≡ replicate (length b) (pos 0) → vertexOutcome (refuses r) c ≡ vertexCall most s size
+  pub vertices-refused : (r : Refusal) → x ≡ Refused r → length b ≡ length a → (c : List ℤ) → c ≡ replicate (length b) (pos 0)
+      → vertexOutcome (refuses r) c ≡ vertexCall most s size
   vertices-refused r q k c f =
-      rw (said-refuses (idsInto a 0) (identifiers most s) r (ap (λ y. idsLeft y b) (sym q) ∙ told)) (ap (vertexOutcome (refuses r)) (f ∙ again (pos 0) size a b e k))
+      rw (said-refuses (idsInto a 0) (identifiers most s) r (ap (λ y. idsLeft y b) (sym q) ∙ told))
+      (ap (vertexOutcome (refuses r)) (f ∙ again (pos 0) size a b e k))
 
-module _ (both : Bool) (most : ℕ) (place : ℤ → Found) (s : List ℕ) (sc st : ℕ) (a b : List ℕ) (ea : a ≡ replicate sc 0) (eb : b ≡ replicate st 0)
+module _ (both : Bool) (most : ℕ) (place : ℤ → Found) (s : List ℕ) (sc st : ℕ) (a b : List ℕ) (ea : a ≡ replicate sc 0)
+    (eb : b ≡ replicate st 0)
     (x : Listed) (c t : List ℕ) (told : edgesLeft x c t ≡ said (numberedInto place a b 0) (edgesOf both most place s)) where
   pub edges-lines : (n : ℕ) → x ≡ Lines n → edgeOutcome (gives n) c t ≡ edgeCall both most place s sc st
   edges-lines n q =
@@ -91,7 +102,8 @@ module _ (both : Bool) (most : ℕ) (place : ℤ → Found) (s : List ℕ) (sc s
       length-numbered place [] = refl
       length-numbered place (e ∷ es) = ap suc (length-numbered place es)
 
-  pub edges-refused : (r : Refusal) → x ≡ Refused r → length c ≡ length a → length t ≡ length b → (d u : List ℕ) → d ≡ replicate (length c) 0 → u ≡ replicate (length t) 0
+  pub edges-refused : (r : Refusal) → x ≡ Refused r → length c ≡ length a → length t ≡ length b → (d u : List ℕ)
+      → d ≡ replicate (length c) 0 → u ≡ replicate (length t) 0
       → edgeOutcome (refuses r) d u ≡ edgeCall both most place s sc st
   edges-refused r q kc kt d u ed eu =
       rw (said-refuses (numberedInto place a b 0) (edgesOf both most place s) r (ap (λ y. edgesLeft y c t) (sym q) ∙ told))

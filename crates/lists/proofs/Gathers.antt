@@ -44,14 +44,17 @@ bump-few counts u k h i =
     ]
 
 into-more : (place : ℤ → Found) (counts targets : List ℕ) (k : ℕ) (e : ℤ × ℤ) (x : Said (List (ℤ × ℤ)))
-    → said (numberedInto place (bump counts (numbered place e .0)) (set targets k (numbered place e .1)) (k + 1)) x ≡ said (numberedInto place counts targets k) (said (λ es. e ∷ es) x)
+    → said (numberedInto place (bump counts (numbered place e .0)) (set targets k (numbered place e .1)) (k + 1)) x
+    ≡ said (numberedInto place counts targets k) (said (λ es. e ∷ es) x)
 into-more place counts targets k e (refuses r) = refl
 into-more place counts targets k e (gives es) =
     let n : k + 1 + length (allNumbered place es) ≡ k + suc (length (allNumbered place es)) = omega arith in
-    let a : sets (set targets k (numbered place e .1)) (k + 1) (seconds (allNumbered place es)) ≡ sets (set targets k (numbered place e .1)) (suc k) (seconds (allNumbered place es)) = rw add-one in
+    let a : sets (set targets k (numbered place e .1)) (k + 1) (seconds (allNumbered place es))
+    ≡ sets (set targets k (numbered place e .1)) (suc k) (seconds (allNumbered place es)) = rw add-one in
     cc
 
-numbers-more : (place : ℤ → Found) (x : Step (ℤ × ℤ)) (e : ℤ × ℤ) (a : Arc) (next k : ℕ) → more (e, a) next k ≡ withNumbers place x → (more e next k ≡ x) × (a ≡ numbered place e)
+numbers-more : (place : ℤ → Found) (x : Step (ℤ × ℤ)) (e : ℤ × ℤ) (a : Arc) (next k : ℕ) → more (e, a) next k ≡ withNumbers place x
+    → (more e next k ≡ x) × (a ≡ numbered place e)
 numbers-more place (stop r) e a next k h = no-case cc
 numbers-more place (more d n m) e a next k h =
     let q : _≡_ {A = (ℤ × ℤ) × Arc} (e, a) (d, numbered place d) = cc in
@@ -73,9 +76,11 @@ module _ (s : List ℕ) (most : ℕ) (both : Bool) (place : ℤ → Found) (coun
     pub longCounts : length counts ≡ length counts₀
     pub longTargets : length targets ≡ length targets₀
     pub few : (i : ℕ) → getD counts i 0 ≤ c .lines
-    pub same : said (numberedInto place counts targets (c .lines)) (edgeLeft c) ≡ said (numberedInto place counts₀ targets₀ 0) (edgesOf both most place s)
+    pub same : said (numberedInto place counts targets (c .lines)) (edgeLeft c)
+        ≡ said (numberedInto place counts₀ targets₀ 0) (edgesOf both most place s)
 
-  pub gathering-start : counts₀ ≡ replicate (length counts₀) 0 → Gathering (record { at = record { at = 0 }; lines = 0; first = pos 0; second = pos 0 }) counts₀ targets₀
+  pub gathering-start : counts₀ ≡ replicate (length counts₀) 0
+      → Gathering (record { at = record { at = 0 }; lines = 0; first = pos 0; second = pos 0 }) counts₀ targets₀
   gathering-start a =
       record {
         low = omega arith;
@@ -86,12 +91,14 @@ module _ (s : List ℕ) (most : ℕ) (both : Bool) (place : ℤ → Found) (coun
         same = ap (said (numberedInto place counts₀ targets₀ 0)) (left-start (twoOf identOf identOf) edgeFile most (edgeTest both place) s);
       }
 
-  module _ (c : Edges) (counts targets : List ℕ) (g : Gathering c counts targets) (x : EdgeStep) (told : edgeStepSays x ≡ withNumbers place (edgeStep both most place s c)) where
+  module _ (c : Edges) (counts targets : List ℕ) (g : Gathering c counts targets) (x : EdgeStep)
+      (told : edgeStepSays x ≡ withNumbers place (edgeStep both most place s c)) where
     module _ (u v : ℕ) (d : Edges) (e : x ≡ ES.More u v d) where
       stepped : (more (pairOf d) (d .at .at) (d .lines) ≡ edgeStep both most place s c) × ((u, v) ≡ numbered place (pairOf d))
       stepped = numbers-more place (edgeStep both most place s c) (pairOf d) (u, v) (d .at .at) (d .lines) (ap edgeStepSays (sym e) ∙ told)
 
-      moved : Moved (twoOf identOf identOf) edgeFile most (edgeTest both place) s (c .lines) (beforeBy (c .lines) (pairOf c)) (c .at .at) (pairOf d) (d .at .at) (d .lines)
+      moved : Moved (twoOf identOf identOf) edgeFile most (edgeTest both place) s (c .lines) (beforeBy (c .lines) (pairOf c)) (c .at .at)
+          (pairOf d) (d .at .at) (d .lines)
       unfolding edgeStep
       moved =
           left-more (twoOf identOf identOf) edgeFile most (edgeTest both place) s (c .lines) (beforeBy (c .lines) (pairOf c)) (c .at .at)
@@ -109,7 +116,8 @@ module _ (s : List ℕ) (most : ℕ) (both : Bool) (place : ℤ → Found) (coun
       pub gathering-less : length s - d .at .at < length s - c .at .at
       gathering-less = omega (arith, moved .onward, moved .within)
 
-      pub gathering-more : (x : ℕ) → x ≡ getD counts u 0 → (a : List ℕ) → a ≡ set counts u (x + 1) → (t : List ℕ) → t ≡ set targets (c .lines) v → Gathering d a t
+      pub gathering-more : (x : ℕ) → x ≡ getD counts u 0 → (a : List ℕ) → a ≡ set counts u (x + 1) → (t : List ℕ)
+          → t ≡ set targets (c .lines) v → Gathering d a t
       gathering-more x k a o t q =
           let m = moved in
           let p : a ≡ bump counts u = o ∙ ap (λ (j : ℕ). set counts u (j + 1)) k in
@@ -123,17 +131,24 @@ module _ (s : List ℕ) (most : ℕ) (both : Bool) (place : ℤ → Found) (coun
             few = λ i. rw (p, m .counted) (bump-few counts u (c .lines) (g .few) i);
             same =
                 rw (p′, q′, m .counted, before-next (c .lines + 1) (c .lines) (pairOf d) refl)
-                (into-more place counts targets (c .lines) (pairOf d) (left (twoOf identOf identOf) edgeFile most (edgeTest both place) s (c .lines + 1) (after (pairOf d)) (d .at .at))
+                (into-more place counts targets (c .lines) (pairOf d)
+                (left (twoOf identOf identOf) edgeFile most (edgeTest both place) s (c .lines + 1) (after (pairOf d)) (d .at .at))
                 ∙ ap (said (numberedInto place counts targets (c .lines))) (sym (m .same)) ∙ g .same);
           }
 
-    pub gathering-stop : (out : Listed) → x ≡ ES.Stop out → edgesLeft out counts targets ≡ said (numberedInto place counts₀ targets₀ 0) (edgesOf both most place s)
+    pub gathering-stop : (out : Listed) → x ≡ ES.Stop out
+        → edgesLeft out counts targets ≡ said (numberedInto place counts₀ targets₀ 0) (edgesOf both most place s)
     unfolding edgeStep
     gathering-stop out e = go out (numbers-stop place (edgeStep both most place s c) (listedSays out) (ap edgeStepSays (sym e) ∙ told))
       where
-        go : (out : Listed) → stop (listedSays out) ≡ edgeStep both most place s c → edgesLeft out counts targets ≡ said (numberedInto place counts₀ targets₀ 0) (edgesOf both most place s)
+        go : (out : Listed) → stop (listedSays out) ≡ edgeStep both most place s c
+            → edgesLeft out counts targets ≡ said (numberedInto place counts₀ targets₀ 0) (edgesOf both most place s)
         go (Lines n) e =
-            let l = left-lines (twoOf identOf identOf) edgeFile most (edgeTest both place) s (c .lines) (beforeBy (c .lines) (pairOf c)) (c .at .at) n e in
-            (let a = l .0 in let b = add-zero (c .lines) in cc) ∙ ap (said (numberedInto place counts targets (c .lines))) (sym (l .1)) ∙ g .same
+            let l = left-lines (twoOf identOf identOf) edgeFile most (edgeTest both place) s (c .lines) (beforeBy (c .lines) (pairOf c))
+            (c .at .at) n e in
+            (let a = l .0 in let b = add-zero (c .lines) in cc) ∙ ap (said (numberedInto place counts targets (c .lines))) (sym (l .1))
+            ∙ g .same
         go (Refused o) e =
-            ap (said (numberedInto place counts targets (c .lines))) (sym (left-refused (twoOf identOf identOf) edgeFile most (edgeTest both place) s (c .lines) (beforeBy (c .lines) (pairOf c)) (c .at .at) o (g .low) e)) ∙ g .same
+            ap (said (numberedInto place counts targets (c .lines)))
+            (sym (left-refused (twoOf identOf identOf) edgeFile most (edgeTest both place) s (c .lines) (beforeBy (c .lines) (pairOf c))
+            (c .at .at) o (g .low) e)) ∙ g .same

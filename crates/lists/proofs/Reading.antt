@@ -29,7 +29,8 @@ use Rattle.lists.specs.declared.edges.Edges.{Edges}
 use Rattle.lists.specs.declared.edges.Ends.{Ends}
 use Rattle.lists.specs.declared.edges.Ends.the-variants as EN
 use Rattle.lists.specs.Files.{vertexTest, isAbove, numberOf, edgeTest, numbered}
-use Rattle.lists.specs.Steps.{Step, more, stop, byFault, stepBy, beforeBy, vertexStep, orderFault, Looked, found, unknown, lookedBy, endsSays, pairOf, withNumbers, edgeStep}
+use Rattle.lists.specs.Steps.{Step, more, stop, byFault, stepBy, beforeBy, vertexStep, orderFault}
+use Rattle.lists.specs.Steps.{Looked, found, unknown, lookedBy, endsSays, pairOf, withNumbers, edgeStep}
 
 -- ---- too many lines come before any other fault
 module _ (most k n : ℕ) where
@@ -136,7 +137,8 @@ module _ (ids : List ℤ) (a b a′ : ℤ) (ha : a′ ≡ a) (x : Found) (e : Se
 
 -- ---- one line more, by what it says
 module _ {A : Type 0} (file most : ℕ) (test : Before A → A → ℕ) (k : ℕ) (before : Before A) where
-  by-bad : (n p : ℕ) (f : ℕ) → f ≡ cond (leb most k) tooMany n → (r : Refusal) → r ≡ at f file (k + 1) → stop (refuses r) ≡ stepBy file most test k before (fault n p)
+  by-bad : (n p : ℕ) (f : ℕ) → f ≡ cond (leb most k) tooMany n → (r : Refusal) → r ≡ at f file (k + 1)
+      → stop (refuses r) ≡ stepBy file most test k before (fault n p)
   by-bad n p f e r g = rw (g, e)
 
   module _ (v : A) (next f : ℕ) (e : f ≡ faultOf file most test k before (good v)) where
@@ -151,16 +153,19 @@ module _ {A : Type 0} (file most : ℕ) (test : Before A → A → ℕ) (k : ℕ
         go (suc n) d = refl
 
 module _ (s : List ℕ) (most : ℕ) (c : Vertices) (x : VertexLine) (e : vertexSays x ≡ vertexLine s (c .at .at)) where
-  by : (y : VertexLine) → x ≡ y → stepBy vertexFile most vertexTest (c .lines) (beforeBy (c .lines) (c .last)) (vertexSays y) ≡ vertexStep s most c
+  by : (y : VertexLine) → x ≡ y → stepBy vertexFile most vertexTest (c .lines) (beforeBy (c .lines) (c .last)) (vertexSays y)
+      ≡ vertexStep s most c
   unfolding vertexStep
   by y q = ap (stepBy vertexFile most vertexTest (c .lines) (beforeBy (c .lines) (c .last))) (ap vertexSays (sym q) ∙ e)
 
   pub vertex-end : (p : Cursor) → x ≡ VL.End p → stop (gives (c .lines)) ≡ vertexStep s most c
   vertex-end p q = by (VL.End p) q
 
-  pub vertex-bad : (n : ℕ) (p : Cursor) → x ≡ VL.Fault n p → (f : ℕ) → f ≡ cond (leb most (c .lines)) tooMany n → (r : Refusal) → r ≡ at f vertexFile (c .lines + 1)
+  pub vertex-bad : (n : ℕ) (p : Cursor) → x ≡ VL.Fault n p → (f : ℕ) → f ≡ cond (leb most (c .lines)) tooMany n → (r : Refusal)
+      → r ≡ at f vertexFile (c .lines + 1)
       → stop (refuses r) ≡ vertexStep s most c
-  vertex-bad n p q f g r h = by-bad vertexFile most vertexTest (c .lines) (beforeBy (c .lines) (c .last)) n (p .at) f g r h ∙ by (VL.Fault n p) q
+  vertex-bad n p q f g r h =
+      by-bad vertexFile most vertexTest (c .lines) (beforeBy (c .lines) (c .last)) n (p .at) f g r h ∙ by (VL.Fault n p) q
 
   -- the number z, handed on as y, the last one as l
   module _ (z : ℤ) (p : Cursor) (q : x ≡ VL.Line z p) (y l : ℤ) (a : y ≡ z) (b : l ≡ c .last)
@@ -169,10 +174,12 @@ module _ (s : List ℕ) (most : ℕ) (c : Vertices) (x : VertexLine) (e : vertex
     faulted = g ∙ rw (a, b)
 
     pub vertex-fault : (f ≡ 0 → ⊥) → (r : Refusal) → r ≡ at f vertexFile (c .lines + 1) → stop (refuses r) ≡ vertexStep s most c
-    vertex-fault d r h = by-fault vertexFile most vertexTest (c .lines) (beforeBy (c .lines) (c .last)) z (p .at) f faulted d r h ∙ by (VL.Line z p) q
+    vertex-fault d r h =
+        by-fault vertexFile most vertexTest (c .lines) (beforeBy (c .lines) (c .last)) z (p .at) f faulted d r h ∙ by (VL.Line z p) q
 
     pub vertex-more : f ≡ 0 → more y (p .at) (c .lines + 1) ≡ vertexStep s most c
-    vertex-more o = rw a (by-more vertexFile most vertexTest (c .lines) (beforeBy (c .lines) (c .last)) z (p .at) f faulted o ∙ by (VL.Line z p) q)
+    vertex-more o =
+        rw a (by-more vertexFile most vertexTest (c .lines) (beforeBy (c .lines) (c .last)) z (p .at) f faulted o ∙ by (VL.Line z p) q)
 
 -- ---- the test of an edge: its order, then its vertices
 abbrev lookFault : Looked → ℕ
@@ -185,7 +192,8 @@ unfolding edgeTest orderFault
 test-by both place before e = go (sameZ (e .0) (e .1)) (both && ltZ (e .1) (e .0)) (isAbove before e) (place (e .0)) (place (e .1))
   where
     go : (p q r : Bool) (x y : Found)
-        → cond p 5 (cond q 6 (cond r (cond (isThere x && isThere y) 0 7) 4)) ≡ orElse (cond p 5 (cond q 6 (cond r 0 4))) (lookFault (lookedBy x y))
+        → cond p 5 (cond q 6 (cond r (cond (isThere x && isThere y) 0 7) 4))
+        ≡ orElse (cond p 5 (cond q 6 (cond r 0 4))) (lookFault (lookedBy x y))
     go true q r x y = refl
     go false true r x y = refl
     go false false false x y = refl
@@ -201,7 +209,8 @@ limit-none most k o e = go (leb most k) refl e
     go true q h = absurd (let z : ⊥ = omega arith in z)
     go false q h = (q, h)
 
-module _ (both : Bool) (most : ℕ) (place : ℤ → Found) (s : List ℕ) (c : Edges) (x : EdgeLine) (e : edgeSays x ≡ edgeLine s (c .at .at)) where
+module _ (both : Bool) (most : ℕ) (place : ℤ → Found) (s : List ℕ) (c : Edges) (x : EdgeLine)
+    (e : edgeSays x ≡ edgeLine s (c .at .at)) where
   abbrev step : LineSaid (ℤ × ℤ) → Step (ℤ × ℤ)
   step = stepBy edgeFile most (edgeTest both place) (c .lines) (beforeBy (c .lines) (pairOf c))
 
@@ -212,12 +221,16 @@ module _ (both : Bool) (most : ℕ) (place : ℤ → Found) (s : List ℕ) (c : 
   pub edge-end : (p : Cursor) → x ≡ EL.End p → stop (gives (c .lines)) ≡ withNumbers place (edgeStep both most place s c)
   edge-end p q = by-edge (EL.End p) q
 
-  pub edge-bad : (n : ℕ) (p : Cursor) → x ≡ EL.Fault n p → (f : ℕ) → f ≡ cond (leb most (c .lines)) tooMany n → (r : Refusal) → r ≡ at f edgeFile (c .lines + 1)
+  pub edge-bad : (n : ℕ) (p : Cursor) → x ≡ EL.Fault n p → (f : ℕ) → f ≡ cond (leb most (c .lines)) tooMany n → (r : Refusal)
+      → r ≡ at f edgeFile (c .lines + 1)
       → stop (refuses r) ≡ withNumbers place (edgeStep both most place s c)
-  edge-bad n p q f g r h = ap (withNumbers place) (by-bad edgeFile most (edgeTest both place) (c .lines) (beforeBy (c .lines) (pairOf c)) n (p .at) f g r h) ∙ by-edge (EL.Fault n p) q
+  edge-bad n p q f g r h =
+      ap (withNumbers place) (by-bad edgeFile most (edgeTest both place) (c .lines) (beforeBy (c .lines) (pairOf c)) n (p .at) f g r h)
+      ∙ by-edge (EL.Fault n p) q
 
   -- the edge from a to b, handed on as a′ and b′, and the one before it
-  module _ (a b : ℤ) (p : Cursor) (q : x ≡ EL.Line a b p) (a′ b′ d′ e′ : ℤ) (ha : a′ ≡ a) (hb : b′ ≡ b) (hd : d′ ≡ c .first) (he : e′ ≡ c .second)
+  module _ (a b : ℤ) (p : Cursor) (q : x ≡ EL.Line a b p) (a′ b′ d′ e′ : ℤ) (ha : a′ ≡ a) (hb : b′ ≡ b) (hd : d′ ≡ c .first)
+      (he : e′ ≡ c .second)
       (o : ℕ) (h : o ≡ orderFault both (beforeBy (c .lines) (d′, e′)) (a′, b′)) (f : ℕ) (g : f ≡ cond (leb most (c .lines)) tooMany o) where
     abbrev before : Before (ℤ × ℤ)
     before = beforeBy (c .lines) (pairOf c)
@@ -231,9 +244,11 @@ module _ (both : Bool) (most : ℕ) (place : ℤ → Found) (s : List ℕ) (c : 
     tested : edgeTest both place before (a, b) ≡ orElse o (lookFault (lookedBy (place a) (place b)))
     tested = test-by both place before (a, b) ∙ rw order-is
 
-    pub edge-fault : (f ≡ 0 → ⊥) → (r : Refusal) → r ≡ at f edgeFile (c .lines + 1) → stop (refuses r) ≡ withNumbers place (edgeStep both most place s c)
+    pub edge-fault : (f ≡ 0 → ⊥) → (r : Refusal) → r ≡ at f edgeFile (c .lines + 1)
+        → stop (refuses r) ≡ withNumbers place (edgeStep both most place s c)
     edge-fault d r j =
-        ap (withNumbers place) (by-fault edgeFile most (edgeTest both place) (c .lines) before (a, b) (p .at) f same d r j) ∙ by-edge (EL.Line a b p) q
+        ap (withNumbers place) (by-fault edgeFile most (edgeTest both place) (c .lines) before (a, b) (p .at) f same d r j)
+        ∙ by-edge (EL.Line a b p) q
       where
         go : (t : Bool) (m : ℕ) → (cond t tooMany o ≡ 0 → ⊥) → cond t tooMany o ≡ cond t tooMany (orElse o m)
         go true m d = refl
@@ -253,16 +268,20 @@ module _ (both : Bool) (most : ℕ) (place : ℤ → Found) (s : List ℕ) (c : 
       by-look : lookFault (endsSays y) ≡ lineFault
       by-look = let n = limit-none most (c .lines) o (sym g ∙ z) in rw (tested, n .0, n .1, looked)
 
-      pub edge-unknown : y ≡ EN.Unknown → (r : Refusal) → r ≡ at 7 edgeFile (c .lines + 1) → stop (refuses r) ≡ withNumbers place (edgeStep both most place s c)
+      pub edge-unknown : y ≡ EN.Unknown → (r : Refusal) → r ≡ at 7 edgeFile (c .lines + 1)
+          → stop (refuses r) ≡ withNumbers place (edgeStep both most place s c)
       edge-unknown u r j =
           let l : 7 ≡ lineFault = ap (λ t. lookFault (endsSays t)) (sym u) ∙ by-look in
-          ap (withNumbers place) (by-fault edgeFile most (edgeTest both place) (c .lines) before (a, b) (p .at) 7 l (λ i. omega arith) r j) ∙ by-edge (EL.Line a b p) q
+          ap (withNumbers place) (by-fault edgeFile most (edgeTest both place) (c .lines) before (a, b) (p .at) 7 l (λ i. omega arith) r j)
+          ∙ by-edge (EL.Line a b p) q
 
-      pub edge-more : (u v : ℕ) → y ≡ EN.Known u v → more ((a′, b′), (u, v)) (p .at) (c .lines + 1) ≡ withNumbers place (edgeStep both most place s c)
+      pub edge-more : (u v : ℕ) → y ≡ EN.Known u v
+          → more ((a′, b′), (u, v)) (p .at) (c .lines + 1) ≡ withNumbers place (edgeStep both most place s c)
       edge-more u v k =
           let l : 0 ≡ lineFault = ap (λ t. lookFault (endsSays t)) (sym k) ∙ by-look in
           let n : numbered place (a, b) ≡ (u, v) = numbers (place a) (place b) (looked ∙ ap endsSays k) in
-          rw (ha, hb, ← n) (ap (withNumbers place) (by-more edgeFile most (edgeTest both place) (c .lines) before (a, b) (p .at) 0 l refl) ∙ by-edge (EL.Line a b p) q)
+          rw (ha, hb, ← n) (ap (withNumbers place) (by-more edgeFile most (edgeTest both place) (c .lines) before (a, b) (p .at) 0 l refl)
+          ∙ by-edge (EL.Line a b p) q)
         where
           numbers : (x y : Found) → lookedBy x y ≡ found (u, v) → _≡_ {A = ℕ × ℕ} (numberOf x, numberOf y) (u, v)
           numbers (At i) (At j) h = cc

@@ -1,4 +1,5 @@
--- The refusal of either file: its number is from 1 to 7, its file the file's own, and its line at most the one after the limit. Assumes nothing.
+-- The refusal of either file: its number is from 1 to 7, its file the file's own, and its line at most the one after the limit.
+-- Assumes nothing.
 use Prim.Native.Nat.{ℕ, _≤_}
 use mathlib.Core.Bool.{Bool, true, false, cond, _&&_}
 use mathlib.Core.List.{List}
@@ -26,7 +27,8 @@ vertex-low (after y) z = go (ltZ y z)
 
 edge-low : (both : Bool) (place : ℤ → Found) (before : Before (ℤ × ℤ)) (e : ℤ × ℤ) → edgeTest both place before e ≤ 7
 unfolding edgeTest
-edge-low both place before e = go (sameZ (e .0) (e .1)) (both && ltZ (e .1) (e .0)) (isAbove before e) (isThere (place (e .0)) && isThere (place (e .1)))
+edge-low both place before e =
+    go (sameZ (e .0) (e .1)) (both && ltZ (e .1) (e .0)) (isAbove before e) (isThere (place (e .0)) && isThere (place (e .1)))
   where
     go : (a b c d : Bool) → cond a 5 (cond b 6 (cond c (cond d 0 7) 4)) ≤ 7
     go true b c d = omega arith

@@ -26,28 +26,35 @@ use Rattle.lists.specs.Files.{vertexTest, identifiers}
 use Rattle.lists.specs.Steps.{more, stop, byFault, stepBy, beforeBy, vertexStep, vertexStepSays, idsInto, idsLeft}
 
 -- ---- what is left of a file, by a step of its reader
-module _ {A : Type 0} (word : List ℕ → Word A) (file most : ℕ) (test : Before A → A → ℕ) (s : List ℕ) (k : ℕ) (before : Before A) (place : ℕ) where
-  pub left-lines : (n : ℕ) → stop (gives n) ≡ stepBy file most test k before (lineBy word s place) → (n ≡ k) × (left word file most test s k before place ≡ gives [])
+module _ {A : Type 0} (word : List ℕ → Word A) (file most : ℕ) (test : Before A → A → ℕ) (s : List ℕ) (k : ℕ) (before : Before A)
+    (place : ℕ) where
+  pub left-lines : (n : ℕ) → stop (gives n) ≡ stepBy file most test k before (lineBy word s place)
+      → (n ≡ k) × (left word file most test s k before place ≡ gives [])
   left-lines n e = go (lineBy word s place) refl e
     where
-      go : (x : LineSaid A) → lineBy word s place ≡ x → stop (gives n) ≡ stepBy file most test k before x → (n ≡ k) × (left word file most test s k before place ≡ gives [])
+      go : (x : LineSaid A) → lineBy word s place ≡ x → stop (gives n) ≡ stepBy file most test k before x
+          → (n ≡ k) × (left word file most test s k before place ≡ gives [])
       go (none p) q h = (cc, left-none word file most test s k before place p q)
       go (fault m p) q h = no-case cc
       go (line v next) q h = by (faultOf file most test k before (good v)) h
         where
-          by : (f : ℕ) → stop (gives n) ≡ byFault file most test k v next f → (n ≡ k) × (left word file most test s k before place ≡ gives [])
+          by : (f : ℕ) → stop (gives n) ≡ byFault file most test k v next f
+              → (n ≡ k) × (left word file most test s k before place ≡ gives [])
           by zero h = no-case cc
           by (suc f) h = no-case cc
 
-  pub left-refused : (r : Refusal) → k ≤ place → stop (refuses r) ≡ stepBy file most test k before (lineBy word s place) → left word file most test s k before place ≡ refuses r
+  pub left-refused : (r : Refusal) → k ≤ place → stop (refuses r) ≡ stepBy file most test k before (lineBy word s place)
+      → left word file most test s k before place ≡ refuses r
   left-refused r low e = go (lineBy word s place) refl e
     where
-      go : (x : LineSaid A) → lineBy word s place ≡ x → stop (refuses r) ≡ stepBy file most test k before x → left word file most test s k before place ≡ refuses r
+      go : (x : LineSaid A) → lineBy word s place ≡ x → stop (refuses r) ≡ stepBy file most test k before x
+          → left word file most test s k before place ≡ refuses r
       go (none p) q h = no-case cc
       go (fault m p) q h = left-bad word file most test s k before place m p q ∙ cc
       go (line v next) q h = left-good word file most test s k before place v next q low ∙ by (faultOf file most test k before (good v)) h
         where
-          by : (f : ℕ) → stop (refuses r) ≡ byFault file most test k v next f → unless f file (k + 1) (said (λ vs. v ∷ vs) (left word file most test s (k + 1) (after v) next)) ≡ refuses r
+          by : (f : ℕ) → stop (refuses r) ≡ byFault file most test k v next f
+              → unless f file (k + 1) (said (λ vs. v ∷ vs) (left word file most test s (k + 1) (after v) next)) ≡ refuses r
           by zero h = no-case cc
           by (suc f) h = cc
 
@@ -65,7 +72,8 @@ module _ {A : Type 0} (word : List ℕ → Word A) (file most : ℕ) (test : Bef
       go (fault n p) q h = no-case cc
       go (line w after-w) q h = by (faultOf file most test k before (good w)) refl h
         where
-          by : (f : ℕ) → faultOf file most test k before (good w) ≡ f → more v next m ≡ byFault file most test k w after-w f → Moved v next m
+          by : (f : ℕ) → faultOf file most test k before (good w) ≡ f → more v next m ≡ byFault file most test k w after-w f
+              → Moved v next m
           by (suc f) g h = no-case cc
           by zero g h =
               let a : v ≡ w = cc in
@@ -79,7 +87,8 @@ module _ {A : Type 0} (word : List ℕ → Word A) (file most : ℕ) (test : Bef
               }
 
 -- ---- the vertex file
-into-more : (ids : List ℤ) (k : ℕ) (v : ℤ) (x : Said (List ℤ)) → said (idsInto (set ids k v) (k + 1)) x ≡ said (idsInto ids k) (said (λ vs. v ∷ vs) x)
+into-more : (ids : List ℤ) (k : ℕ) (v : ℤ) (x : Said (List ℤ))
+    → said (idsInto (set ids k v) (k + 1)) x ≡ said (idsInto ids k) (said (λ vs. v ∷ vs) x)
 into-more ids k v (refuses r) = refl
 into-more ids k v (gives vs) =
     let n : k + 1 + length vs ≡ k + suc (length vs) = omega arith in
@@ -102,7 +111,12 @@ module _ (s : List ℕ) (most : ℕ) (ids₀ : List ℤ) where
 
   pub listing-start : Listing (record { at = record { at = 0 }; lines = 0; last = pos 0 }) ids₀
   listing-start =
-      record { low = omega arith; within = omega arith; long = refl; same = ap (said (idsInto ids₀ 0)) (left-start identOf vertexFile most vertexTest s) }
+      record {
+        low = omega arith;
+        within = omega arith;
+        long = refl;
+        same = ap (said (idsInto ids₀ 0)) (left-start identOf vertexFile most vertexTest s);
+      }
 
   module _ (c : Vertices) (ids : List ℤ) (r : Listing c ids) (x : VertexStep) (told : vertexStepSays x ≡ vertexStep s most c) where
     listing-moved : (d : Vertices) → x ≡ VS.More d
@@ -133,9 +147,12 @@ module _ (s : List ℕ) (most : ℕ) (ids₀ : List ℤ) where
     unfolding vertexStep
     listing-stop out e = go out (ap vertexStepSays (sym e) ∙ told)
       where
-        go : (out : Listed) → vertexStepSays (VS.Stop out) ≡ vertexStep s most c → idsLeft out ids ≡ said (idsInto ids₀ 0) (identifiers most s)
+        go : (out : Listed) → vertexStepSays (VS.Stop out) ≡ vertexStep s most c
+            → idsLeft out ids ≡ said (idsInto ids₀ 0) (identifiers most s)
         go (Lines n) e =
             let l = left-lines identOf vertexFile most vertexTest s (c .lines) (beforeBy (c .lines) (c .last)) (c .at .at) n e in
             (let a = l .0 in let b = add-zero (c .lines) in cc) ∙ ap (said (idsInto ids (c .lines))) (sym (l .1)) ∙ r .same
         go (Refused o) e =
-            ap (said (idsInto ids (c .lines))) (sym (left-refused identOf vertexFile most vertexTest s (c .lines) (beforeBy (c .lines) (c .last)) (c .at .at) o (r .low) e)) ∙ r .same
+            ap (said (idsInto ids (c .lines))) (sym
+            (left-refused identOf vertexFile most vertexTest s (c .lines) (beforeBy (c .lines) (c .last)) (c .at .at) o (r .low) e))
+            ∙ r .same

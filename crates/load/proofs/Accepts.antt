@@ -39,8 +39,10 @@ pass-first (z ∷ l) h = (refl, rises-pass z l h)
 -- a vertex file gives identifiers exactly where it is a good file of them
 pub vertices-accepted : (most : ℕ) (s : List ℕ) (ids : List ℤ) → (identifiers most s ≡ gives ids) ↔ GoodVertices most s ids
 vertices-accepted most s ids = (
-  (λ e. let a = file-accepted identOf vertexFile most vertexTest s ids .0 e in record { lines = a .lines; few = a .few; rise = ids-rise ids (a .pass) }),
-  λ g. file-accepted identOf vertexFile most vertexTest s ids .1 (record { lines = g .lines; few = g .few; pass = pass-first ids (g .rise) }),
+  (λ e. let a = file-accepted identOf vertexFile most vertexTest s ids .0 e in
+      record { lines = a .lines; few = a .few; rise = ids-rise ids (a .pass) }),
+  λ g. file-accepted identOf vertexFile most vertexTest s ids .1
+      (record { lines = g .lines; few = g .few; pass = pass-first ids (g .rise) }),
 )
 
 -- ---- the edge file
@@ -111,7 +113,8 @@ module _ (both : Bool) (ids : List ℤ) where
       )
 
 -- an edge file gives edges exactly where it is a good file of them
-pub edges-accepted : (both : Bool) (most : ℕ) (ids : List ℤ) (s : List ℕ) (es : List (ℤ × ℤ)) → (edgesOf both most (placeIn ids) s ≡ gives es) ↔ GoodEdges both most ids s es
+pub edges-accepted : (both : Bool) (most : ℕ) (ids : List ℤ) (s : List ℕ) (es : List (ℤ × ℤ))
+    → (edgesOf both most (placeIn ids) s ≡ gives es) ↔ GoodEdges both most ids s es
 edges-accepted both most ids s es = (
   (λ e. let a = file-accepted (twoOf identOf identOf) edgeFile most (edgeTest both (placeIn ids)) s es .0 e in
       let c = clauses-of both ids first es (a .pass) in
@@ -156,7 +159,8 @@ module _ (limits : Limits) (mode : ℕ) (room : Room) (vertices edges : List ℕ
       let p : hasPlaces (b .0) ≡ true = subst (λ (l : List ℤ). hasPlaces l ≡ true) same-ids (r .0) in
       let n = length (b .0) in
       let o = and-second (leb n (room .ids)) (ltb n (room .outOffsets) && ltb n (room .inOffsets)) p in
-      let t : arcRoom (room .outTargets) (room .inSources) (length (c .0)) ≡ true = subst (λ (l : List Arc). arcRoom (room .outTargets) (room .inSources) (length l) ≡ true) same-arcs (k .0) in
+      let t : arcRoom (room .outTargets) (room .inSources) (length (c .0))
+      ≡ true = subst (λ (l : List Arc). arcRoom (room .outTargets) (room .inSources) (length l) ≡ true) same-arcs (k .0) in
       subst (GoodLoad limits mode room vertices edges) q
       (record {
         known = leb-true mode 1 (m .0);
@@ -167,8 +171,12 @@ module _ (limits : Limits) (mode : ℕ) (room : Room) (vertices edges : List ℕ
         list = d .0;
         goodEdges = edges-accepted both (limits .edges) (b .0) edges (d .0) .0 (d .1);
         arcsAre = sym same-arcs;
-        outTargetsFit = leb-true (length (c .0)) (room .outTargets) (and-first (leb (length (c .0)) (room .outTargets)) (leb (length (c .0)) (room .inSources)) t);
-        inSourcesFit = leb-true (length (c .0)) (room .inSources) (and-second (leb (length (c .0)) (room .outTargets)) (leb (length (c .0)) (room .inSources)) t);
+        outTargetsFit =
+            leb-true (length (c .0)) (room .outTargets)
+            (and-first (leb (length (c .0)) (room .outTargets)) (leb (length (c .0)) (room .inSources)) t);
+        inSourcesFit =
+            leb-true (length (c .0)) (room .inSources)
+            (and-second (leb (length (c .0)) (room .outTargets)) (leb (length (c .0)) (room .inSources)) t);
       })
 
   good-load : GoodLoad limits mode room vertices edges g → loaded limits mode room vertices edges ≡ gives g
@@ -176,9 +184,11 @@ module _ (limits : Limits) (mode : ℕ) (room : Room) (vertices edges : List ℕ
   good-load l =
       let n = length (g .ids) in
       let p : hasPlaces (g .ids) ≡ true =
-      and-both (le-leb n (room .ids) (l .idsFit)) (and-both (lt-ltb n (room .outOffsets) (l .outOffsetsFit)) (lt-ltb n (room .inOffsets) (l .inOffsetsFit))) in
+      and-both (le-leb n (room .ids) (l .idsFit)) (and-both (lt-ltb n (room .outOffsets) (l .outOffsetsFit))
+      (lt-ltb n (room .inOffsets) (l .inOffsetsFit))) in
       let t : arcRoom (room .outTargets) (room .inSources) (length (arcs both (allNumbered (placeIn (g .ids)) (l .list)))) ≡ true =
-      rw (← l .arcsAre) (and-both (le-leb (length (g .arcs)) (room .outTargets) (l .outTargetsFit)) (le-leb (length (g .arcs)) (room .inSources) (l .inSourcesFit))) in
+      rw (← l .arcsAre) (and-both (le-leb (length (g .arcs)) (room .outTargets) (l .outTargetsFit))
+      (le-leb (length (g .arcs)) (room .inSources) (l .inSourcesFit))) in
       rw (
         le-leb mode 1 (l .known),
         vertices-accepted (limits .vertices) vertices (g .ids) .1 (l .goodVertices),

@@ -62,7 +62,8 @@ sums-offsets : (l : List Arc) (n size : ℕ) → n < size → Below (n + 1) l �
     → sums 0 (take (n + 1) (bumps (replicate size 0) l)) ++ drop (n + 1) (bumps (replicate size 0) l) ≡ pad size (offsets l n)
 sums-offsets l n size h b f =
     let c : bumps (replicate size 0) l ≡ counted l (n + 1) (replicate (size - (n + 1)) 0) =
-    ap (λ (x : List ℕ). bumps x l) (counted-none (n + 1) size (omega arith)) ∙ bumps-counted [] l (n + 1) (replicate (size - (n + 1)) 0) b in
+    ap (λ (x : List ℕ). bumps x l) (counted-none (n + 1) size (omega arith))
+    ∙ bumps-counted [] l (n + 1) (replicate (size - (n + 1)) 0) b in
     let k = offsets-length l n in
     rw (c, sums-counted l (n + 1) (replicate (size - (n + 1)) 0) (rw (start-length l (n + 1) b) f), add-one n, k)
 
@@ -133,7 +134,11 @@ module _ (both : Bool) (most : ℕ) (ids : List ℤ) (s : List ℕ) (fo ft to tt
         pub arrange-short-back : b ≡ true → (r : Refusal) → r ≡ plain noRoom → refuses r ≡ result
         arrange-short-back h r e =
             let l = ltb-true (length tt) (arcCount both m) (sym eb ∙ h) in
-            short r e (rw (lt-leb (length (arcs both es)) (length tt) (omega (arith, arcs-long)), and-off (leb (length (arcs both es)) (length ft)) false refl))
+            short r e
+            (rw (
+              lt-leb (length (arcs both es)) (length tt) (omega (arith, arcs-long)),
+              and-off (leb (length (arcs both es)) (length ft)) false refl,
+            ))
 
         module _ (fb : b ≡ false) (small : length ft ≤ largest) (o : List ℕ) (eo : o ≡ sums 0 (take (n + 1) c) ++ drop (n + 1) c) where
           fits-back : arcCount both m ≤ length tt
@@ -149,29 +154,36 @@ module _ (both : Bool) (most : ℕ) (ids : List ℤ) (s : List ℕ) (fo ft to tt
 
           targets-are : t ≡ pad (length ft) (parts es n)
           targets-are =
-              stored ∙ ap (pad (length ft)) (take-all (length ft) (seconds es) (let f = edges-fit in let k = length-seconds es in omega arith) ∙ sym (parts-seconds es n (valid .pairs) ends))
+              stored ∙ ap (pad (length ft)) (take-all (length ft) (seconds es)
+              (let f = edges-fit in let k = length-seconds es in omega arith) ∙ sym (parts-seconds es n (valid .pairs) ends))
 
           start-is : start es n ≤ length ft
           start-is = rw (parts-seconds es n (valid .pairs) ends, length-seconds es) edges-fit
 
           held-is : held n o t ≡ es
-          held-is = ap₂ (held n) offsets-are targets-are ∙ held-built es n (valid .pairs) ends (length fo) (length ft) (blank .places) start-is
+          held-is =
+              ap₂ (held n) offsets-are targets-are ∙ held-built es n (valid .pairs) ends (length fo) (length ft) (blank .places) start-is
 
           all-fit : heldFit both n o t (length tt) ≡ true
           unfolding heldFit
-          all-fit = rw held-is (and-both (each-ends n es ends) (le-leb (length (inArcs both es)) (length tt) (rw (length-backward (arcs both es), arcs-long) fits-back)))
+          all-fit =
+              rw held-is (and-both (each-ends n es ends)
+              (le-leb (length (inArcs both es)) (length tt) (rw (length-backward (arcs both es), arcs-long) fits-back)))
 
           -- so the spreading is done
-          pub arrange-end : (d : Bool) (p u : List ℕ) → spreadLeft d p u ≡ spreadCall both n o t (length to) (length tt) → gives (arranged m o t p u) ≡ result
+          pub arrange-end : (d : Bool) (p u : List ℕ) → spreadLeft d p u ≡ spreadCall both n o t (length to) (length tt)
+              → gives (arranged m o t p u) ≡ result
           unfolding edgesRead spreadCall
           arrange-end d p u e =
               let l₁ = le-leb (length (arcs both es)) (length ft) (rw arcs-long fits) in
               let l₂ = le-leb (length (arcs both es)) (length tt) (rw arcs-long fits-back) in
               let w = and-both (lt-ltb n (length to) (blank .backPlaces)) all-fit in
-              let f : spreadLeft d p u ≡ spreadLeft true (pad (length to) (inOffsets both n o t)) (pad (length tt) (inSources both n o t)) = e ∙ rw w in
+              let f : spreadLeft d p u ≡ spreadLeft true (pad (length to) (inOffsets both n o t))
+              (pad (length tt) (inSources both n o t)) = e ∙ rw w in
               let h₁ = ap (λ (y : Spread). y .offsets) f ∙ ap (λ (l : List Arc). pad (length to) (offsets (inArcs both l) n)) held-is in
               let h₂ = ap (λ (y : Spread). y .targets) f ∙ ap (λ (l : List Arc). pad (length tt) (parts (inArcs both l) n)) held-is in
               rw (taken .1, l₁, l₂) (ap gives (arranged-of count offsets-are targets-are h₁ h₂))
             where
-              arranged-of : {k j : ℕ} {a b c d a′ b′ c′ d′ : List ℕ} → k ≡ j → a ≡ a′ → b ≡ b′ → c ≡ c′ → d ≡ d′ → arranged k a b c d ≡ arranged j a′ b′ c′ d′
+              arranged-of : {k j : ℕ} {a b c d a′ b′ c′ d′ : List ℕ} → k ≡ j → a ≡ a′ → b ≡ b′ → c ≡ c′ → d ≡ d′
+                  → arranged k a b c d ≡ arranged j a′ b′ c′ d′
               arranged-of e p q r s = cc

@@ -1,4 +1,5 @@
--- Loads by computation: the sheet's graph of 01, a small undirected one, and some that are refused. Bytes: 45 `-`, 48 to 57 the digits, 32 a space, 10 LF.
+-- Loads by computation: the sheet's graph of 01, a small undirected one, and some that are refused.
+-- Bytes: 45 `-`, 48 to 57 the digits, 32 a space, 10 LF.
 use mathlib.Core.Path.{_≡_, refl}
 use mathlib.Core.List.{List, [], _∷_}
 use Prim.Native.Nat.{ℕ}
@@ -29,12 +30,14 @@ directed : loadCall library 1 (roomOf 6 7 6 6 5) vertices edges
     (2 ∷ 3 ∷ 1 ∷ 3 ∷ 4 ∷ 0 ∷ [])
     (0 ∷ 0 ∷ 1 ∷ 2 ∷ 4 ∷ 5 ∷ [])
     (2 ∷ 1 ∷ 1 ∷ 2 ∷ 3 ∷ [])
-unfolding vertices edges each mem column within lineBy twoOf placeFrom linesFrom valuesFrom edgeTest arcsRead listsRead loaded outcomeOf loadCall
+unfolding vertices edges each mem column within lineBy twoOf placeFrom linesFrom valuesFrom edgeTest arcsRead listsRead loaded outcomeOf
+    loadCall
 directed = refl
 
 -- the same files read as undirected: 5 2 has the larger number first
 turned : loadCall library 0 (roomOf 1 1 1 1 1) vertices edges ≡ outcome (refuses (plain 8)) (pos 0 ∷ []) (0 ∷ []) (0 ∷ []) (0 ∷ []) (0 ∷ [])
-unfolding vertices edges each mem column within lineBy twoOf placeFrom linesFrom valuesFrom edgeTest arcsRead listsRead loaded outcomeOf loadCall
+unfolding vertices edges each mem column within lineBy twoOf placeFrom linesFrom valuesFrom edgeTest arcsRead listsRead loaded outcomeOf
+    loadCall
 turned = refl
 
 larger-first : loaded library 0 (roomOf 5 6 9 6 9) vertices edges ≡ refuses (at 6 2 3)
@@ -55,7 +58,8 @@ undirected : loadCall library 0 (roomOf 3 4 5 4 4) three star
     (1 ∷ 2 ∷ 0 ∷ 0 ∷ 0 ∷ [])
     (0 ∷ 2 ∷ 3 ∷ 4 ∷ [])
     (1 ∷ 2 ∷ 0 ∷ 0 ∷ [])
-unfolding three star each mem column within lineBy twoOf placeFrom linesFrom valuesFrom edgeTest arcsRead listsRead loaded outcomeOf loadCall
+unfolding three star each mem column within lineBy twoOf placeFrom linesFrom valuesFrom edgeTest arcsRead listsRead loaded outcomeOf
+    loadCall
 undirected = refl
 
 -- "empty lists load"

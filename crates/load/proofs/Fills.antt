@@ -1,4 +1,5 @@
--- Laws of the four areas of a graph: a directed file's edges as they were arranged, an undirected file's arcs the same both ways. Assumes nothing.
+-- Laws of the four areas of a graph: a directed file's edges as they were arranged, an undirected file's arcs the same both ways.
+-- Assumes nothing.
 use Prim.Native.Nat.{ℕ, suc, _+_, _-_, _≤_, _<_}
 use mathlib.Core.Path.{_≡_, refl, sym, ap, ap₂, subst, _∙_}
 use mathlib.Core.Bool.{Bool, true, false}
@@ -43,32 +44,43 @@ module _ (both : Bool) (most : ℕ) (ids : List ℤ) (s : List ℕ) where
   unfolding arcsRead edgesRead
   arcs-edges t t′ = go (edgesOf both most (placeIn ids) s)
     where
-      go : (x : Said (List (ℤ × ℤ))) → onward x (λ es. withRoom (arcRoom t t′ (length (arcs both (allNumbered (placeIn ids) es)))) (arcs both (allNumbered (placeIn ids) es)))
-          ≡ said (arcs both) (onward x (λ es. withRoom (arcRoom t t′ (length (arcs both (allNumbered (placeIn ids) es)))) (allNumbered (placeIn ids) es)))
-      go (gives es) = said-room (arcs both) (arcRoom t t′ (length (arcs both (allNumbered (placeIn ids) es)))) (allNumbered (placeIn ids) es)
+      go : (x : Said (List (ℤ × ℤ)))
+          → onward x (λ es. withRoom (arcRoom t t′ (length (arcs both (allNumbered (placeIn ids) es))))
+          (arcs both (allNumbered (placeIn ids) es)))
+          ≡ said (arcs both)
+          (onward x (λ es. withRoom (arcRoom t t′ (length (arcs both (allNumbered (placeIn ids) es)))) (allNumbered (placeIn ids) es)))
+      go (gives es) =
+          said-room (arcs both) (arcRoom t t′ (length (arcs both (allNumbered (placeIn ids) es)))) (allNumbered (placeIn ids) es)
       go (refuses r) = refl
 
   pub edges-swap : (t t′ : ℕ) → edgesRead both most ids s t t′ ≡ edgesRead both most ids s t′ t
   unfolding edgesRead
   edges-swap t t′ = go (edgesOf both most (placeIn ids) s)
     where
-      go : (x : Said (List (ℤ × ℤ))) → onward x (λ es. withRoom (arcRoom t t′ (length (arcs both (allNumbered (placeIn ids) es)))) (allNumbered (placeIn ids) es))
+      go : (x : Said (List (ℤ × ℤ)))
+          → onward x (λ es. withRoom (arcRoom t t′ (length (arcs both (allNumbered (placeIn ids) es)))) (allNumbered (placeIn ids) es))
           ≡ onward x (λ es. withRoom (arcRoom t′ t (length (arcs both (allNumbered (placeIn ids) es)))) (allNumbered (placeIn ids) es))
       go (gives es) =
-          ap (λ (b : Bool). withRoom b (allNumbered (placeIn ids) es)) (and-swap (leb (length (arcs both (allNumbered (placeIn ids) es))) t) (leb (length (arcs both (allNumbered (placeIn ids) es))) t′))
+          ap (λ (b : Bool). withRoom b (allNumbered (placeIn ids) es))
+          (and-swap (leb (length (arcs both (allNumbered (placeIn ids) es))) t)
+          (leb (length (arcs both (allNumbered (placeIn ids) es))) t′))
       go (refuses r) = refl
 
   -- edges that were read with room are valid
   module _ (rise : risingZ ids ≡ true) (t t′ : ℕ) (es : List Arc) (e : edgesRead both most ids s t t′ ≡ gives es) where
-    taken : (l : List (ℤ × ℤ)) × (edgesOf both most (placeIn ids) s ≡ gives l) × (allNumbered (placeIn ids) l ≡ es) × (arcRoom t t′ (length (arcs both es)) ≡ true)
+    taken : (l : List (ℤ × ℤ)) × (edgesOf both most (placeIn ids) s ≡ gives l) × (allNumbered (placeIn ids) l ≡ es)
+        × (arcRoom t t′ (length (arcs both es)) ≡ true)
     unfolding edgesRead
     taken = go (edgesOf both most (placeIn ids) s) refl e
       where
         go : (x : Said (List (ℤ × ℤ))) → edgesOf both most (placeIn ids) s ≡ x
-            → onward x (λ es. withRoom (arcRoom t t′ (length (arcs both (allNumbered (placeIn ids) es)))) (allNumbered (placeIn ids) es)) ≡ gives es
-            → (l : List (ℤ × ℤ)) × (edgesOf both most (placeIn ids) s ≡ gives l) × (allNumbered (placeIn ids) l ≡ es) × (arcRoom t t′ (length (arcs both es)) ≡ true)
+            → onward x (λ es. withRoom (arcRoom t t′ (length (arcs both (allNumbered (placeIn ids) es)))) (allNumbered (placeIn ids) es))
+            ≡ gives es
+            → (l : List (ℤ × ℤ)) × (edgesOf both most (placeIn ids) s ≡ gives l) × (allNumbered (placeIn ids) l ≡ es)
+            × (arcRoom t t′ (length (arcs both es)) ≡ true)
         go (gives l) q h =
-            let r = check-passed (arcRoom t t′ (length (arcs both (allNumbered (placeIn ids) l)))) noRoom (gives (allNumbered (placeIn ids) l)) es h in
+            let r = check-passed (arcRoom t t′ (length (arcs both (allNumbered (placeIn ids) l)))) noRoom
+            (gives (allNumbered (placeIn ids) l)) es h in
             let e = given-one (r .1) in
             (l, q, e, subst (λ (x : List Arc). arcRoom t t′ (length (arcs both x)) ≡ true) e (r .0))
         go (refuses r) q h = no-case cc
@@ -79,7 +91,9 @@ module _ (both : Bool) (most : ℕ) (ids : List ℤ) (s : List ℕ) where
         (valid-file ids rise both most s (taken .0) (taken .1))
 
     pub read-fits : arcCount both (length es) ≤ t
-    read-fits = let l = leb-true (length (arcs both es)) t (and-first (leb (length (arcs both es)) t) (leb (length (arcs both es)) t′) (taken .3)) in omega (arith, arc-count both es)
+    read-fits =
+        let l = leb-true (length (arcs both es)) t
+        (and-first (leb (length (arcs both es)) t) (leb (length (arcs both es)) t′) (taken .3)) in omega (arith, arc-count both es)
 
 -- ---- areas, by each
 filled-of : (n : ℕ) {m k : ℕ} {a b c d a′ b′ c′ d′ : List ℕ} → m ≡ k → a ≡ a′ → b ≡ b′ → c ≡ c′ → d ≡ d′
@@ -93,13 +107,20 @@ arcs-one (e ∷ es) = ap (λ (l : List Arc). e ∷ l) (arcs-one es)
 
 module _ (most : ℕ) (ids : List ℤ) (s : List ℕ) (lo lt li ls : ℕ) (x : Listed) (o t b u : List ℕ)
     (told : arrangedLeft x o t b u ≡ said (arrangedBy false (length ids) lo lt li ls) (edgesRead false most ids s lt ls)) where
-  pub directed-refused : (r : Refusal) → x ≡ Refused r → refuses r ≡ said (filledBy (length ids) lo lt li ls) (arcsRead false most ids s lt ls)
+  pub directed-refused : (r : Refusal) → x ≡ Refused r
+      → refuses r ≡ said (filledBy (length ids) lo lt li ls) (arcsRead false most ids s lt ls)
   directed-refused r q =
-      rw (arcs-edges false most ids s lt ls, said-refuses (arrangedBy false (length ids) lo lt li ls) (edgesRead false most ids s lt ls) r (ap (λ y. arrangedLeft y o t b u) (sym q) ∙ told))
+      rw (
+        arcs-edges false most ids s lt ls,
+        said-refuses (arrangedBy false (length ids) lo lt li ls) (edgesRead false most ids s lt ls) r
+            (ap (λ y. arrangedLeft y o t b u) (sym q) ∙ told),
+      )
 
-  pub directed-lines : (m : ℕ) → x ≡ Lines m → gives (filled (record { vertices = length ids; arcs = m }) o t b u) ≡ said (filledBy (length ids) lo lt li ls) (arcsRead false most ids s lt ls)
+  pub directed-lines : (m : ℕ) → x ≡ Lines m → gives (filled (record { vertices = length ids; arcs = m }) o t b u)
+      ≡ said (filledBy (length ids) lo lt li ls) (arcsRead false most ids s lt ls)
   directed-lines m q =
-      let g = said-gives (arrangedBy false (length ids) lo lt li ls) (edgesRead false most ids s lt ls) (arranged m o t b u) (ap (λ y. arrangedLeft y o t b u) (sym q) ∙ told) in
+      let g = said-gives (arrangedBy false (length ids) lo lt li ls) (edgesRead false most ids s lt ls) (arranged m o t b u)
+      (ap (λ y. arrangedLeft y o t b u) (sym q) ∙ told) in
       let a = sym (arcs-one (g .0)) in
       rw (arcs-edges false most ids s lt ls, g .1)
       (ap gives
@@ -113,7 +134,13 @@ pad-front : (xs ys : List ℕ) (a b k : ℕ) → length xs ≡ k → length ys �
 pad-front xs ys a b k e h =
     let j : length ys + (k - length ys) ≡ k = omega arith in
     let m : b - length ys - (k - length ys) ≡ b - length xs = omega arith in
-    rw (take-at xs (replicate (a - length xs) 0) k e, ← j, drop-append-add ys (replicate (b - length ys) 0) (k - length ys), drop-replicate {A = ℕ} 0 (k - length ys) (b - length ys), m) refl
+    rw (
+      take-at xs (replicate (a - length xs) 0) k e,
+      ← j,
+      drop-append-add ys (replicate (b - length ys) 0) (k - length ys),
+      drop-replicate {A = ℕ} 0 (k - length ys) (b - length ys),
+      m,
+    ) refl
 
 copy-pad : (xs ys : List ℕ) (a b k : ℕ) → length xs ≡ k → length ys ≤ k → k ≤ b → copied k (pad a xs) (pad b ys) ≡ pad b xs
 copy-pad xs ys a b k e h room =
@@ -132,11 +159,16 @@ module _ (most : ℕ) (ids : List ℤ) (s : List ℕ) (lo lt li ls : ℕ) (rise 
 
   pub undirected-refused : (r : Refusal) → x ≡ Refused r → refuses r ≡ said (filledBy n lo lt li ls) (arcsRead true most ids s lt ls)
   undirected-refused r q =
-      rw (swapped, said-refuses (arrangedBy true n li ls lo lt) (edgesRead true most ids s ls lt) r (ap (λ y. arrangedLeft y i j o t) (sym q) ∙ told))
+      rw (
+        swapped,
+        said-refuses (arrangedBy true n li ls lo lt) (edgesRead true most ids s ls lt) r
+            (ap (λ y. arrangedLeft y i j o t) (sym q) ∙ told),
+      )
 
   module _ (m : ℕ) (q : x ≡ Lines m) where
     given : (es : List Arc) × (edgesRead true most ids s ls lt ≡ gives es) × (arranged m i j o t ≡ arrangedBy true n li ls lo lt es)
-    given = said-gives (arrangedBy true n li ls lo lt) (edgesRead true most ids s ls lt) (arranged m i j o t) (ap (λ y. arrangedLeft y i j o t) (sym q) ∙ told)
+    given = said-gives (arrangedBy true n li ls lo lt) (edgesRead true most ids s ls lt) (arranged m i j o t)
+        (ap (λ y. arrangedLeft y i j o t) (sym q) ∙ told)
 
     abbrev es : List Arc
     es = given .0
@@ -160,7 +192,8 @@ module _ (most : ℕ) (ids : List ℤ) (s : List ℕ) (lo lt li ls : ℕ) (rise 
     parts-long = start-length inward n (below-in true n es (valid-ends n es (valid .fine))) ∙ length-backward (arcs true es) ∙ arcs-long
 
     edges-long : length (parts es n) ≤ m + m
-    edges-long = rw (parts-seconds es n (valid .pairs) (valid-ends n es (valid .fine)), length-seconds es) (let e = edges-are in omega arith)
+    edges-long =
+        rw (parts-seconds es n (valid .pairs) (valid-ends n es (valid .fine)), length-seconds es) (let e = edges-are in omega arith)
 
     out-offsets : offsets inward n ≡ offsets (arcs true es) n
     out-offsets = column-ext (start inward) (start (arcs true es)) (suc n) (λ v l. ap length (both-parts es v n (valid .fine)))
@@ -175,7 +208,8 @@ module _ (most : ℕ) (ids : List ℤ) (s : List ℕ) (lo lt li ls : ℕ) (rise 
         let ko = offsets-length inward n in
         let ke = offsets-length es n in
         let h₁ : i′ ≡ pad li (offsets inward n) =
-        ei ∙ ap₂ (copied (n + 1)) c a ∙ copy-pad (offsets inward n) (offsets es n) lo li (n + 1) (omega arith) (omega arith) (omega arith) in
+        ei ∙ ap₂ (copied (n + 1)) c a ∙ copy-pad (offsets inward n) (offsets es n) lo li (n + 1) (omega arith) (omega arith)
+        (omega arith) in
         let h₂ : j′ ≡ pad ls (parts inward n) =
         ej ∙ ap₂ (copied (m + m)) d b ∙ copy-pad (parts inward n) (parts es n) lt ls (m + m) parts-long edges-long undirected-fits in
         let h₃ : o ≡ pad lo (offsets (arcs true es) n) = c ∙ ap (pad lo) out-offsets in

@@ -28,7 +28,8 @@ use Rattle.lists.specs.declared.Listed.{Listed}
 use Rattle.lists.specs.declared.Listed.the-variants.{Lines, Refused}
 use Rattle.lists.specs.Files.{vertexTest, identifiers}
 use Rattle.lists.specs.Calls.{listedSays, Vertexes, vertexOutcome, idsArea, vertexCall}
-use Rattle.load.specs.Load.{Room, roomOf, vertexRoom, arcsRead, listsRead, loaded, Outcome, outcome, outcomeOf, loadCall, library, capped}
+use Rattle.load.specs.Load.{Room, roomOf, vertexRoom, arcsRead, listsRead, loaded}
+use Rattle.load.specs.Load.{Outcome, outcome, outcomeOf, loadCall, library, capped}
 use Rattle.load.specs.Steps.{Blank, Filled, filled, filledBy, filledLeft, outcomeBy, outcomeLeft, Emptied}
 
 -- ---- places for identifiers and offsets
@@ -71,8 +72,10 @@ module _ (room : Room) (ids : List ℤ) (a : List ℤ) (h : a ≡ padZ (room .id
   five-areas (L.Refused o) oo ot io is (refuses q) e = let p : o ≡ q = cc in ap refuses p
   five-areas (L.Graph size) oo ot io is (refuses q) e = no-case cc
   five-areas (L.Graph size) oo ot io is (gives l) e =
-      let f : filled size oo ot io is ≡ filledBy (length ids) (room .outOffsets) (room .outTargets) (room .inOffsets) (room .inSources) l = cc in
-      ap gives (outcome-of (ap gives (ap (λ (y : Filled). y .size) f)) h (ap (λ (y : Filled). y .outOffsets) f) (ap (λ (y : Filled). y .outTargets) f)
+      let f : filled size oo ot io is ≡ filledBy (length ids) (room .outOffsets) (room .outTargets) (room .inOffsets) (room .inSources)
+      l = cc in
+      ap gives (outcome-of (ap gives (ap (λ (y : Filled). y .size) f)) h (ap (λ (y : Filled). y .outOffsets) f)
+      (ap (λ (y : Filled). y .outTargets) f)
       (ap (λ (y : Filled). y .inOffsets) f) (ap (λ (y : Filled). y .inSources) f))
     where
       outcome-of : {p q : Said Size} {i i′ : List ℤ} {a b c d a′ b′ c′ d′ : List ℕ} → p ≡ q → i ≡ i′ → a ≡ a′ → b ≡ b′ → c ≡ c′ → d ≡ d′
@@ -91,13 +94,15 @@ module _ (limits : Limits) (mode : ℕ) (v e : List ℕ) (ids : List ℤ) (oo ot
   unfolding loaded
   fill-mode h r q = rw (lt-leb mode 1 h, q)
 
-  module _ (h : mode ≤ 1) (x : Listed) (a : List ℤ) (told : vertexOutcome (listedSays x) a ≡ vertexCall (limits .vertices) v (length ids)) where
+  module _ (h : mode ≤ 1) (x : Listed) (a : List ℤ)
+      (told : vertexOutcome (listedSays x) a ≡ vertexCall (limits .vertices) v (length ids)) where
     answered : (r : Said ℕ) → listedSays x ≡ r → r ≡ said length (identifiers (limits .vertices) v)
     answered r q = sym q ∙ ap (λ (y : Vertexes). y .answer) told
 
     pub fill-refused : (r : Refusal) → x ≡ Refused r → refuses r ≡ result
     unfolding loaded listsRead
-    fill-refused r q = rw (le-leb mode 1 h, said-refuses length (identifiers (limits .vertices) v) r (answered (refuses r) (ap listedSays q)))
+    fill-refused r q =
+        rw (le-leb mode 1 h, said-refuses length (identifiers (limits .vertices) v) r (answered (refuses r) (ap listedSays q)))
 
     module _ (n : ℕ) (q : x ≡ Lines n) (la : ℕ) (kept : la ≡ length ids) (t : Bool) (et : t ≡ vertexRoom la (length oo) (length io) n) where
       taken : (l : List ℤ) × (identifiers (limits .vertices) v ≡ gives l) × (n ≡ length l)
@@ -144,19 +149,24 @@ module _ (limits : Limits) (mode : ℕ) (v e : List ℕ) (ids : List ℤ) (oo ot
               record {
                 rise = subst (λ (l : List ℤ). risingZ l ≡ true) (sym lent)
                     (ids-rise list (file-accepted identOf vertexFile (limits .vertices) vertexTest v list .0 (taken .1) .pass));
-                places = let l = ltb-true n (length oo) (and-first (ltb n (length oo)) (ltb n (length io)) both-fit) in omega (arith, lent-long);
-                backPlaces = let l = ltb-true n (length io) (and-second (ltb n (length oo)) (ltb n (length io)) both-fit) in omega (arith, lent-long);
+                places = let l = ltb-true n (length oo) (and-first (ltb n (length oo)) (ltb n (length io)) both-fit) in
+                    omega (arith, lent-long);
+                backPlaces =
+                    let l = ltb-true n (length io) (and-second (ltb n (length oo)) (ltb n (length io)) both-fit) in
+                    omega (arith, lent-long);
               }
 
           pub fill-end : (r : Loaded) (oo′ ot′ io′ is′ : List ℕ)
               → filledLeft r oo′ ot′ io′ is′
-              ≡ said (filledBy (length b) (length oo) (length ot) (length io) (length is)) (arcsRead (eqb mode 0) (limits .edges) b e (length ot) (length is))
+              ≡ said (filledBy (length b) (length oo) (length ot) (length io) (length is))
+              (arcsRead (eqb mode 0) (limits .edges) b e (length ot) (length is))
               → outcomeLeft r a oo′ ot′ io′ is′ ≡ result
           unfolding loaded listsRead
           fill-end r oo′ ot′ io′ is′ g =
               rw (le-leb mode 1 h, taken .1, same-room ∙ f)
               (five-areas room list a padded r oo′ ot′ io′ is′ (arcsRead (eqb mode 0) (limits .edges) list e (length ot) (length is))
-              (g ∙ ap (λ (l : List ℤ). said (filledBy (length l) (length oo) (length ot) (length io) (length is)) (arcsRead (eqb mode 0) (limits .edges) l e (length ot) (length is))) lent))
+              (g ∙ ap (λ (l : List ℤ). said (filledBy (length l) (length oo) (length ot) (length io) (length is))
+              (arcsRead (eqb mode 0) (limits .edges) l e (length ot) (length is))) lent))
 
 -- ---- the limits
 pub capped-both : (limits : Limits) (v e : ℕ) → v ≡ min (limits .vertices) (library .vertices) → e ≡ min (limits .edges) (library .edges)
@@ -164,9 +174,11 @@ pub capped-both : (limits : Limits) (v e : ℕ) → v ≡ min (limits .vertices)
 capped-both limits v e p q = cc
 
 -- ---- the whole call: filled, and cleared where it was refused
-module _ (limits : Limits) (mode : ℕ) (v e : List ℕ) (ids : List ℤ) (oo ot io is : List ℕ) (x : Loaded) (ids₁ : List ℤ) (oo₁ ot₁ io₁ is₁ : List ℕ)
+module _ (limits : Limits) (mode : ℕ) (v e : List ℕ) (ids : List ℤ) (oo ot io is : List ℕ) (x : Loaded) (ids₁ : List ℤ)
+    (oo₁ ot₁ io₁ is₁ : List ℕ)
     (told : outcomeLeft x ids₁ oo₁ ot₁ io₁ is₁
-    ≡ said (outcomeBy (roomOf (length ids) (length oo) (length ot) (length io) (length is))) (loaded limits mode (roomOf (length ids) (length oo) (length ot) (length io) (length is)) v e))
+    ≡ said (outcomeBy (roomOf (length ids) (length oo) (length ot) (length io) (length is)))
+    (loaded limits mode (roomOf (length ids) (length oo) (length ot) (length io) (length is)) v e))
     (most : Limits) (cap : limits ≡ most) where
   abbrev wide : Room
   wide = roomOf (length ids) (length oo) (length ot) (length io) (length is)
@@ -174,12 +186,16 @@ module _ (limits : Limits) (mode : ℕ) (v e : List ℕ) (ids : List ℤ) (oo ot
   pub load-graph : (size : Size) → x ≡ L.Graph size → outcome (gives size) ids₁ oo₁ ot₁ io₁ is₁ ≡ loadCall most mode wide v e
   unfolding loadCall
   load-graph size q =
-      let g = said-gives (outcomeBy wide) (loaded limits mode wide v e) (outcome (gives size) ids₁ oo₁ ot₁ io₁ is₁) (ap (λ y. outcomeLeft y ids₁ oo₁ ot₁ io₁ is₁) (sym q) ∙ told) in
+      let g = said-gives (outcomeBy wide) (loaded limits mode wide v e) (outcome (gives size) ids₁ oo₁ ot₁ io₁ is₁)
+      (ap (λ y. outcomeLeft y ids₁ oo₁ ot₁ io₁ is₁) (sym q) ∙ told) in
       g .2 ∙ ap (outcomeOf wide) (sym (g .1)) ∙ ap (λ l. loadCall l mode wide v e) cap
 
-  pub load-refused : (r : Refusal) → x ≡ L.Refused r → length ids₁ ≡ length ids → length oo₁ ≡ length oo → length ot₁ ≡ length ot → length io₁ ≡ length io → length is₁ ≡ length is
-      → (ids₂ : List ℤ) (oo₂ ot₂ io₂ is₂ : List ℕ) → Emptied ids₁ oo₁ ot₁ io₁ is₁ ids₂ oo₂ ot₂ io₂ is₂ → outcome (refuses r) ids₂ oo₂ ot₂ io₂ is₂ ≡ loadCall most mode wide v e
+  pub load-refused : (r : Refusal) → x ≡ L.Refused r → length ids₁ ≡ length ids → length oo₁ ≡ length oo → length ot₁ ≡ length ot
+      → length io₁ ≡ length io → length is₁ ≡ length is
+      → (ids₂ : List ℤ) (oo₂ ot₂ io₂ is₂ : List ℕ) → Emptied ids₁ oo₁ ot₁ io₁ is₁ ids₂ oo₂ ot₂ io₂ is₂
+      → outcome (refuses r) ids₂ oo₂ ot₂ io₂ is₂ ≡ loadCall most mode wide v e
   unfolding loadCall outcomeOf
   load-refused r q li loo lot lio lis ids₂ oo₂ ot₂ io₂ is₂ f =
       let g = said-refuses (outcomeBy wide) (loaded limits mode wide v e) r (ap (λ y. outcomeLeft y ids₁ oo₁ ot₁ io₁ is₁) (sym q) ∙ told) in
-      rw (f .emptyIds, f .emptyOutOffsets, f .emptyOutTargets, f .emptyInOffsets, f .emptyInSources, li, loo, lot, lio, lis) (ap (outcomeOf wide) (sym g) ∙ ap (λ l. loadCall l mode wide v e) cap)
+      rw (f .emptyIds, f .emptyOutOffsets, f .emptyOutTargets, f .emptyInOffsets, f .emptyInSources, li, loo, lot, lio, lis)
+      (ap (outcomeOf wide) (sym g) ∙ ap (λ l. loadCall l mode wide v e) cap)

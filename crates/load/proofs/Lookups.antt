@@ -17,12 +17,14 @@ module _ (ids : List ℤ) (rise : risingZ ids ≡ true) where
   same-place : (id : ℤ) → bisected ids id ≡ placeIn ids id
   same-place id = find-rising ids id rise
 
-  same-test : (both : Bool) (before : Before (ℤ × ℤ)) (e : ℤ × ℤ) → edgeTest both (bisected ids) before e ≡ edgeTest both (placeIn ids) before e
+  same-test : (both : Bool) (before : Before (ℤ × ℤ)) (e : ℤ × ℤ)
+      → edgeTest both (bisected ids) before e ≡ edgeTest both (placeIn ids) before e
   unfolding edgeTest
   same-test both before e = rw (same-place (e .0), same-place (e .1))
 
   pub same-edges : (both : Bool) (most : ℕ) (s : List ℕ) → edgesOf both most (bisected ids) s ≡ edgesOf both most (placeIn ids) s
-  same-edges both most s = values-same edgeFile most (edgeTest both (bisected ids)) (edgeTest both (placeIn ids)) (same-test both) 0 first (linesOf edgeLine s)
+  same-edges both most s =
+      values-same edgeFile most (edgeTest both (bisected ids)) (edgeTest both (placeIn ids)) (same-test both) 0 first (linesOf edgeLine s)
 
   pub same-numbered : (es : List (ℤ × ℤ)) → allNumbered (bisected ids) es ≡ allNumbered (placeIn ids) es
   same-numbered [] = refl

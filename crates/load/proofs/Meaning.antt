@@ -1,4 +1,5 @@
--- What a load means: it is refused by the first check that fails, a file at its first fault; the graph that it stores is sound, and its parts are the arcs
+-- What a load means: it is refused by the first check that fails, a file at its first fault;
+-- the graph that it stores is sound, and its parts are the arcs
 -- of the edge file.
 -- Assumes nothing.
 use Prim.Native.Nat.{ℕ, _+_, _-_, _≤_, _<_}
@@ -33,16 +34,19 @@ use Rattle.store.proofs.Order.{Valid}
 use Rattle.store.proofs.Meaning.{hasArc, storedGraph, stored-sound, stored-outward, stored-inward}
 use Rattle.load.specs.declared.Limits.{Limits}
 use Rattle.lists.specs.Files.{vertexTest, identifiers, numberOf, edgeTest, edgesOf, numbered, allNumbered}
-use Rattle.load.specs.Load.{Lists, Room, isUndirected, vertexRoom, arcRoom, withRoom, arcsRead, listsRead, sizeOf, loaded, Outcome, outcomeOf, loadCall, capped}
+use Rattle.load.specs.Load.{Lists, Room, isUndirected, vertexRoom, arcRoom, withRoom, arcsRead}
+use Rattle.load.specs.Load.{listsRead, sizeOf, loaded, Outcome, outcomeOf, loadCall, capped}
 use Rattle.store.specs.Spread.{arcCount}
-use Rattle.load.specs.Good.{GoodVertices, GoodEdges, GoodLoad, RefusedLoad, unknownMode, vertexFault, noPlaces, edgeFault, noArcs, hasEdge, listsArc, graphLeft}
+use Rattle.load.specs.Good.{GoodVertices, GoodEdges, GoodLoad, RefusedLoad, unknownMode}
+use Rattle.load.specs.Good.{vertexFault, noPlaces, edgeFault, noArcs, hasEdge, listsArc, graphLeft}
 use Rattle.load.proofs.Valids.{there, valid-file}
 use Rattle.load.proofs.Arranges.{length-numbered}
 use Rattle.load.proofs.Accepts.{vertices-accepted, edges-accepted, load-accepted}
 
 -- ---- a refused file
 -- a vertex file is refused exactly at its first fault, said of its bytes
-pub vertices-refused : (most : ℕ) (s : List ℕ) (r : Refusal) → (identifiers most s ≡ refuses r) ↔ FirstFault identOf vertexFile most vertexTest s r
+pub vertices-refused : (most : ℕ) (s : List ℕ) (r : Refusal)
+    → (identifiers most s ≡ refuses r) ↔ FirstFault identOf vertexFile most vertexTest s r
 vertices-refused most s r = file-refused identOf vertexFile most vertexTest s r
 
 -- an edge file is refused exactly at its first fault, said of its bytes
@@ -82,7 +86,8 @@ module _ (limits : Limits) (mode : ℕ) (room : Room) (vertices edges : List ℕ
     unfolding arcsRead
     from-edges p e = by (onward-refused (edgesSaid ids) _ r e)
       where
-        by : (edgesSaid ids ≡ refuses r) ⊎ ((list : List (ℤ × ℤ)) × (edgesSaid ids ≡ gives list) × (withRoom (hasArcs ids list) (arcsOf ids list) ≡ refuses r)) → Why
+        by : (edgesSaid ids ≡ refuses r) ⊎ ((list : List (ℤ × ℤ)) × (edgesSaid ids ≡ gives list)
+            × (withRoom (hasArcs ids list) (arcsOf ids list) ≡ refuses r)) → Why
         by (inl f) = edgeFault m ids v p (edges-refused (isUndirected mode) (limits .edges) ids edges r .0 f)
         by (inr k) =
             let w = room-refused (hasArcs ids (k .0)) (arcsOf ids (k .0)) r (k .2) in
@@ -92,7 +97,8 @@ module _ (limits : Limits) (mode : ℕ) (room : Room) (vertices edges : List ℕ
     from-places true p e = from-edges p (said-refuses (λ l. record { ids = ids; arcs = l }) (arcsSaid ids) r (sym e))
     from-places false p e = noPlaces m ids v p (cc)
 
-  refused-why : (t : Bool) → leb mode 1 ≡ t → check t unknownNumber (listsRead limits (isUndirected mode) room vertices edges) ≡ refuses r → Why
+  refused-why : (t : Bool) → leb mode 1 ≡ t → check t unknownNumber (listsRead limits (isUndirected mode) room vertices edges) ≡ refuses r
+      → Why
   unfolding listsRead
   refused-why false q e = unknownMode (leb-false mode 1 q) (cc)
   refused-why true q e = by (onward-refused (identifiers (limits .vertices) vertices) _ r e)
@@ -101,7 +107,8 @@ module _ (limits : Limits) (mode : ℕ) (room : Room) (vertices edges : List ℕ
       m = leb-true mode 1 q
 
       by : (identifiers (limits .vertices) vertices ≡ refuses r)
-          ⊎ ((ids : List ℤ) × (identifiers (limits .vertices) vertices ≡ gives ids) × (onward (withRoom (hasPlaces ids) ids) listsSaid ≡ refuses r)) → Why
+          ⊎ ((ids : List ℤ) × (identifiers (limits .vertices) vertices ≡ gives ids)
+          × (onward (withRoom (hasPlaces ids) ids) listsSaid ≡ refuses r)) → Why
       by (inl f) = vertexFault m (vertices-refused (limits .vertices) vertices r .0 f)
       by (inr k) = from-places m (k .0) (vertices-accepted (limits .vertices) vertices (k .0) .0 (k .1)) (hasPlaces (k .0)) refl (k .2)
 
@@ -111,9 +118,21 @@ module _ (limits : Limits) (mode : ℕ) (room : Room) (vertices edges : List ℕ
   why-refused (vertexFault m f) = rw (le-leb mode 1 m, vertices-refused (limits .vertices) vertices r .1 f)
   why-refused (noPlaces m ids v p e) = rw (le-leb mode 1 m, vertices-accepted (limits .vertices) vertices ids .1 v, p, e)
   why-refused (edgeFault m ids v p f) =
-      rw (le-leb mode 1 m, vertices-accepted (limits .vertices) vertices ids .1 v, p, edges-refused (isUndirected mode) (limits .edges) ids edges r .1 f)
+      rw (
+        le-leb mode 1 m,
+        vertices-accepted (limits .vertices) vertices ids .1 v,
+        p,
+        edges-refused (isUndirected mode) (limits .edges) ids edges r .1 f,
+      )
   why-refused (noArcs m ids v p list g k e) =
-      rw (le-leb mode 1 m, vertices-accepted (limits .vertices) vertices ids .1 v, p, edges-accepted (isUndirected mode) (limits .edges) ids edges list .1 g, k, e)
+      rw (
+        le-leb mode 1 m,
+        vertices-accepted (limits .vertices) vertices ids .1 v,
+        p,
+        edges-accepted (isUndirected mode) (limits .edges) ids edges list .1 g,
+        k,
+        e,
+      )
 
   -- a load is refused exactly by the first check that fails, in the order of 01
   pub load-refused : (loaded limits mode room vertices edges ≡ refuses r) ↔ RefusedLoad limits mode room vertices edges r
@@ -143,7 +162,8 @@ module _ (ids : List ℤ) (rise : risingZ ids ≡ true) (u w : ℕ) (hu : u < le
   same-back : (e : ℤ × ℤ) → isThere (placeIn ids (e .0)) ≡ true → isThere (placeIn ids (e .1)) ≡ true
       → (eqb (numbered (placeIn ids) e .1) u && eqb w (numbered (placeIn ids) e .0)) ≡ (sameZ (e .0) (name w) && sameZ (e .1) (name u))
   same-back e a b =
-      rw (same-first (e .0) w hw a, same-first (e .1) u hu b, eqb-swap w (numbered (placeIn ids) e .0)) (and-swap (eqb (numbered (placeIn ids) e .1) u) (eqb (numbered (placeIn ids) e .0) w))
+      rw (same-first (e .0) w hw a, same-first (e .1) u hu b, eqb-swap w (numbered (placeIn ids) e .0))
+      (and-swap (eqb (numbered (placeIn ids) e .1) u) (eqb (numbered (placeIn ids) e .0) w))
 
   has-listed : (both : Bool) (es : List (ℤ × ℤ)) → each (λ e. isThere (placeIn ids (e .0)) && isThere (placeIn ids (e .1))) es ≡ true
       → hasArc (arcs both (allNumbered (placeIn ids) es)) u w ≡ listsArc both es (name u) (name w)
@@ -151,15 +171,19 @@ module _ (ids : List ℤ) (rise : risingZ ids ≡ true) (u w : ℕ) (hu : u < le
   has-listed false [] h = refl
   has-listed true [] h = refl
   has-listed both (e ∷ es) h =
-      let t = and-first (isThere (placeIn ids (e .0)) && isThere (placeIn ids (e .1))) (each (λ e. isThere (placeIn ids (e .0)) && isThere (placeIn ids (e .1))) es) h in
+      let t = and-first (isThere (placeIn ids (e .0)) && isThere (placeIn ids (e .1)))
+      (each (λ e. isThere (placeIn ids (e .0)) && isThere (placeIn ids (e .1))) es) h in
       let a = and-first (isThere (placeIn ids (e .0))) (isThere (placeIn ids (e .1))) t in
       let b = and-second (isThere (placeIn ids (e .0))) (isThere (placeIn ids (e .1))) t in
       go both (same-edge e a b) (same-back e a b)
-      (has-listed both es (and-second (isThere (placeIn ids (e .0)) && isThere (placeIn ids (e .1))) (each (λ e. isThere (placeIn ids (e .0)) && isThere (placeIn ids (e .1))) es) h))
+      (has-listed both es (and-second (isThere (placeIn ids (e .0)) && isThere (placeIn ids (e .1)))
+      (each (λ e. isThere (placeIn ids (e .0)) && isThere (placeIn ids (e .1))) es) h))
     where
-      go : (t : Bool) → (eqb (numbered (placeIn ids) e .0) u && eqb w (numbered (placeIn ids) e .1)) ≡ (sameZ (e .0) (name u) && sameZ (e .1) (name w))
+      go : (t : Bool) → (eqb (numbered (placeIn ids) e .0) u && eqb w (numbered (placeIn ids) e .1))
+          ≡ (sameZ (e .0) (name u) && sameZ (e .1) (name w))
           → (eqb (numbered (placeIn ids) e .1) u && eqb w (numbered (placeIn ids) e .0)) ≡ (sameZ (e .0) (name w) && sameZ (e .1) (name u))
-          → hasArc (arcs t (allNumbered (placeIn ids) es)) u w ≡ listsArc t es (name u) (name w) → hasArc (arcs t (allNumbered (placeIn ids) (e ∷ es))) u w ≡ listsArc t (e ∷ es) (name u) (name w)
+          → hasArc (arcs t (allNumbered (placeIn ids) es)) u w ≡ listsArc t es (name u) (name w)
+          → hasArc (arcs t (allNumbered (placeIn ids) (e ∷ es))) u w ≡ listsArc t (e ∷ es) (name u) (name w)
       go false p q i = rw (p, i) (or-three (sameZ (e .0) (name u) && sameZ (e .1) (name w)) (hasEdge es (name u) (name w)))
         where
           or-three : (x y : Bool) → (x || (y || false)) ≡ ((x || y) || false)
@@ -167,14 +191,16 @@ module _ (ids : List ℤ) (rise : risingZ ids ≡ true) (u w : ℕ) (hu : u < le
           or-three false y = refl
       go true p q i =
           rw (p, q, i)
-          (or-four (sameZ (e .0) (name u) && sameZ (e .1) (name w)) (sameZ (e .0) (name w) && sameZ (e .1) (name u)) (hasEdge es (name u) (name w)) (hasEdge es (name w) (name u)))
+          (or-four (sameZ (e .0) (name u) && sameZ (e .1) (name w)) (sameZ (e .0) (name w) && sameZ (e .1) (name u))
+          (hasEdge es (name u) (name w)) (hasEdge es (name w) (name u)))
 
 -- ---- an accepted load
 edges-few : (both : Bool) (m : ℕ) → arcCount both m ≤ m + m
 edges-few true m = omega arith
 edges-few false m = omega arith
 
-module _ (limits : Limits) (mode : ℕ) (room : Room) (vertices edges : List ℕ) (g : Lists) (h : loaded limits mode room vertices edges ≡ gives g) where
+module _ (limits : Limits) (mode : ℕ) (room : Room) (vertices edges : List ℕ) (g : Lists)
+    (h : loaded limits mode room vertices edges ≡ gives g) where
   abbrev both : Bool
   both = isUndirected mode
 
@@ -198,7 +224,8 @@ module _ (limits : Limits) (mode : ℕ) (room : Room) (vertices edges : List ℕ
 
   abbrev stored : Graph
   stored =
-      storedGraph (length (g .ids)) (arcs both es) (padZ (room .ids) (g .ids)) (room .outOffsets) (room .outTargets) (room .inOffsets) (room .inSources)
+      storedGraph (length (g .ids)) (arcs both es) (padZ (room .ids) (g .ids)) (room .outOffsets) (room .outTargets) (room .inOffsets)
+      (room .inSources)
 
   -- the answer is the graph's size, and the areas hold it
   pub load-answer : outcome .answer ≡ gives (sizeOf g)
@@ -207,14 +234,17 @@ module _ (limits : Limits) (mode : ℕ) (room : Room) (vertices edges : List ℕ
 
   left-stored : graph ≡ stored
   unfolding loadCall outcomeOf
-  left-stored = rw h (ap (λ (l : List Arc). storedGraph (length (g .ids)) l (padZ (room .ids) (g .ids)) (room .outOffsets) (room .outTargets) (room .inOffsets) (room .inSources)) (ok .arcsAre))
+  left-stored =
+      rw h (ap (λ (l : List Arc). storedGraph (length (g .ids)) l (padZ (room .ids) (g .ids)) (room .outOffsets) (room .outTargets)
+      (room .inOffsets) (room .inSources)) (ok .arcsAre))
 
   sound-ids : soundIds stored ≡ true
   unfolding soundIds
   sound-ids =
       let n = length (g .ids) in
       and-both (le-leb n (length (padZ (room .ids) (g .ids))) (rw (pad-length (pos 0) (room .ids) (g .ids) (ok .idsFit)) (ok .idsFit)))
-      (subst (λ (l : List ℤ). risingZ l ≡ true) (sym (take-at (g .ids) (replicate (room .ids - n) (pos 0)) n refl)) (ok .goodVertices .rise))
+      (subst (λ (l : List ℤ). risingZ l ≡ true) (sym (take-at (g .ids) (replicate (room .ids - n) (pos 0)) n refl))
+      (ok .goodVertices .rise))
 
   out-fits : length (arcs both es) ≤ room .outTargets
   out-fits = rw (← ok .arcsAre) (ok .outTargetsFit)
@@ -230,7 +260,8 @@ module _ (limits : Limits) (mode : ℕ) (room : Room) (vertices edges : List ℕ
       let d = edges-few both (length es) in
       let k = length-numbered (g .ids) (ok .list) in
       ap soundGraph left-stored
-      ∙ stored-sound both (length (g .ids)) es valid (padZ (room .ids) (g .ids)) (room .outOffsets) (room .outTargets) (room .inOffsets) (room .inSources)
+      ∙ stored-sound both (length (g .ids)) es valid (padZ (room .ids) (g .ids)) (room .outOffsets) (room .outTargets) (room .inOffsets)
+      (room .inSources)
       (ok .outOffsetsFit) out-fits (ok .inOffsetsFit) in-fits sound-ids (omega arith) (omega arith)
 
   same-list : (list : List (ℤ × ℤ)) → GoodEdges both (limits .edges) (g .ids) edges list → ok .list ≡ list
@@ -240,20 +271,24 @@ module _ (limits : Limits) (mode : ℕ) (room : Room) (vertices edges : List ℕ
       cc
 
   -- w is in u's outward part exactly where the edge file has that arc, and u in w's inward part
-  pub load-outward : (list : List (ℤ × ℤ)) → GoodEdges both (limits .edges) (g .ids) edges list → (u w : ℕ) → u < length (g .ids) → w < length (g .ids)
+  pub load-outward : (list : List (ℤ × ℤ)) → GoodEdges both (limits .edges) (g .ids) edges list → (u w : ℕ) → u < length (g .ids)
+      → w < length (g .ids)
       → mem w (outward graph u) ≡ listsArc both list (getD (g .ids) u (pos 0)) (getD (g .ids) w (pos 0))
   load-outward list fine u w hu hw =
       ap (λ (x : Graph). mem w (outward x u)) left-stored
-      ∙ stored-outward both (length (g .ids)) es valid (padZ (room .ids) (g .ids)) (room .outOffsets) (room .outTargets) (room .inOffsets) (room .inSources)
+      ∙ stored-outward both (length (g .ids)) es valid (padZ (room .ids) (g .ids)) (room .outOffsets) (room .outTargets) (room .inOffsets)
+      (room .inSources)
       (ok .outOffsetsFit) out-fits (ok .inOffsetsFit) in-fits u w hu
       ∙ has-listed (g .ids) (ok .goodVertices .rise) u w hu hw both (ok .list) (ok .goodEdges .there)
       ∙ ap (λ (l : List (ℤ × ℤ)). listsArc both l (getD (g .ids) u (pos 0)) (getD (g .ids) w (pos 0))) (same-list list fine)
 
-  pub load-inward : (list : List (ℤ × ℤ)) → GoodEdges both (limits .edges) (g .ids) edges list → (u w : ℕ) → u < length (g .ids) → w < length (g .ids)
+  pub load-inward : (list : List (ℤ × ℤ)) → GoodEdges both (limits .edges) (g .ids) edges list → (u w : ℕ) → u < length (g .ids)
+      → w < length (g .ids)
       → mem u (inward graph w) ≡ listsArc both list (getD (g .ids) u (pos 0)) (getD (g .ids) w (pos 0))
   load-inward list fine u w hu hw =
       ap (λ (x : Graph). mem u (inward x w)) left-stored
-      ∙ stored-inward both (length (g .ids)) es valid (padZ (room .ids) (g .ids)) (room .outOffsets) (room .outTargets) (room .inOffsets) (room .inSources)
+      ∙ stored-inward both (length (g .ids)) es valid (padZ (room .ids) (g .ids)) (room .outOffsets) (room .outTargets) (room .inOffsets)
+      (room .inSources)
       (ok .outOffsetsFit) out-fits (ok .inOffsetsFit) in-fits u w hw
       ∙ has-listed (g .ids) (ok .goodVertices .rise) u w hu hw both (ok .list) (ok .goodEdges .there)
       ∙ ap (λ (l : List (ℤ × ℤ)). listsArc both l (getD (g .ids) u (pos 0)) (getD (g .ids) w (pos 0))) (same-list list fine)
@@ -274,6 +309,7 @@ module _ (limits : Limits) (mode : ℕ) (room : Room) (vertices edges : List ℕ
       ∙ sym (load-outward (ok .list) (ok .goodEdges) u w hu hw) ∙ m
 
 -- what a load stores is sound, whatever limits it is given
-pub load-sound : (limits : Limits) (mode : ℕ) (room : Room) (vertices edges : List ℕ) (g : Lists) → loaded (capped limits) mode room vertices edges ≡ gives g
+pub load-sound : (limits : Limits) (mode : ℕ) (room : Room) (vertices edges : List ℕ) (g : Lists)
+    → loaded (capped limits) mode room vertices edges ≡ gives g
     → soundGraph (graphLeft (sizeOf g) (loadCall (capped limits) mode room vertices edges)) ≡ true
 load-sound limits mode room vertices edges g h = sound-within (capped limits) mode room vertices edges g h (omega arith) (omega arith)

@@ -1,4 +1,5 @@
--- The refusal of a load: its number is from 1 to 12, its file none or one of the two, and its line within their limits or the one after. Assumes nothing.
+-- The refusal of a load: its number is from 1 to 12, its file none or one of the two, and its line within their limits or the one after.
+-- Assumes nothing.
 use Prim.Native.Nat.{ℕ, _+_, _≤_, _<_}
 use mathlib.Core.Bool.{Bool, true, false}
 use mathlib.Core.List.{List}
@@ -23,9 +24,16 @@ pub record Turned (limits : Limits) (r : Refusal) : Type 0 where
   pub inLines : r .line ≤ limits .vertices + limits .edges + 1
 
 module _ (limits : Limits) where
-  of-file : {A : Type 0} (file most : ℕ) → file ≤ 2 → most ≤ limits .vertices + limits .edges → (x : Said A) → Either Any (Met file most) x → Either Any (Turned limits) x
+  of-file : {A : Type 0} (file most : ℕ) → file ≤ 2 → most ≤ limits .vertices + limits .edges → (x : Said A) → Either Any (Met file most) x
+      → Either Any (Turned limits) x
   of-file file most k l x h =
-      either-refused Any (λ r m. record { some = m .some; low = omega (arith, m .low); inFile = omega (arith, m .inFile); inLines = omega (arith, m .inLines) }) x h
+      either-refused Any
+      (λ r m. record {
+        some = m .some;
+        low = omega (arith, m .low);
+        inFile = omega (arith, m .inFile);
+        inLines = omega (arith, m .inLines);
+      }) x h
 
   of-room : {A : Type 0} (enough : Bool) (x : A) → Either Any (Turned limits) (withRoom enough x)
   of-room true x = tt
@@ -37,11 +45,14 @@ module _ (limits : Limits) where
       let both = isUndirected mode in
       let ids = identifiers (limits .vertices) v in
       either-cond Any (Turned limits) (leb mode 1) _ _
-      (λ _. refused-onward (Turned limits) ids _ (of-file vertexFile (limits .vertices) (omega arith) (omega arith) ids (vertices-met (limits .vertices) v))
-      (λ i. refused-onward (Turned limits) (withRoom (vertexRoom (room .ids) (room .outOffsets) (room .inOffsets) (length i)) i) _ (of-room (vertexRoom (room .ids) (room .outOffsets) (room .inOffsets) (length i)) i)
+      (λ _. refused-onward (Turned limits) ids _ (of-file vertexFile (limits .vertices) (omega arith) (omega arith) ids
+      (vertices-met (limits .vertices) v))
+      (λ i. refused-onward (Turned limits) (withRoom (vertexRoom (room .ids) (room .outOffsets) (room .inOffsets) (length i)) i) _
+      (of-room (vertexRoom (room .ids) (room .outOffsets) (room .inOffsets) (length i)) i)
       (λ i. let es = edgesOf both (limits .edges) (placeIn i) e in
       refused-onward (Turned limits) (arcsRead both (limits .edges) i e (room .outTargets) (room .inSources)) _
-      (refused-onward (Turned limits) es _ (of-file edgeFile (limits .edges) (omega arith) (omega arith) es (edges-met both (limits .edges) (placeIn i) e))
+      (refused-onward (Turned limits) es _ (of-file edgeFile (limits .edges) (omega arith) (omega arith) es
+      (edges-met both (limits .edges) (placeIn i) e))
       (λ es. let l = arcs both (allNumbered (placeIn i) es) in of-room (arcRoom (room .outTargets) (room .inSources) (length l)) l))
       (λ l. tt))))
       (λ _. record { some = omega arith; low = omega arith; inFile = omega arith; inLines = omega arith })

@@ -1,4 +1,5 @@
--- The edges of an accepted file are valid as edges between vertex numbers: what order and lookup say of identifiers, said of numbers. Assumes nothing.
+-- The edges of an accepted file are valid as edges between vertex numbers: what order and lookup say of identifiers, said of numbers.
+-- Assumes nothing.
 use Prim.Native.Nat.{ℕ, _<_}
 use mathlib.Core.Path.{_≡_, refl, sym, _∙_}
 use mathlib.Core.Bool.{Bool, true, false, cond, _&&_, _||_}
@@ -33,12 +34,15 @@ pub record Tested (both : Bool) (ids : List ℤ) (before : Before (ℤ × ℤ)) 
   pub from : isThere (placeIn ids (e .0)) ≡ true
   pub to : isThere (placeIn ids (e .1)) ≡ true
 
-pub test-passed : (both : Bool) (ids : List ℤ) (before : Before (ℤ × ℤ)) (e : ℤ × ℤ) → edgeTest both (placeIn ids) before e ≡ 0 → Tested both ids before e
+pub test-passed : (both : Bool) (ids : List ℤ) (before : Before (ℤ × ℤ)) (e : ℤ × ℤ) → edgeTest both (placeIn ids) before e ≡ 0
+    → Tested both ids before e
 unfolding edgeTest
 test-passed both ids before e h =
-    go (sameZ (e .0) (e .1)) (both && ltZ (e .1) (e .0)) (isAbove before e) (isThere (placeIn ids (e .0))) (isThere (placeIn ids (e .1))) refl refl refl refl refl h
+    go (sameZ (e .0) (e .1)) (both && ltZ (e .1) (e .0)) (isAbove before e) (isThere (placeIn ids (e .0))) (isThere (placeIn ids (e .1)))
+    refl refl refl refl refl h
   where
-    go : (p q r x y : Bool) → sameZ (e .0) (e .1) ≡ p → (both && ltZ (e .1) (e .0)) ≡ q → isAbove before e ≡ r → isThere (placeIn ids (e .0)) ≡ x → isThere (placeIn ids (e .1)) ≡ y
+    go : (p q r x y : Bool) → sameZ (e .0) (e .1) ≡ p → (both && ltZ (e .1) (e .0)) ≡ q → isAbove before e ≡ r
+        → isThere (placeIn ids (e .0)) ≡ x → isThere (placeIn ids (e .1)) ≡ y
         → _≡_ {A = ℕ} (cond p 5 (cond q 6 (cond r (cond (x && y) 0 7) 4))) 0 → Tested both ids before e
     go true q r x y a b c d f h = absurd (let z : ⊥ = omega arith in z)
     go false true r x y a b c d f h = absurd (let z : ⊥ = omega arith in z)
@@ -47,13 +51,15 @@ test-passed both ids before e h =
     go false false true true false a b c d f h = absurd (let z : ⊥ = omega arith in z)
     go false false true true true a b c d f h = record { apart = a; smaller = b; above = c; from = d; to = f }
 
-pub passed-test : (both : Bool) (ids : List ℤ) (before : Before (ℤ × ℤ)) (e : ℤ × ℤ) → Tested both ids before e → edgeTest both (placeIn ids) before e ≡ 0
+pub passed-test : (both : Bool) (ids : List ℤ) (before : Before (ℤ × ℤ)) (e : ℤ × ℤ) → Tested both ids before e
+    → edgeTest both (placeIn ids) before e ≡ 0
 unfolding edgeTest
 passed-test both ids before e t = rw (t .apart, t .smaller, t .above, t .from, t .to)
 
 -- ---- identifiers that rise, and the numbers of those that are there
 module _ (ids : List ℤ) (rise : risingZ ids ≡ true) where
-  pub there : (id : ℤ) → isThere (placeIn ids id) ≡ true → (numberOf (placeIn ids id) < length ids) × (getD ids (numberOf (placeIn ids id)) (pos 0) ≡ id)
+  pub there : (id : ℤ) → isThere (placeIn ids id) ≡ true
+      → (numberOf (placeIn ids id) < length ids) × (getD ids (numberOf (placeIn ids id)) (pos 0) ≡ id)
   there id h = go (placeIn ids id) refl h
     where
       go : (x : Found) → placeIn ids id ≡ x → isThere x ≡ true → (numberOf x < length ids) × (getD ids (numberOf x) (pos 0) ≡ id)
@@ -78,14 +84,16 @@ module _ (ids : List ℤ) (rise : risingZ ids ≡ true) where
         record {
           source = there (e .0) (t .from) .0;
           target = there (e .1) (t .to) .0;
-          apart = eqb-false (numbered (placeIn ids) e .0) (numbered (placeIn ids) e .1) (sym (same-numbers (e .0) (e .1) (t .from) (t .to)) ∙ t .apart);
+          apart = eqb-false (numbered (placeIn ids) e .0) (numbered (placeIn ids) e .1)
+              (sym (same-numbers (e .0) (e .1) (t .from) (t .to)) ∙ t .apart);
         }
 
   small-edge : (both : Bool) (before : Before (ℤ × ℤ)) (e : ℤ × ℤ) → Tested both ids before e → Smaller both (numbered (placeIn ids) e)
   small-edge false before e t = tt
   small-edge true before e t =
       let f = fine-edge true before e t .apart in
-      let l = ltb-false (numbered (placeIn ids) e .1) (numbered (placeIn ids) e .0) (sym (less-numbers (e .1) (e .0) (t .to) (t .from)) ∙ t .smaller) in
+      let l = ltb-false (numbered (placeIn ids) e .1) (numbered (placeIn ids) e .0)
+      (sym (less-numbers (e .1) (e .0) (t .to) (t .from)) ∙ t .smaller) in
       omega arith
 
   lex-of : (d e : Arc) → (ltb (d .0) (e .0) || (eqb (d .0) (e .0) && ltb (d .1) (e .1))) ≡ true → Lex d e
@@ -98,12 +106,18 @@ module _ (ids : List ℤ) (rise : risingZ ids ≡ true) where
       go false true true hp hq hr t = let z = eqb-true (d .0) (e .0) hq in (omega arith, λ _. ltb-true (d .1) (e .1) hr)
 
   module _ (both : Bool) where
-    lex-edge : (c : Before (ℤ × ℤ)) (d e : ℤ × ℤ) → Tested both ids c d → Tested both ids (after d) e → Lex (numbered (placeIn ids) d) (numbered (placeIn ids) e)
+    lex-edge : (c : Before (ℤ × ℤ)) (d e : ℤ × ℤ) → Tested both ids c d → Tested both ids (after d) e
+        → Lex (numbered (placeIn ids) d) (numbered (placeIn ids) e)
     lex-edge c d e s t =
         lex-of (numbered (placeIn ids) d) (numbered (placeIn ids) e)
-        (rw (less-numbers (d .0) (e .0) (s .from) (t .from), same-numbers (d .0) (e .0) (s .from) (t .from), less-numbers (d .1) (e .1) (s .to) (t .to)) at (t .above))
+        (rw (
+          less-numbers (d .0) (e .0) (s .from) (t .from),
+          same-numbers (d .0) (e .0) (s .from) (t .from),
+          less-numbers (d .1) (e .1) (s .to) (t .to),
+        ) at (t .above))
 
-    valid-edges : (before : Before (ℤ × ℤ)) (es : List (ℤ × ℤ)) → Passes (edgeTest both (placeIn ids)) before es → Valid both (length ids) (allNumbered (placeIn ids) es)
+    valid-edges : (before : Before (ℤ × ℤ)) (es : List (ℤ × ℤ)) → Passes (edgeTest both (placeIn ids)) before es
+        → Valid both (length ids) (allNumbered (placeIn ids) es)
     valid-edges before [] p = record { fine = tt; small = tt; pairs = tt }
     valid-edges before (e ∷ []) p =
         let t = test-passed both ids before e (p .0) in
@@ -115,9 +129,12 @@ module _ (ids : List ℤ) (rise : risingZ ids ≡ true) where
         record {
           fine = (fine-edge both before d s, v .fine);
           small = (small-edge both before d s, v .small);
-          pairs = lex-cons (numbered (placeIn ids) d) (numbered (placeIn ids) e) (allNumbered (placeIn ids) es) (lex-edge before d e s t) (v .pairs);
+          pairs = lex-cons (numbered (placeIn ids) d) (numbered (placeIn ids) e) (allNumbered (placeIn ids) es) (lex-edge before d e s t)
+              (v .pairs);
         }
 
     -- the edges of a file that was accepted
-    pub valid-file : (most : ℕ) (s : List ℕ) (es : List (ℤ × ℤ)) → edgesOf both most (placeIn ids) s ≡ gives es → Valid both (length ids) (allNumbered (placeIn ids) es)
-    valid-file most s es e = valid-edges first es (file-accepted (twoOf identOf identOf) edgeFile most (edgeTest both (placeIn ids)) s es .0 e .pass)
+    pub valid-file : (most : ℕ) (s : List ℕ) (es : List (ℤ × ℤ)) → edgesOf both most (placeIn ids) s ≡ gives es
+        → Valid both (length ids) (allNumbered (placeIn ids) es)
+    valid-file most s es e =
+        valid-edges first es (file-accepted (twoOf identOf identOf) edgeFile most (edgeTest both (placeIn ids)) s es .0 e .pass)

@@ -2,7 +2,8 @@
 use mathlib.Core.Path.{_≡_, refl, sym, ap, ap₂, _∙_}
 use mathlib.Core.Bool.{Bool, true, false, cond, _&&_}
 use Prim.Native.Nat.{ℕ, zero, suc, _+_, _-_, _*_, _/_, _%_, _^_, _≤_, _<_, min}
-use native.Mathlib.Nat.{mul-le-mul-left, mul-le-mul-right, le-of-mul-le-mul-right, pow-succ', pow-le-pow-right, one-le-pow, div-add-mod', lt-of-not-le, not-le-of-lt, le-mul-of-pos-right, min-eq-left, min-eq-right, mul-one, mul-pos, pos-of-ne-zero}
+use native.Mathlib.Nat.{mul-le-mul-left, mul-le-mul-right, le-of-mul-le-mul-right, pow-succ', pow-le-pow-right, one-le-pow, div-add-mod'}
+use native.Mathlib.Nat.{lt-of-not-le, not-le-of-lt, le-mul-of-pos-right, min-eq-left, min-eq-right, mul-one, mul-pos, pos-of-ne-zero}
 use native.Mathlib.Numerals.{add-one}
 use native.Mathlib.Omega.{arith}
 use lib.Pow.{pow-add}
@@ -117,7 +118,8 @@ capped-high y x c m h p = go (leb x c) refl
         (lt-leb (x * m) y (omega (arith, le-mul-of-pos-right x p)) ∙ sym (lt-leb (c * m) y (omega (arith, le-mul-of-pos-right c p))))
 
 pub close-up : (a b n u w c : ℕ) → w ≤ u → 0 < b → a * 10001 < c
-    → isClose a b (decimal n u w) ≡ (leb (a * 9999 * 10 ^ 0) (min (n * 10 ^ (u - w)) c * (b * 10000)) && leb (min (n * 10 ^ (u - w)) c * (b * 10000)) (a * 10001 * 10 ^ 0))
+    → isClose a b (decimal n u w) ≡ (leb (a * 9999 * 10 ^ 0) (min (n * 10 ^ (u - w)) c * (b * 10000))
+    && leb (min (n * 10 ^ (u - w)) c * (b * 10000)) (a * 10001 * 10 ^ 0))
 unfolding isClose
 close-up a b n u w c h p l =
     let s : u - w + w ≡ u = omega arith in
@@ -128,8 +130,10 @@ close-up a b n u w c h p l =
     let q : 0 < b * 10000 = omega arith in
     window (a * 10 ^ w) (b * (n * 10 ^ u))
     ∙ ap₂ _&&_
-    (ap₂ leb lo md ∙ cancel _ _ (10 ^ w) (ten-pos w) ∙ capped-low (a * 9999) (n * 10 ^ (u - w)) c (b * 10000) (omega arith) q ∙ ap (λ (k : ℕ). leb k (min (n * 10 ^ (u - w)) c * (b * 10000))) (sym (mul-one (a * 9999))))
-    (ap₂ leb md hi ∙ cancel _ _ (10 ^ w) (ten-pos w) ∙ capped-high (a * 10001) (n * 10 ^ (u - w)) c (b * 10000) l q ∙ ap (leb (min (n * 10 ^ (u - w)) c * (b * 10000))) (sym (mul-one (a * 10001))))
+    (ap₂ leb lo md ∙ cancel _ _ (10 ^ w) (ten-pos w) ∙ capped-low (a * 9999) (n * 10 ^ (u - w)) c (b * 10000) (omega arith) q
+    ∙ ap (λ (k : ℕ). leb k (min (n * 10 ^ (u - w)) c * (b * 10000))) (sym (mul-one (a * 9999))))
+    (ap₂ leb md hi ∙ cancel _ _ (10 ^ w) (ten-pos w) ∙ capped-high (a * 10001) (n * 10 ^ (u - w)) c (b * 10000) l q
+    ∙ ap (leb (min (n * 10 ^ (u - w)) c * (b * 10000))) (sym (mul-one (a * 10001))))
 
 -- no fraction at all
 pub close-none : (a n u w : ℕ) → isClose a 0 (decimal n u w) ≡ eqb a 0
@@ -153,7 +157,9 @@ module _ (a b : ℕ) (s : Decimal) where
   close-zero e = rw e (sym (close-none a (s .digits) (s .up) (s .down)))
 
   module _ (r : Bool) where
-    pub close-lower : s .up ≤ s .down → r ≡ (leb (a * 9999 * 10 ^ (s .down - s .up)) (s .digits * (b * 10000)) && leb (s .digits * (b * 10000)) (a * 10001 * 10 ^ (s .down - s .up)))
+    pub close-lower : s .up ≤ s .down
+        → r ≡ (leb (a * 9999 * 10 ^ (s .down - s .up)) (s .digits * (b * 10000))
+        && leb (s .digits * (b * 10000)) (a * 10001 * 10 ^ (s .down - s .up)))
         → r ≡ isClose a b s
     close-lower h e = e ∙ sym (close-down a b (s .digits) (s .up) (s .down) h)
 

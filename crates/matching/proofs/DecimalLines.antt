@@ -59,10 +59,12 @@ pub record Decimals (most : ℕ) (ids : List ℤ) (nums dens : List ℕ) (s : Li
 
 -- the fraction at a place below n, and any at the others
 placed : (n : ℕ) (nums dens : List ℕ) (k : ℕ) (d : Decimal)
-    → placeLine (length (fractions n nums dens)) k (nearWithin (getD (fractions n nums dens) k (0, 0)) d) ≡ placeLine n k (nearWithin (fractionAt nums dens k) d)
+    → placeLine (length (fractions n nums dens)) k (nearWithin (getD (fractions n nums dens) k (0, 0)) d)
+    ≡ placeLine n k (nearWithin (fractionAt nums dens k) d)
 placed n nums dens k d =
     rw (column-length (fractionAt nums dens) 0 n)
-    (bool-cases (ltb k n) (placeLine n k (nearWithin (getD (fractions n nums dens) k (0, 0)) d) ≡ placeLine n k (nearWithin (fractionAt nums dens k) d))
+    (bool-cases (ltb k n) (placeLine n k (nearWithin (getD (fractions n nums dens) k (0, 0)) d)
+    ≡ placeLine n k (nearWithin (fractionAt nums dens k) d))
     (λ l. ap (λ (r : Fraction). placeLine n k (nearWithin r d)) (column-at (fractionAt nums dens) n k (0, 0) (ltb-true k n l)))
     (λ l. rw l))
 
@@ -79,7 +81,8 @@ module _ (most : ℕ) (ids : List ℤ) (nums dens : List ℕ) (s : List ℕ) whe
   module _ {place k incomplete mismatch : ℕ} (h : Decimals most ids nums dens s place k incomplete mismatch) where
     -- a claim that ends after k lines: where none is incomplete, none is missing
     ended : coefficientLines most s ≡ gives (h .done) → (i : ℕ) → i ≡ endLine (length ids) k incomplete
-        → (j : Judged) → says j ≡ gives (verdictOf i mismatch) → says j ≡ judgedBy ids (farWithin (fractions (length ids) nums dens)) (coefficientLines most s)
+        → (j : Judged) → says j ≡ gives (verdictOf i mismatch)
+        → says j ≡ judgedBy ids (farWithin (fractions (length ids) nums dens)) (coefficientLines most s)
     unfolding judgedBy endLine
     ended e i q j f = f ∙ rw e (ap gives (by i q))
       where
@@ -87,28 +90,35 @@ module _ (most : ℕ) (ids : List ℤ) (nums dens : List ℕ) (s : List ℕ) whe
         covered = against-end sameZ ids (pos 0) (idsOf (h .done)) k incomplete (h .covers)
 
         far : farWithin (fractions (length ids) nums dens) (valuesOf (h .done)) ≡ orElse mismatch (cond (ltb k (length ids)) (k + 1) 0)
-        far = against-end nearWithin (fractions (length ids) nums dens) (0, 0) (valuesOf (h .done)) k mismatch (h .nears) ∙ rw (column-length (fractionAt nums dens) 0 (length ids))
+        far = against-end nearWithin (fractions (length ids) nums dens) (0, 0) (valuesOf (h .done)) k mismatch (h .nears)
+            ∙ rw (column-length (fractionAt nums dens) 0 (length ids))
 
         or-zero : (m : ℕ) → orElse m 0 ≡ m
         or-zero zero = refl
         or-zero (suc m) = refl
 
         by : (i : ℕ) → i ≡ endLine (length ids) k incomplete
-            → verdictOf i mismatch ≡ verdictOf (incompleteLine ids (idsOf (h .done))) (farWithin (fractions (length ids) nums dens) (valuesOf (h .done)))
-        by zero q = rw (covered, ← q, far, le-ltb k (length ids) (end-zero (length ids) k incomplete (sym q) .1)) (ap (verdictOf 0) (sym (or-zero mismatch)))
+            → verdictOf i mismatch ≡ verdictOf (incompleteLine ids (idsOf (h .done)))
+            (farWithin (fractions (length ids) nums dens) (valuesOf (h .done)))
+        by zero q =
+            rw (covered, ← q, far, le-ltb k (length ids) (end-zero (length ids) k incomplete (sym q) .1))
+            (ap (verdictOf 0) (sym (or-zero mismatch)))
         by (suc i) q = rw (covered, ← q)
 
     -- the line at the place
     module _ {x : CoefficientLine} (e : coefficientSays x ≡ coefficientLine s place) where
       pub decimals-end : (c : Cursor) → x ≡ CL.End c → (i : ℕ) → i ≡ endLine (length ids) k incomplete
-          → (j : Judged) → says j ≡ gives (verdictOf i mismatch) → says j ≡ judgedBy ids (farWithin (fractions (length ids) nums dens)) (coefficientLines most s)
-      decimals-end c q = ended (passed-end (twoOf identOf decimalOf) claimFile most noTest s (h .passed) (c .at) (sym e ∙ ap coefficientSays q))
+          → (j : Judged) → says j ≡ gives (verdictOf i mismatch)
+          → says j ≡ judgedBy ids (farWithin (fractions (length ids) nums dens)) (coefficientLines most s)
+      decimals-end c q =
+          ended (passed-end (twoOf identOf decimalOf) claimFile most noTest s (h .passed) (c .at) (sym e ∙ ap coefficientSays q))
 
       module _ (l : k < most) where
         pub decimals-fault : (n : ℕ) (c : Cursor) → x ≡ CL.Fault n c → (r : Refusal) → r ≡ at n claimFile (k + 1)
             → refuses r ≡ judgedBy ids (farWithin (fractions (length ids) nums dens)) (coefficientLines most s)
         unfolding judgedBy
-        decimals-fault n c q r p = rw (passed-fault (twoOf identOf decimalOf) claimFile most noTest s (h .passed) l n (c .at) (sym e ∙ ap coefficientSays q), p)
+        decimals-fault n c q r p =
+            rw (passed-fault (twoOf identOf decimalOf) claimFile most noTest s (h .passed) l n (c .at) (sym e ∙ ap coefficientSays q), p)
 
         pub decimals-next : (id : ℤ) (d : Decimal) (c : Cursor) → x ≡ CL.Line id d c
             → {i : ℕ} → i ≡ coverStep ids k (toZ w64 (ofZ w64 id)) incomplete → {m : ℕ} → m ≡ nearStep (length ids) nums dens k d mismatch
@@ -117,8 +127,10 @@ module _ (most : ℕ) (ids : List ℤ) (nums dens : List ℕ) (s : List ℕ) whe
             record {
               done = h .done ++ ((id, d) ∷ []);
               passed = passed-next (twoOf identOf decimalOf) claimFile most noTest s (h .passed) l (id, d) (c .at) here refl;
-              covers = rw (ids-more (h .done) (id, d), r, bits-back id (coefficient-range s place id d (c .at) here)) (against-next sameZ ids (pos 0) (idsOf (h .done)) k incomplete (h .covers) id);
-              nears = rw (values-more (h .done) (id, d), r′, ← placed (length ids) nums dens k d) (against-next nearWithin (fractions (length ids) nums dens) (0, 0) (valuesOf (h .done)) k mismatch (h .nears) d);
+              covers = rw (ids-more (h .done) (id, d), r, bits-back id (coefficient-range s place id d (c .at) here))
+                  (against-next sameZ ids (pos 0) (idsOf (h .done)) k incomplete (h .covers) id);
+              nears = rw (values-more (h .done) (id, d), r′, ← placed (length ids) nums dens k d)
+                  (against-next nearWithin (fractions (length ids) nums dens) (0, 0) (valuesOf (h .done)) k mismatch (h .nears) d);
             }
           where
             here : coefficientLine s place ≡ line (id, d) (c .at)
@@ -131,7 +143,8 @@ module _ (most : ℕ) (ids : List ℤ) (nums dens : List ℕ) (s : List ℕ) whe
     decimals-over l g r p = rw (passed-over (twoOf identOf decimalOf) claimFile most noTest s (h .passed) l g, p)
 
     pub decimals-full : length s ≤ place → (i : ℕ) → i ≡ endLine (length ids) k incomplete
-        → (j : Judged) → says j ≡ gives (verdictOf i mismatch) → says j ≡ judgedBy ids (farWithin (fractions (length ids) nums dens)) (coefficientLines most s)
+        → (j : Judged) → says j ≡ gives (verdictOf i mismatch)
+        → says j ≡ judgedBy ids (farWithin (fractions (length ids) nums dens)) (coefficientLines most s)
     decimals-full g = ended (passed-full (twoOf identOf decimalOf) claimFile most noTest s (h .passed) g)
 
   -- ---- the whole call, by the test of room t
@@ -140,6 +153,8 @@ module _ (most : ℕ) (ids : List ℤ) (nums dens : List ℕ) (s : List ℕ) whe
     unfolding coefficientsSays
     coefficients-short f r q = rw (failed t _ e f, q)
 
-    pub coefficients-done : not t ≡ false → (x : Said Verdict) → x ≡ judgedBy ids (farWithin (fractions (length ids) nums dens)) (coefficientLines most s) → x ≡ coefficientsSays most ids nums dens s
+    pub coefficients-done : not t ≡ false → (x : Said Verdict)
+        → x ≡ judgedBy ids (farWithin (fractions (length ids) nums dens)) (coefficientLines most s)
+        → x ≡ coefficientsSays most ids nums dens s
     unfolding coefficientsSays
     coefficients-done f x q = rw (held t _ e f) q

@@ -11,7 +11,8 @@ use Rattle.text.specs.Line.{lineBy, twoOf}
 use Rattle.text.specs.File.{linesFrom, valuesFrom}
 use Rattle.matching.specs.Close.{isClose}
 use Rattle.matching.specs.Claim.{numberLines, coefficientLines}
-use Rattle.matching.specs.Verdict.{Verdict, matched, incompleteAt, mismatchAt, Fraction, firstLine, sameKind, agrees, failingLine, unlikeLine, unequalLine, farLine, judgedBy}
+use Rattle.matching.specs.Verdict.{Verdict, matched, incompleteAt, mismatchAt, Fraction, firstLine, sameKind}
+use Rattle.matching.specs.Verdict.{agrees, failingLine, unlikeLine, unequalLine, farLine, judgedBy}
 
 -- a claim on one vertex, number 1, of which the coefficient is r
 abbrev coefficientClaim : Fraction → List ℕ → Said Verdict
@@ -32,7 +33,8 @@ pub record P9 : Type 0 where
   pub pastIt : coefficientClaim (1, 2) (49 ∷ 32 ∷ 48 ∷ 46 ∷ 53 ∷ 48 ∷ 48 ∷ 48 ∷ 53 ∷ 49 ∷ 10 ∷ []) ≡ gives (mismatchAt 1)
 
 pub p9 : P9
-unfolding judgedBy firstLine unlikeLine failingLine agrees sameKind every each mem linesFrom valuesFrom lineBy twoOf isClose decimalOf fractionOf partsOf powerAt signedPower wholeIsGood pastPoint digitOf within
+unfolding judgedBy firstLine unlikeLine failingLine agrees sameKind every each mem linesFrom valuesFrom lineBy twoOf isClose decimalOf
+    fractionOf partsOf powerAt signedPower wholeIsGood pastPoint digitOf within
 p9 = record { atTheLine = refl; pastIt = refl }
 
 -- "r = 1/3 matches 0.3333 and not 0.3332999"
@@ -43,7 +45,8 @@ pub record P10 : Type 0 where
   pub pastIt : coefficientClaim (1, 3) (49 ∷ 32 ∷ 48 ∷ 46 ∷ 51 ∷ 51 ∷ 51 ∷ 50 ∷ 57 ∷ 57 ∷ 57 ∷ 10 ∷ []) ≡ gives (mismatchAt 1)
 
 pub p10 : P10
-unfolding judgedBy firstLine unlikeLine failingLine agrees sameKind every each mem linesFrom valuesFrom lineBy twoOf isClose decimalOf fractionOf partsOf powerAt signedPower wholeIsGood pastPoint digitOf within
+unfolding judgedBy firstLine unlikeLine failingLine agrees sameKind every each mem linesFrom valuesFrom lineBy twoOf isClose decimalOf
+    fractionOf partsOf powerAt signedPower wholeIsGood pastPoint digitOf within
 p10 = record { atTheLine = refl; pastIt = refl }
 
 -- "labels 7 7 3 match components a a b; 7 7 7 fails at line 3"
@@ -54,7 +57,8 @@ pub record P11 : Type 0 where
   pub oneWay : labelClaim (49 ∷ 32 ∷ 55 ∷ 10 ∷ 50 ∷ 32 ∷ 55 ∷ 10 ∷ 51 ∷ 32 ∷ 55 ∷ 10 ∷ []) ≡ gives (mismatchAt 3)
 
 pub p11 : P11
-unfolding judgedBy firstLine unlikeLine failingLine agrees sameKind every each mem linesFrom valuesFrom lineBy twoOf isClose decimalOf fractionOf partsOf powerAt signedPower wholeIsGood pastPoint digitOf within
+unfolding judgedBy firstLine unlikeLine failingLine agrees sameKind every each mem linesFrom valuesFrom lineBy twoOf isClose decimalOf
+    fractionOf partsOf powerAt signedPower wholeIsGood pastPoint digitOf within
 p11 = record { twoWay = refl; oneWay = refl }
 
 -- coverage, faults, limits and scientific decimals
@@ -74,7 +78,8 @@ pub record Others : Type 0 where
   -- `2 0 / 2 1 / 3 01`
   pub malformed : depthClaim 3 (50 ∷ 32 ∷ 48 ∷ 10 ∷ 50 ∷ 32 ∷ 49 ∷ 10 ∷ 51 ∷ 32 ∷ 48 ∷ 49 ∷ 10 ∷ []) ≡ refuses (at 2 3 3)
   -- `2 0 / 2 9223372036854775808`
-  pub outside : depthClaim 3 (50 ∷ 32 ∷ 48 ∷ 10 ∷ 50 ∷ 32 ∷ 57 ∷ 50 ∷ 50 ∷ 51 ∷ 51 ∷ 55 ∷ 50 ∷ 48 ∷ 51 ∷ 54 ∷ 56 ∷ 53 ∷ 52 ∷ 55 ∷ 55 ∷ 53 ∷ 56 ∷ 48 ∷ 56 ∷ 10 ∷ []) ≡ refuses (at 3 3 2)
+  pub outside : depthClaim 3 (50 ∷ 32 ∷ 48 ∷ 10 ∷ 50 ∷ 32 ∷ 57 ∷ 50 ∷ 50 ∷ 51 ∷ 51 ∷ 55 ∷ 50 ∷ 48 ∷ 51 ∷ 54 ∷ 56 ∷ 53 ∷ 52 ∷ 55 ∷ 55 ∷ 53
+      ∷ 56 ∷ 48 ∷ 56 ∷ 10 ∷ []) ≡ refuses (at 3 3 2)
   -- `1 5.0e-01`
   pub scientific : coefficientClaim (1, 2) (49 ∷ 32 ∷ 53 ∷ 46 ∷ 48 ∷ 101 ∷ 45 ∷ 48 ∷ 49 ∷ 10 ∷ []) ≡ gives matched
   -- `1 0.00e+99`
@@ -87,5 +92,20 @@ pub record Others : Type 0 where
   pub bare : coefficientClaim (1, 1) (49 ∷ 32 ∷ 49 ∷ 46 ∷ 10 ∷ []) ≡ refuses (at 2 3 1)
 
 pub others : Others
-unfolding judgedBy firstLine unlikeLine failingLine agrees sameKind every each mem linesFrom valuesFrom lineBy twoOf isClose decimalOf fractionOf partsOf powerAt signedPower wholeIsGood pastPoint digitOf within
-others = record { matches = refl; mismatches = refl; missing = refl; surplus = refl; other = refl; tooMany = refl; malformed = refl; outside = refl; scientific = refl; zero = refl; notZero = refl; huge = refl; bare = refl }
+unfolding judgedBy firstLine unlikeLine failingLine agrees sameKind every each mem linesFrom valuesFrom lineBy twoOf isClose decimalOf
+    fractionOf partsOf powerAt signedPower wholeIsGood pastPoint digitOf within
+others = record {
+  matches = refl;
+  mismatches = refl;
+  missing = refl;
+  surplus = refl;
+  other = refl;
+  tooMany = refl;
+  malformed = refl;
+  outside = refl;
+  scientific = refl;
+  zero = refl;
+  notZero = refl;
+  huge = refl;
+  bare = refl;
+}

@@ -1,4 +1,5 @@
--- Laws of first lines: of two lists side by side, in two areas or with one of them arriving line by line; and of places that fail a test. Assumes nothing.
+-- Laws of first lines: of two lists side by side, in two areas or with one of them arriving line by line; and of places that fail a test.
+-- Assumes nothing.
 use mathlib.Core.Path.{_≡_, refl, sym, ap, ap₂, _∙_}
 use mathlib.Core.Bool.{Bool, true, false, not, cond, _&&_}
 use mathlib.Core.List.{List, [], _∷_, _++_, append-assoc, append-nil}
@@ -40,7 +41,8 @@ module _ {A B : Type 0} (alike : A → B → Bool) (x : A) (y : B) (a : List A) 
 
 -- ---- one list beside the lines that arrive: `line` is the first line found among those that are done, k of them
 abbrev pub Against : {A B : Type 0} → (A → B → Bool) → List A → List B → ℕ → ℕ → Type 0
-Against {A} {B} alike xs done k line = (more : List B) → firstLine alike 1 xs (done ++ more) ≡ orElse line (firstLine alike (k + 1) (drop k xs) more)
+Against {A} {B} alike xs done k line =
+    (more : List B) → firstLine alike 1 xs (done ++ more) ≡ orElse line (firstLine alike (k + 1) (drop k xs) more)
 
 orElse-assoc : (k l m : ℕ) → orElse k (orElse l m) ≡ orElse (orElse k l) m
 orElse-assoc zero l m = refl
@@ -55,14 +57,17 @@ module _ {A B : Type 0} (alike : A → B → Bool) (xs : List A) where
 
   module _ (z : A) (done : List B) (k line : ℕ) (h : Against alike xs done k line) where
     one-more : (y : B) (more : List B)
-        → firstLine alike (k + 1) (drop k xs) (y ∷ more) ≡ orElse (placeLine (length xs) k (alike (getD xs k z) y)) (firstLine alike (k + 1 + 1) (drop (k + 1) xs) more)
+        → firstLine alike (k + 1) (drop k xs) (y ∷ more)
+        ≡ orElse (placeLine (length xs) k (alike (getD xs k z) y)) (firstLine alike (k + 1 + 1) (drop (k + 1) xs) more)
     unfolding firstLine
     one-more y more =
         bool-cases (ltb k (length xs)) _
         (λ l. bool-cases (alike (getD xs k z) y) _
         (λ t. rw (drop-one z xs k (ltb-true k (length xs) l), l, t))
-        (λ t. rw (drop-one z xs k (ltb-true k (length xs) l), l, t) (sym (orElse-more k (firstLine alike (k + 1 + 1) (drop (k + 1) xs) more)))))
-        (λ l. rw (drop-of-length-le xs (ltb-false k (length xs) l), l) (sym (orElse-more k (firstLine alike (k + 1 + 1) (drop (k + 1) xs) more))))
+        (λ t. rw (drop-one z xs k (ltb-true k (length xs) l), l, t)
+        (sym (orElse-more k (firstLine alike (k + 1 + 1) (drop (k + 1) xs) more)))))
+        (λ l. rw (drop-of-length-le xs (ltb-false k (length xs) l), l)
+        (sym (orElse-more k (firstLine alike (k + 1 + 1) (drop (k + 1) xs) more))))
 
     pub against-next : (y : B) → Against alike xs (done ++ (y ∷ [])) (k + 1) (orElse line (placeLine (length xs) k (alike (getD xs k z) y)))
     against-next y more =

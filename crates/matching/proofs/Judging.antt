@@ -20,7 +20,8 @@ use Rattle.matching.specs.declared.numbers.Rule.the-variants.{Exact, Equ
 use Rattle.matching.specs.declared.reading.Read.{Read}
 use Rattle.matching.specs.declared.reading.Read.the-variants.{Lines, Fault}
 use Rattle.matching.specs.Claim.{numberLines, idsOf, valuesOf}
-use Rattle.matching.specs.Verdict.{Verdict, matched, incompleteAt, mismatchAt, says, unequalLine, unlikeLine, mismatchLine, verdictOf, incompleteLine, judgedBy}
+use Rattle.matching.specs.Verdict.{Verdict, matched, incompleteAt, mismatchAt, says, unequalLine}
+use Rattle.matching.specs.Verdict.{unlikeLine, mismatchLine, verdictOf, incompleteLine, judgedBy}
 use Rattle.matching.specs.Calls.{outcome, numbersCall}
 use Rattle.matching.specs.Steps.{ReadAs, ReadOf, readJudged}
 
@@ -40,11 +41,13 @@ pub says-apart : (i j : Judged) → says i ≡ says j → i ≡ j
 says-apart i j e = sym (heard-back i) ∙ ap heard e ∙ heard-back j
 
 -- ---- by the first incomplete line and the first mismatch
-pub verdict-incomplete : (incomplete mismatch : ℕ) → (incomplete ≡ 0 → ⊥) → gives (incompleteAt incomplete) ≡ gives (verdictOf incomplete mismatch)
+pub verdict-incomplete : (incomplete mismatch : ℕ) → (incomplete ≡ 0 → ⊥)
+    → gives (incompleteAt incomplete) ≡ gives (verdictOf incomplete mismatch)
 verdict-incomplete zero mismatch h = absurd (h refl)
 verdict-incomplete (suc i) mismatch h = refl
 
-pub verdict-mismatch : (incomplete mismatch : ℕ) → incomplete ≡ 0 → (mismatch ≡ 0 → ⊥) → gives (mismatchAt mismatch) ≡ gives (verdictOf incomplete mismatch)
+pub verdict-mismatch : (incomplete mismatch : ℕ) → incomplete ≡ 0 → (mismatch ≡ 0 → ⊥)
+    → gives (mismatchAt mismatch) ≡ gives (verdictOf incomplete mismatch)
 verdict-mismatch incomplete zero e h = absurd (h refl)
 verdict-mismatch incomplete (suc m) e h = rw e
 
@@ -68,7 +71,8 @@ module _ (rule : Rule) (a b : List ℤ) (read : Read) where
     pub read-incomplete : (i ≡ 0 → ⊥) → gives (incompleteAt i) ≡ readJudged rule a b read
     read-incomplete h = verdict-incomplete i (mismatchLine rule a b) h ∙ sym (ap (readJudged rule a b) e)
 
-    pub read-complete : i ≡ 0 → (m : ℕ) → m ≡ mismatchLine rule a b → (j : Judged) → says j ≡ gives (verdictOf 0 m) → says j ≡ readJudged rule a b read
+    pub read-complete : i ≡ 0 → (m : ℕ) → m ≡ mismatchLine rule a b → (j : Judged) → says j ≡ gives (verdictOf 0 m)
+        → says j ≡ readJudged rule a b read
     read-complete h m q j f = f ∙ ap₂ (λ (x y : ℕ). gives (verdictOf x y)) (sym h) q ∙ sym (ap (readJudged rule a b) e)
 
 -- ---- the whole call, by the test of room t
@@ -82,7 +86,8 @@ module _ (rule : Rule) (most : ℕ) (ids reference : List ℤ) (s : List ℕ) (c
   -- what was read says the same as the definition
   module _ (mid : List ℤ) where
     read-as : (read : Read) → ReadAs most ids s mid read
-        → readJudged rule (take (length ids) reference) (take (length ids) mid) read ≡ judgedBy ids (mismatchLine rule (take (length ids) reference)) (numberLines most s)
+        → readJudged rule (take (length ids) reference) (take (length ids) mid) read
+        ≡ judgedBy ids (mismatchLine rule (take (length ids) reference)) (numberLines most s)
     unfolding judgedBy
     read-as (Fault r) h = rw h
     read-as (Lines i) h = rw (h .are) (ap gives (by i (h .first) (h .values)))
@@ -98,10 +103,13 @@ module _ (rule : Rule) (most : ℕ) (ids reference : List ℤ) (s : List ℕ) (c
 
     pub judge-lengths : not t ≡ false → (read : Read) → ReadOf most ids s (length claimed) mid read
         → length (take (length ids) reference) ≡ length (take (length ids) mid)
-    judge-lengths f read h = length-take-le _ _ (room-first (length ids) (length reference) (length claimed) e f) ∙ sym (length-take-le _ _ (judge-kept f read h))
+    judge-lengths f read h =
+        length-take-le _ _ (room-first (length ids) (length reference) (length claimed) e f)
+        ∙ sym (length-take-le _ _ (judge-kept f read h))
 
     pub judge-done : not t ≡ false → (read : Read) → ReadOf most ids s (length claimed) mid read
-        → (j : Judged) → says j ≡ readJudged rule (take (length ids) reference) (take (length ids) mid) read → (left : List ℤ) → left ≡ clearedZ mid
+        → (j : Judged) → says j ≡ readJudged rule (take (length ids) reference) (take (length ids) mid) read → (left : List ℤ)
+        → left ≡ clearedZ mid
         → outcome (says j) left ≡ numbersCall rule most ids reference s claimed
     unfolding numbersCall
     judge-done f read h j q left g =

@@ -93,7 +93,8 @@ module _ {A B : Type 0} (alike : A → B → Bool) (x : A) (y : B) where
     alike-of n =
         record {
           long = same;
-          everywhere = λ i l. bool-cases (alike (getD xs i x) (getD ys i y)) _ (λ t. t) (λ t. absurd (n i (other l (omega (arith, same)) t)));
+          everywhere =
+              λ i l. bool-cases (alike (getD xs i x) (getD ys i y)) _ (λ t. t) (λ t. absurd (n i (other l (omega (arith, same)) t)));
         }
       where
         same : length xs ≡ length ys
@@ -125,10 +126,16 @@ unfolding failingLine
 failing-finds p zero i = inl (refl, λ j h. omega (arith, h .0, h .1))
 failing-finds p (suc n) i = by (p i) refl (failing-finds p n (i + 1))
   where
-    by : (t : Bool) → p i ≡ t → Finds (Fails p n (i + 1)) 0 (failingLine p n (i + 1)) → Finds (Fails p (suc n) i) 0 (cond t (failingLine p n (i + 1)) (i + 1))
+    by : (t : Bool) → p i ≡ t → Finds (Fails p n (i + 1)) 0 (failingLine p n (i + 1))
+        → Finds (Fails p (suc n) i) 0 (cond t (failingLine p n (i + 1)) (i + 1))
     by true q h =
         finds-same (λ j f. (omega (arith, f .0), omega (arith, f .1), f .2))
-        (λ j f. (bool-cases (eqb i j) (i + 1 ≤ j) (λ t. clash (ap p (sym (eqb-true i j t)) ∙ q) (f .2)) (λ t. let d = eqb-false i j t in omega (arith, f .0)), omega (arith, f .1), f .2)) h
+        (λ j f. (
+          bool-cases (eqb i j) (i + 1 ≤ j) (λ t. clash (ap p (sym (eqb-true i j t)) ∙ q) (f .2))
+              (λ t. let d = eqb-false i j t in omega (arith, f .0)),
+          omega (arith, f .1),
+          f .2,
+        )) h
     by false q h = inr (i, omega arith, record { here = (omega arith, omega arith, q); least = λ j f. f .0 })
 
 -- ---- lines that disagree in kind with an earlier one
@@ -137,7 +144,8 @@ unfolding every
 every-some p zero e = clash refl e
 every-some p (suc n) e = by (every n p) refl e (every-some p n)
   where
-    by : (t : Bool) → every n p ≡ t → (t && p n) ≡ false → (every n p ≡ false → (i : ℕ) × (i < n) × (p i ≡ false)) → (i : ℕ) × (i < suc n) × (p i ≡ false)
+    by : (t : Bool) → every n p ≡ t → (t && p n) ≡ false → (every n p ≡ false → (i : ℕ) × (i < n) × (p i ≡ false))
+        → (i : ℕ) × (i < suc n) × (p i ≡ false)
     by true q f h = (n, omega arith, f)
     by false q f h = let r = h q in (r .0, omega (arith, r .1), r .2)
 
@@ -146,7 +154,8 @@ module _ (labels claims : List ℤ) where
   unfolding unlikeLine agrees
   unlike-finds =
       finds-same
-      (λ j f. let r = every-some (sameKind labels claims j) j (f .2) in record { inside = omega (arith, f .1); earlier = r .0; isEarlier = r .1; unlike = r .2 })
+      (λ j f. let r = every-some (sameKind labels claims j) j (f .2) in
+      record { inside = omega (arith, f .1); earlier = r .0; isEarlier = r .1; unlike = r .2 })
       (λ j d. (omega arith, omega (arith, d .inside), every-fail (sameKind labels claims j) j (d .earlier) (d .isEarlier) (d .unlike)))
       (failing-finds (agrees labels claims) (length labels) 0)
 

@@ -53,7 +53,8 @@ AllSpelled word (x ∷ l) = Spelled word x × AllSpelled word l
 
 past-cut : (c : ℕ) (bs r : List ℕ) → mem c bs ≡ false → past c (bs ++ c ∷ r) ≡ r
 past-cut c [] r h = past-stop c c r (eq-eqb c c refl)
-past-cut c (b ∷ bs) r h = past-more c b (bs ++ c ∷ r) (ne-eqb c b (λ e. eqb-false b c (not-head c b bs h) (sym e))) ∙ past-cut c bs r (not-tail c b bs h)
+past-cut c (b ∷ bs) r h =
+    past-more c b (bs ++ c ∷ r) (ne-eqb c b (λ e. eqb-false b c (not-head c b bs h) (sym e))) ∙ past-cut c bs r (not-tail c b bs h)
 
 -- ---- one line
 module _ {A : Type 0} (word : List ℕ → Word A) (x : Line A) (h : Spelled word x) where
@@ -67,7 +68,13 @@ module _ {A : Type 0} (word : List ℕ → Word A) (x : Line A) (h : Spelled wor
   two-back : twoOf identOf word lineText ≡ value (x .id, x .is)
   unfolding twoOf
   two-back =
-      rw (mem-cut space (signedText (x .id)) (x .text), upTo-cut space (signedText (x .id)) (x .text) spaceless, past-cut space (signedText (x .id)) (x .text) spaceless, ident-back (x .id) (h .fits), h .said)
+      rw (
+        mem-cut space (signedText (x .id)) (x .text),
+        upTo-cut space (signedText (x .id)) (x .text) spaceless,
+        past-cut space (signedText (x .id)) (x .text) spaceless,
+        ident-back (x .id) (h .fits),
+        h .said,
+      )
 
   unbroken : mem lf lineText ≡ false
   unfolding within mem
@@ -81,7 +88,9 @@ wordsOf (x ∷ l) = (signedText (x .id) ++ (space ∷ x .text)) ∷ wordsOf l
 written : {A : Type 0} (l : List (Line A)) → claimText l ≡ joined (wordsOf l)
 unfolding claimText
 written [] = refl
-written (x ∷ l) = sym (append-assoc (signedText (x .id)) (space ∷ x .text) (lf ∷ claimText l)) ∙ ap (λ (t : List ℕ). (signedText (x .id) ++ (space ∷ x .text)) ++ lf ∷ t) (written l)
+written (x ∷ l) =
+    sym (append-assoc (signedText (x .id)) (space ∷ x .text) (lf ∷ claimText l))
+    ∙ ap (λ (t : List ℕ). (signedText (x .id) ++ (space ∷ x .text)) ++ lf ∷ t) (written l)
 
 spoken : {A : Type 0} (word : List ℕ → Word A) (l : List (Line A)) → AllSpelled word l → Says (twoOf identOf word) (wordsOf l) (linesOf l)
 spoken word [] h = tt
@@ -106,7 +115,8 @@ module _ (most : ℕ) where
   pub numbers-back : (l : List (Line ℤ)) → AllSpelled identOf l → length l ≤ most → numberLines most (claimText l) ≡ gives (linesOf l)
   numbers-back l h f = lines-back identOf most l h f
 
-  pub coefficients-back : (l : List (Line Decimal)) → AllSpelled decimalOf l → length l ≤ most → coefficientLines most (claimText l) ≡ gives (linesOf l)
+  pub coefficients-back : (l : List (Line Decimal)) → AllSpelled decimalOf l → length l ≤ most
+      → coefficientLines most (claimText l) ≡ gives (linesOf l)
   coefficients-back l h f = lines-back decimalOf most l h f
 
 -- ---- a claim that lists the reference output
@@ -150,10 +160,12 @@ module _ (most : ℕ) (ids : List ℤ) (few : length ids ≤ most) (fits : AllFi
 
     -- "the vertex values of the system's output" are the reference output
     pub exact-own : judgedBy ids (unequalLine values) (numberLines most (claimText (listed ids values))) ≡ accepted
-    exact-own = rw lines (exact-match ids values (linesOf (listed ids values)) (listed-ids ids values long) .1 (listed-values ids values long))
+    exact-own =
+        rw lines (exact-match ids values (linesOf (listed ids values)) (listed-ids ids values long) .1 (listed-values ids values long))
 
     -- they are a reference output renamed
-    pub equivalence-own : (f : ℤ → ℤ) → ((x y : ℤ) → f x ≡ f y → x ≡ y) → (reference : List ℤ) → length reference ≡ length ids → values ≡ map f reference
+    pub equivalence-own : (f : ℤ → ℤ) → ((x y : ℤ) → f x ≡ f y → x ≡ y) → (reference : List ℤ) → length reference ≡ length ids
+        → values ≡ map f reference
         → judgedBy ids (unlikeLine reference) (numberLines most (claimText (listed ids values))) ≡ accepted
     equivalence-own f apart reference n e =
         rw lines
@@ -161,6 +173,8 @@ module _ (most : ℕ) (ids : List ℤ) (few : length ids ≤ most) (fits : AllFi
         (rw (listed-values ids values long, e) (renamed f apart reference)))
 
   -- they are decimals, in any spelling, each close to its fraction
-  pub epsilon-own : (any : Decimal) (reference : List Fraction) (l : List (Line Decimal)) → AllSpelled decimalOf l → length l ≤ most → idsOf (linesOf l) ≡ ids
-      → Alike near (0, 1) any reference (valuesOf (linesOf l)) → judgedBy ids (farLine reference) (coefficientLines most (claimText l)) ≡ accepted
+  pub epsilon-own : (any : Decimal) (reference : List Fraction) (l : List (Line Decimal)) → AllSpelled decimalOf l → length l ≤ most
+      → idsOf (linesOf l) ≡ ids
+      → Alike near (0, 1) any reference (valuesOf (linesOf l))
+      → judgedBy ids (farLine reference) (coefficientLines most (claimText l)) ≡ accepted
   epsilon-own any reference l h f e a = rw (coefficients-back most l h f) (epsilon-match any ids reference (linesOf l) e .1 a)

@@ -20,7 +20,8 @@ use Rattle.basis.proofs.Orders.{signed-order}
 use Rattle.text.specs.declared.decimal.Decimal.{Decimal}
 use Rattle.matching.specs.Close.{apart, isClose}
 use Rattle.matching.specs.Claim.{idsOf, valuesOf}
-use Rattle.matching.specs.Verdict.{Verdict, matched, incompleteAt, mismatchAt, Fraction, near, firstLine, incompleteLine, unequalLine, sameKind, unlikeLine, farLine, verdictOf, judgedBy}
+use Rattle.matching.specs.Verdict.{Verdict, matched, incompleteAt, mismatchAt, Fraction, near, firstLine}
+use Rattle.matching.specs.Verdict.{incompleteLine, unequalLine, sameKind, unlikeLine, farLine, verdictOf, judgedBy}
 use Rattle.matching.specs.Good.{Least, Alike, Differs, EqualWhere, TwoWay}
 use Rattle.matching.proofs.Closeness.{cancel, window, ten-pos, zero-only}
 use Rattle.matching.proofs.Leasts.{first-least, line-exactly, unlike-none}
@@ -46,7 +47,8 @@ module _ (a b : ℕ) (s : Decimal) where
     λ t.
         let h : 10000 * apart (a * 10 ^ s .down) (b * (0 * 10 ^ s .up)) ≤ a * 10 ^ s .down = leb-true _ _ (rw z at t) in
         let g : a * 10 ^ s .down ≡ 0 = omega arith in
-        bool-cases (eqb a 0) (a ≡ 0) (λ q. eqb-true a 0 q) (λ q. absurd (omega (arith, mul-pos (pos-of-ne-zero (eqb-false a 0 q)) (ten-pos (s .down))))),
+        bool-cases (eqb a 0) (a ≡ 0) (λ q. eqb-true a 0 q)
+        (λ q. absurd (omega (arith, mul-pos (pos-of-ne-zero (eqb-false a 0 q)) (ten-pos (s .down))))),
     λ e. equality-matches (rw (e, z) (omega arith)),
   )
 
@@ -79,7 +81,8 @@ same-list xs ys =
     let f = line-exactly sameZ (pos 0) (pos 0) xs ys in (
       λ e.
           let h = f .0 e in
-          ext-getD (pos 0) ys xs (sym (h .long)) (λ i l. sym (signed-order .same-eq _ _ (h .everywhere i (subst (λ (j : ℕ). i < j) (sym (h .long)) l)))),
+          ext-getD (pos 0) ys xs (sym (h .long)) (λ i l.
+          sym (signed-order .same-eq _ _ (h .everywhere i (subst (λ (j : ℕ). i < j) (sym (h .long)) l)))),
       λ e. f .1 (record { long = sym (ap length e); everywhere = λ i l. rw e (signed-order .same-refl (getD xs i (pos 0))) }),
     )
 
@@ -115,8 +118,10 @@ module _ {A : Type 0} (ids : List ℤ) (mismatch : List A → ℕ) (l : List (�
     λ h. rw (complete-exactly .1 (h .0), h .1),
   )
 
-  -- "the first line whose identifier isn't the graph's at that place, or the first missing or surplus line": the least such place, counted from 1
-  pub incomplete-exactly : (i : ℕ) → (judgedBy ids mismatch (gives l) ≡ gives (incompleteAt (suc i))) ↔ Least (Differs sameZ (pos 0) (pos 0) ids (idsOf l)) i
+  -- "the first line whose identifier isn't the graph's at that place, or the first missing or surplus line":
+  -- the least such place, counted from 1
+  pub incomplete-exactly : (i : ℕ) → (judgedBy ids mismatch (gives l) ≡ gives (incompleteAt (suc i)))
+      ↔ Least (Differs sameZ (pos 0) (pos 0) ids (idsOf l)) i
   unfolding judgedBy
   incomplete-exactly i =
       let f = first-least sameZ (pos 0) (pos 0) ids (idsOf l) i in (
@@ -125,7 +130,8 @@ module _ {A : Type 0} (ids : List ℤ) (mismatch : List A → ℕ) (l : List (�
       )
 
   -- "Verdict 21, only for a complete claim, is a mismatch at its first line."
-  pub mismatch-exactly : (i : ℕ) → (judgedBy ids mismatch (gives l) ≡ gives (mismatchAt (suc i))) ↔ ((idsOf l ≡ ids) × (mismatch (valuesOf l) ≡ suc i))
+  pub mismatch-exactly : (i : ℕ) → (judgedBy ids mismatch (gives l) ≡ gives (mismatchAt (suc i)))
+      ↔ ((idsOf l ≡ ids) × (mismatch (valuesOf l) ≡ suc i))
   unfolding judgedBy
   mismatch-exactly i = (
     λ e. let z = mismatch-of (incompleteLine ids (idsOf l)) (mismatch (valuesOf l)) i e in (complete-exactly .0 (z .0), z .1),
@@ -136,7 +142,8 @@ module _ {A : Type 0} (ids : List ℤ) (mismatch : List A → ℕ) (l : List (�
   by-match x c = (λ e. x .0 (accepted-exactly .0 e .1), λ m. accepted-exactly .1 (c, x .1 m))
 
 -- ---- "Exact match": "the vertex values of the system's output should be identical to the reference output"
-pub exact-match : (ids reference : List ℤ) (l : List (ℤ × ℤ)) → idsOf l ≡ ids → (judgedBy ids (unequalLine reference) (gives l) ≡ accepted) ↔ (valuesOf l ≡ reference)
+pub exact-match : (ids reference : List ℤ) (l : List (ℤ × ℤ)) → idsOf l ≡ ids
+    → (judgedBy ids (unequalLine reference) (gives l) ≡ accepted) ↔ (valuesOf l ≡ reference)
 exact-match ids reference l = by-match ids (unequalLine reference) l (same-list reference (valuesOf l))
 
 -- ---- "Epsilon match": every decimal is close to the fraction of its vertex
@@ -151,7 +158,8 @@ beside [] vs z = z
 beside (k ∷ ks) [] z = z
 beside (k ∷ ks) (v ∷ vs) z = cond (sameZ k z) v (beside ks vs z)
 
-beside-at : (ks vs : List ℤ) → length ks ≡ length vs → (z w : ℤ) → ((j : ℕ) → j < length ks → sameZ (getD ks j (pos 0)) z ≡ true → getD vs j (pos 0) ≡ w)
+beside-at : (ks vs : List ℤ) → length ks ≡ length vs → (z w : ℤ)
+    → ((j : ℕ) → j < length ks → sameZ (getD ks j (pos 0)) z ≡ true → getD vs j (pos 0) ≡ w)
     → (i : ℕ) → i < length ks → sameZ (getD ks i (pos 0)) z ≡ true → beside ks vs z ≡ w
 unfolding beside
 beside-at [] vs e z w h i l t = absurd (not-suc-le-zero l)
@@ -166,7 +174,8 @@ beside-at (k ∷ ks) (v ∷ vs) e z w h i l t = by (sameZ k z) refl i l t (besid
 
 same-sym : (x y : ℤ) → sameZ x y ≡ sameZ y x
 same-sym x y =
-    same-test (sameZ x y) (sameZ y x) (λ t. rw (signed-order .same-eq x y t) (signed-order .same-refl y)) (λ t. rw (signed-order .same-eq y x t) (signed-order .same-refl x))
+    same-test (sameZ x y) (sameZ y x) (λ t. rw (signed-order .same-eq x y t) (signed-order .same-refl y))
+    (λ t. rw (signed-order .same-eq y x t) (signed-order .same-refl x))
 
 beq-eq : (s t : Bool) → Bool·beq s t ≡ true → s ≡ t
 beq-eq true true e = refl
@@ -181,7 +190,8 @@ beq-refl false = refl
 module _ (a b : List ℤ) where
   -- every two places agree in kind
   abbrev Kinds : Type 0
-  Kinds = (i j : ℕ) → i < length a → j < length a → sameZ (getD a i (pos 0)) (getD a j (pos 0)) ≡ sameZ (getD b i (pos 0)) (getD b j (pos 0))
+  Kinds = (i j : ℕ) → i < length a → j < length a → sameZ (getD a i (pos 0)) (getD a j (pos 0))
+      ≡ sameZ (getD b i (pos 0)) (getD b j (pos 0))
 
   kinds-of : unlikeLine a b ≡ 0 → Kinds
   unfolding sameKind
@@ -191,7 +201,8 @@ module _ (a b : List ℤ) where
         | no f ↦
             elim (ℕ-discrete i j) as (λ _. sameZ (getD a i (pos 0)) (getD a j (pos 0)) ≡ sameZ (getD b i (pos 0)) (getD b j (pos 0))) [
               | yes q ↦ rw q (signed-order .same-refl (getD a j (pos 0)) ∙ sym (signed-order .same-refl (getD b j (pos 0))))
-              | no d ↦ same-sym (getD a i (pos 0)) (getD a j (pos 0)) ∙ earlier j i l (omega arith) ∙ same-sym (getD b j (pos 0)) (getD b i (pos 0))
+              | no d ↦ same-sym (getD a i (pos 0)) (getD a j (pos 0)) ∙ earlier j i l (omega arith)
+                  ∙ same-sym (getD b j (pos 0)) (getD b i (pos 0))
             ]
       ]
     where
@@ -206,10 +217,12 @@ module _ (a b : List ℤ) where
   unfolding sameKind
   kinds-all h =
       unlike-none a b .1
-      (λ i d. clash (rw (h i (d .earlier) (d .inside) (omega (arith, d .isEarlier, d .inside))) (beq-refl (sameZ (getD b i (pos 0)) (getD b (d .earlier) (pos 0))))) (d .unlike))
+      (λ i d. clash (rw (h i (d .earlier) (d .inside) (omega (arith, d .isEarlier, d .inside)))
+      (beq-refl (sameZ (getD b i (pos 0)) (getD b (d .earlier) (pos 0))))) (d .unlike))
 
   -- "equal claims exactly where components are equal", for labels that are equal where places belong together
-  pub equal-exactly : (n : ℕ) → length a ≡ n → (Together : ℕ → ℕ → Type 0) → EqualWhere n Together a → (unlikeLine a b ≡ 0) ↔ EqualWhere n Together b
+  pub equal-exactly : (n : ℕ) → length a ≡ n → (Together : ℕ → ℕ → Type 0) → EqualWhere n Together a
+      → (unlikeLine a b ≡ 0) ↔ EqualWhere n Together b
   equal-exactly n e Together same = (
     λ z i j k l.
         let h = kinds-of z i j (omega arith) (omega arith) in (
@@ -232,15 +245,20 @@ module _ (a b : List ℤ) where
         record {
           there = beside b a;
           back = beside a b;
-          maps = λ i l. beside-at b a (sym e) (getD b i (pos 0)) (getD a i (pos 0)) (λ j k t. signed-order .same-eq _ _ (h j i (omega arith) l ∙ t)) i (omega arith) (signed-order .same-refl (getD b i (pos 0)));
-          inverse = λ i l. beside-at a b e (getD a i (pos 0)) (getD b i (pos 0)) (λ j k t. signed-order .same-eq _ _ (sym (h j i k l) ∙ t)) i l (signed-order .same-refl (getD a i (pos 0)));
+          maps = λ i l. beside-at b a (sym e) (getD b i (pos 0)) (getD a i (pos 0))
+              (λ j k t. signed-order .same-eq _ _ (h j i (omega arith) l ∙ t)) i (omega arith) (signed-order .same-refl (getD b i (pos 0)));
+          inverse =
+              λ i l. beside-at a b e (getD a i (pos 0)) (getD b i (pos 0)) (λ j k t. signed-order .same-eq _ _ (sym (h j i k l) ∙ t)) i l
+              (signed-order .same-refl (getD a i (pos 0)));
         }
 
     one-way : TwoWay a b → Kinds
     one-way w i j k l =
         same-test (sameZ (getD a i (pos 0)) (getD a j (pos 0))) (sameZ (getD b i (pos 0)) (getD b j (pos 0)))
-        (λ t. rw (sym (w .inverse i k) ∙ ap (w .back) (signed-order .same-eq _ _ t) ∙ w .inverse j l) (signed-order .same-refl (getD b j (pos 0))))
-        (λ t. rw (sym (w .maps i k) ∙ ap (w .there) (signed-order .same-eq _ _ t) ∙ w .maps j l) (signed-order .same-refl (getD a j (pos 0))))
+        (λ t. rw (sym (w .inverse i k) ∙ ap (w .back) (signed-order .same-eq _ _ t) ∙ w .inverse j l)
+        (signed-order .same-refl (getD b j (pos 0))))
+        (λ t. rw (sym (w .maps i k) ∙ ap (w .there) (signed-order .same-eq _ _ t) ∙ w .maps j l)
+        (signed-order .same-refl (getD a j (pos 0))))
 
     -- "all vertices which have the same label in the system's output also have the same label in the reference output, and vice versa"
     pub unlike-exactly : (unlikeLine a b ≡ 0) ↔ (TwoWay a b)
@@ -248,7 +266,9 @@ module _ (a b : List ℤ) where
 
 pub equivalence-match : (ids reference : List ℤ) (l : List (ℤ × ℤ)) → length reference ≡ length ids → idsOf l ≡ ids
     → (judgedBy ids (unlikeLine reference) (gives l) ≡ accepted) ↔ (TwoWay reference (valuesOf l))
-equivalence-match ids reference l n c = by-match ids (unlikeLine reference) l (unlike-exactly reference (valuesOf l) (n ∙ ap length (sym c) ∙ ids-length l ∙ sym (values-length l))) c
+equivalence-match ids reference l n c =
+    by-match ids (unlikeLine reference) l (unlike-exactly reference (valuesOf l)
+    (n ∙ ap length (sym c) ∙ ids-length l ∙ sym (values-length l))) c
 
 -- a reference output under a renaming that keeps labels apart
 map-at : (f : ℤ → ℤ) (l : List ℤ) (i : ℕ) → i < length l → getD (map f l) i (pos 0) ≡ f (getD l i (pos 0))

@@ -29,7 +29,8 @@ module _ (a b : List ℤ) (e : length a ≡ length b) (i : ℕ) (h : unequalLine
     unequal-later f = h ∙ first-later sameZ (pos 0) (pos 0) a b e i l (sym test ∙ not-false t f)
 
 -- ---- four numbers that went through the machine's bits: s and t are the tests of the first two and of the last two
-module _ (x y v w : ℤ) {x′ y′ v′ w′ : ℤ} (p : x′ ≡ x) (q : y′ ≡ y) (m : v′ ≡ v) (n : w′ ≡ w) {s t : Bool} (f : s ≡ sameZ x′ y′) (g : t ≡ sameZ v′ w′) where
+module _ (x y v w : ℤ) {x′ y′ v′ w′ : ℤ} (p : x′ ≡ x) (q : y′ ≡ y) (m : v′ ≡ v) (n : w′ ≡ w) {s t : Bool} (f : s ≡ sameZ x′ y′)
+    (g : t ≡ sameZ v′ w′) where
   tests : not (Bool·beq (sameZ x y) (sameZ v w)) ≡ not (Bool·beq s t)
   tests = sym (ap₂ (λ s t. not (Bool·beq s t)) (f ∙ ap₂ sameZ p q) (g ∙ ap₂ sameZ m n))
 
@@ -73,7 +74,8 @@ module _ (a b : List ℤ) (n i : ℕ) (h : unlikeLine a b ≡ failingLine (agree
 
       pub unlike-here : j < i → t ≡ true → i + 1 ≡ unlikeLine a b
       unfolding agrees
-      unlike-here f g = sym (h ∙ fails-here (agrees a b) n i l (every-fail (sameKind a b i) i j f (not-true (sameKind a b i j) (sym kind ∙ g))))
+      unlike-here f g =
+          sym (h ∙ fails-here (agrees a b) n i l (every-fail (sameKind a b i) i j f (not-true (sameKind a b i j) (sym kind ∙ g))))
 
       pub like-more : t ≡ false → every (j + 1) (sameKind a b i) ≡ true
       like-more g = every-more (sameKind a b i) j k (not-false (sameKind a b i j) (sym kind ∙ g))

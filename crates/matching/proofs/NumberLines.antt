@@ -64,7 +64,8 @@ module _ (most : ℕ) (ids : List ℤ) (s : List ℕ) where
 
   module _ {size : ℕ} {claimed : List ℤ} {place k incomplete : ℕ} (h : Numbers most ids s size claimed place k incomplete) where
     -- a claim that ends after k lines
-    ended : numberLines most s ≡ gives (h .done) → {l : ℕ} → l ≡ endLine (length ids) k incomplete → ReadOf most ids s size claimed (Lines l)
+    ended : numberLines most s ≡ gives (h .done) → {l : ℕ} → l ≡ endLine (length ids) k incomplete
+        → ReadOf most ids s size claimed (Lines l)
     unfolding endLine
     ended e {l} q =
         record {
@@ -83,19 +84,23 @@ module _ (most : ℕ) (ids : List ℤ) (s : List ℕ) where
 
     -- the line at the place
     module _ {x : EdgeLine} (e : edgeSays x ≡ claimLine s place) where
-      pub numbers-end : (c : Cursor) → x ≡ EL.End c → {i : ℕ} → i ≡ endLine (length ids) k incomplete → ReadOf most ids s size claimed (Lines i)
+      pub numbers-end : (c : Cursor) → x ≡ EL.End c → {i : ℕ} → i ≡ endLine (length ids) k incomplete
+          → ReadOf most ids s size claimed (Lines i)
       numbers-end c q = ended (passed-end (twoOf identOf identOf) claimFile most noTest s (h .passed) (c .at) (sym e ∙ ap edgeSays q))
 
       module _ (l : k < most) where
-        pub numbers-fault : (n : ℕ) (c : Cursor) → x ≡ EL.Fault n c → {r : Refusal} → r ≡ at n claimFile (k + 1) → ReadOf most ids s size claimed (Fault r)
+        pub numbers-fault : (n : ℕ) (c : Cursor) → x ≡ EL.Fault n c → {r : Refusal} → r ≡ at n claimFile (k + 1)
+            → ReadOf most ids s size claimed (Fault r)
         numbers-fault n c q p =
             record {
-              tells = passed-fault (twoOf identOf identOf) claimFile most noTest s (h .passed) l n (c .at) (sym e ∙ ap edgeSays q) ∙ ap refuses (sym p);
+              tells = passed-fault (twoOf identOf identOf) claimFile most noTest s (h .passed) l n (c .at) (sym e ∙ ap edgeSays q)
+                  ∙ ap refuses (sym p);
               kept = h .kept;
             }
 
         pub numbers-next : (id v : ℤ) (c : Cursor) → x ≡ EL.Line id v c → length ids ≤ size
-            → {i : ℕ} → i ≡ coverStep ids k (toZ w64 (ofZ w64 id)) incomplete → {left : List ℤ} → left ≡ cond (ltb k (length ids)) (set claimed k (toZ w64 (ofZ w64 v))) claimed
+            → {i : ℕ} → i ≡ coverStep ids k (toZ w64 (ofZ w64 id)) incomplete → {left : List ℤ}
+            → left ≡ cond (ltb k (length ids)) (set claimed k (toZ w64 (ofZ w64 v))) claimed
             → Numbers most ids s size left (c .at) (k + 1) i
         numbers-next id v c q room r r′ =
             record {
@@ -104,7 +109,8 @@ module _ (most : ℕ) (ids : List ℤ) (s : List ℕ) where
               covers = rw (ids-more (h .done) (id, v), r, p) covered;
               kept = rw r′ kept′;
               within = λ z. omega (arith, cover-zero ids k (toZ w64 (ofZ w64 id)) incomplete (sym r ∙ z) .1);
-              stored = λ z. rw (r′, values-more (h .done) (id, v)) (stored′ (cover-zero ids k (toZ w64 (ofZ w64 id)) incomplete (sym r ∙ z)));
+              stored = λ z. rw (r′, values-more (h .done) (id, v))
+                  (stored′ (cover-zero ids k (toZ w64 (ofZ w64 id)) incomplete (sym r ∙ z)));
             }
           where
             here : claimLine s place ≡ line (id, v) (c .at)
@@ -119,13 +125,17 @@ module _ (most : ℕ) (ids : List ℤ) (s : List ℕ) where
             kept′ : length (cond (ltb k (length ids)) (set claimed k (toZ w64 (ofZ w64 v))) claimed) ≡ size
             kept′ = bool-cases (ltb k (length ids)) _ (λ t. rw (t, length-set) (h .kept)) (λ t. rw t (h .kept))
 
-            stored′ : (incomplete ≡ 0) × (k < length ids) → take (k + 1) (cond (ltb k (length ids)) (set claimed k (toZ w64 (ofZ w64 v))) claimed) ≡ valuesOf (h .done) ++ (v ∷ [])
+            stored′ : (incomplete ≡ 0) × (k < length ids)
+                → take (k + 1) (cond (ltb k (length ids)) (set claimed k (toZ w64 (ofZ w64 v))) claimed) ≡ valuesOf (h .done) ++ (v ∷ [])
             stored′ f =
                 let g : k < length claimed = omega (arith, h .kept, f .1) in
-                rw (lt-ltb k (length ids) (f .1), add-one k) (take-suc-set claimed k (toZ w64 (ofZ w64 v)) g ∙ ap₂ (λ t x. t ++ (x ∷ [])) (h .stored (f .0)) (bits-back v (edge-range s place id v (c .at) here .1)))
+                rw (lt-ltb k (length ids) (f .1), add-one k)
+                (take-suc-set claimed k (toZ w64 (ofZ w64 v)) g
+                ∙ ap₂ (λ t x. t ++ (x ∷ [])) (h .stored (f .0)) (bits-back v (edge-range s place id v (c .at) here .1)))
 
     -- no line more is allowed, or none is left
-    pub numbers-over : most ≤ k → place < length s → {r : Refusal} → r ≡ at tooMany claimFile (k + 1) → ReadOf most ids s size claimed (Fault r)
+    pub numbers-over : most ≤ k → place < length s → {r : Refusal} → r ≡ at tooMany claimFile (k + 1)
+        → ReadOf most ids s size claimed (Fault r)
     numbers-over l g p =
         record { tells = passed-over (twoOf identOf identOf) claimFile most noTest s (h .passed) l g ∙ ap refuses (sym p); kept = h .kept }
 

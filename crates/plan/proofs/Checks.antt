@@ -22,7 +22,9 @@ use Rattle.text.proofs.Bytes.{upTo-cut}
 use Rattle.text.proofs.Words.{word-has, no-end, count-reads}
 use Rattle.plan.specs.Lines.{sheetFault, inSheet, begins}
 use Rattle.plan.specs.Jobs.{jobLine, jobSays}
-use Rattle.plan.specs.Sheet.{mostJobs, mostBytes, directedWord, undirectedWord, modeOf, modeLine, limited, countLine, anyOf, nextOf, linePast, linesPast, block, linesOf, section, plan, sections, ended, checked, checkedSays, modeSays, countLineSays, pastSays, sectionSays}
+use Rattle.plan.specs.Sheet.{mostJobs, mostBytes, directedWord, undirectedWord, modeOf, modeLine, limited}
+use Rattle.plan.specs.Sheet.{countLine, anyOf, nextOf, linePast, linesPast, block, linesOf, section, plan}
+use Rattle.plan.specs.Sheet.{sections, ended, checked, checkedSays, modeSays, countLineSays, pastSays, sectionSays}
 use Rattle.plan.specs.declared.job.Job.{Job}
 use Rattle.plan.specs.declared.job.JobLine.{JobLine}
 use Rattle.plan.specs.declared.job.JobLine.the-variants as JL
@@ -46,24 +48,29 @@ abbrev modeFrom : Bool → Bool → Word Bool
 modeFrom p q = cond p (value true) (cond q (value false) malformed)
 
 module _ (s : List ℕ) (p : Bool) (a : p ≡ begins (directedWord ++ (lf ∷ [])) (drop 0 s)) where
-  mode-by : (bs r : List ℕ) → Line s 0 bs r → modeFrom (begins (directedWord ++ (lf ∷ [])) (drop 0 s)) (begins (undirectedWord ++ (lf ∷ [])) (drop 0 s)) ≡ modeOf bs
+  mode-by : (bs r : List ℕ) → Line s 0 bs r → modeFrom (begins (directedWord ++ (lf ∷ [])) (drop 0 s))
+      (begins (undirectedWord ++ (lf ∷ [])) (drop 0 s)) ≡ modeOf bs
   unfolding modeOf mem
   mode-by bs r (e, k) = rw (e, begins-word lf directedWord bs r refl k, begins-word lf undirectedWord bs r refl k)
 
   pub mode-directed : p ≡ true → gives (true, 9) ≡ modeLine s
   unfolding mem
   mode-directed h =
-      line-said modeOf s 0 (scanned (value true) 9) (word-reads modeOf s 0 directedWord true 9 refl (sym a ∙ h) refl (λ bs r l. sym (mode-by bs r l) ∙ rw (sym a ∙ h)))
+      line-said modeOf s 0 (scanned (value true) 9)
+      (word-reads modeOf s 0 directedWord true 9 refl (sym a ∙ h) refl (λ bs r l. sym (mode-by bs r l) ∙ rw (sym a ∙ h)))
 
-  pub mode-undirected : p ≡ false → (q : Bool) → q ≡ begins (undirectedWord ++ (lf ∷ [])) (drop 0 s) → q ≡ true → gives (false, 11) ≡ modeLine s
+  pub mode-undirected : p ≡ false → (q : Bool) → q ≡ begins (undirectedWord ++ (lf ∷ [])) (drop 0 s) → q ≡ true
+      → gives (false, 11) ≡ modeLine s
   unfolding mem
   mode-undirected h q b g =
       line-said modeOf s 0 (scanned (value false) 11)
       (word-reads modeOf s 0 undirectedWord false 11 refl (sym b ∙ g) refl (λ bs r l. sym (mode-by bs r l) ∙ rw (sym a ∙ h, sym b ∙ g)))
 
-  pub mode-none : p ≡ false → (q : Bool) → q ≡ begins (undirectedWord ++ (lf ∷ [])) (drop 0 s) → q ≡ false → (r : Refusal) → r ≡ sheetFault s 0 badForm → refuses r ≡ modeLine s
+  pub mode-none : p ≡ false → (q : Bool) → q ≡ begins (undirectedWord ++ (lf ∷ [])) (drop 0 s) → q ≡ false → (r : Refusal)
+      → r ≡ sheetFault s 0 badForm → refuses r ≡ modeLine s
   mode-none h q b g r f =
-      ap refuses f ∙ line-said modeOf s 0 (scanned malformed 0) (none-reads modeOf s 0 0 (λ bs r l. sym (mode-by bs r l) ∙ rw (sym a ∙ h, sym b ∙ g)))
+      ap refuses f ∙ line-said modeOf s 0 (scanned malformed 0)
+      (none-reads modeOf s 0 0 (λ bs r l. sym (mode-by bs r l) ∙ rw (sym a ∙ h, sym b ∙ g)))
 
 -- ---- a count, by what the reader of digits answers
 module _ (s : List ℕ) (limit at : ℕ) where
@@ -73,7 +80,8 @@ module _ (s : List ℕ) (limit at : ℕ) where
 
   abbrev valueBy : ℕ → ℕ → Said (ℕ × ℕ)
   valueBy n next =
-      cond (hasAt s next lf) (cond (leb n limit) (gives (n, next + 1)) (refuses (sheetFault s at tooMany))) (refuses (sheetFault s at badForm))
+      cond (hasAt s next lf) (cond (leb n limit) (gives (n, next + 1)) (refuses (sheetFault s at tooMany)))
+      (refuses (sheetFault s at badForm))
 
   count-scanned : countBy (countAt s at) ≡ countLine limit s at
   unfolding countLine within
@@ -108,7 +116,8 @@ module _ (s : List ℕ) (limit at : ℕ) where
     count-value : (n p : ℕ) → x ≡ T.Value n p → valueBy n p ≡ countLine limit s at
     count-value n p e =
         let z : scanned (cutWord (countAt s at .said)) (countAt s at .next) ≡ scanned (value n) p = sym u ∙ ap countSays e in
-        ap (valueBy n) (sym (ap (λ y. y .next) z)) ∙ by-value (countAt s at .said) n (countAt s at .next) h (ap (λ y. y .said) z) ∙ count-scanned
+        ap (valueBy n) (sym (ap (λ y. y .next) z)) ∙ by-value (countAt s at .said) n (countAt s at .next) h (ap (λ y. y .said) z)
+        ∙ count-scanned
 
     module _ (n p : ℕ) (e : x ≡ T.Value n p) (t : Bool) (f : t ≡ hasAt s p lf) where
       pub count-open : not t ≡ true → (r : Refusal) → r ≡ sheetFault s at badForm → refuses r ≡ countLine limit s at
@@ -148,7 +157,8 @@ module _ (s : List ℕ) (jobs : Bool) (at : ℕ) where
         (record {
           ended = λ bs r d k.
               let q : end ≡ at + length bs = e ∙ ap (λ l. at + length l) (ap (upTo lf) d ∙ upTo-cut lf bs r k) in
-              let i : hasAt s (at + length bs) lf ≡ true = word-has s bs r at lf d (length bs) lf (omega arith) ∙ ap (λ (k : ℕ). eqb k lf) (getD-append-seam bs lf r 0) in
+              let i : hasAt s (at + length bs) lf ≡ true = word-has s bs r at lf d (length bs) lf (omega arith)
+              ∙ ap (λ (k : ℕ). eqb k lf) (getD-append-seam bs lf r 0) in
               clash (ap (λ k. hasAt s k lf) q ∙ i) (sym f ∙ g);
           unended = λ k. refl;
         }))
@@ -161,7 +171,8 @@ module _ {y : Said ℕ} (s : List ℕ) (jobs : Bool) where
   lines-end zero at h e = e
   lines-end (suc k) at h e = absurd (omega arith)
 
-  pub lines-more : (left at next : ℕ) (x : Past) → 0 < left → pastSays x ≡ linePast jobs s at → x ≡ P.Next next → linesPast jobs left s at ≡ y
+  pub lines-more : (left at next : ℕ) (x : Past) → 0 < left → pastSays x ≡ linePast jobs s at → x ≡ P.Next next
+      → linesPast jobs left s at ≡ y
       → linesPast jobs (left - 1) s next ≡ y
   unfolding linesPast
   lines-more zero at next x h u e f = absurd (omega arith)
@@ -170,7 +181,8 @@ module _ {y : Said ℕ} (s : List ℕ) (jobs : Bool) where
       let z : suc k - 1 ≡ k = omega arith in
       rw z (rw (linesPast, q) at f)
 
-  pub lines-refused : (left at : ℕ) (x : Past) (r : Refusal) → 0 < left → pastSays x ≡ linePast jobs s at → x ≡ P.Refused r → linesPast jobs left s at ≡ y
+  pub lines-refused : (left at : ℕ) (x : Past) (r : Refusal) → 0 < left → pastSays x ≡ linePast jobs s at → x ≡ P.Refused r
+      → linesPast jobs left s at ≡ y
       → refuses r ≡ y
   unfolding linesPast
   lines-refused zero at x r h u e f = absurd (omega arith)
@@ -233,7 +245,8 @@ module _ (s : List ℕ) where
     unfolding checked
     check-refused r e = rw (le-ltb mostBytes (length s) h, ← u, e)
 
-    pub check-more : (p : Plan) → x ≡ Ch.Good p → p .jobs .to < length s → (r : Refusal) → r ≡ sheetFault s (p .jobs .to) badForm → refuses r ≡ checked s
+    pub check-more : (p : Plan) → x ≡ Ch.Good p → p .jobs .to < length s → (r : Refusal) → r ≡ sheetFault s (p .jobs .to) badForm
+        → refuses r ≡ checked s
     unfolding checked
     check-more p e k r f = ap refuses f ∙ rw (le-ltb mostBytes (length s) h, ← u, e, lt-ltb (p .jobs .to) (length s) k)
 

@@ -51,9 +51,17 @@ jobFrom p q r t bs =
 
 module _ (s : List ℕ) (at : ℕ) where
   job-by : (bs r : List ℕ) → Line s at bs r
-      → jobFrom (begins bfsWord (drop at s)) (begins cdlpWord (drop at s)) (begins (wccWord ++ (lf ∷ [])) (drop at s)) (begins (lccWord ++ (lf ∷ [])) (drop at s)) bs ≡ jobOf bs
+      → jobFrom (begins bfsWord (drop at s)) (begins cdlpWord (drop at s)) (begins (wccWord ++ (lf ∷ [])) (drop at s))
+      (begins (lccWord ++ (lf ∷ [])) (drop at s)) bs ≡ jobOf bs
   unfolding jobOf mem
-  job-by bs r (e, k) = rw (e, begins-cut lf bfsWord bs r refl, begins-cut lf cdlpWord bs r refl, begins-word lf wccWord bs r refl k, begins-word lf lccWord bs r refl k)
+  job-by bs r (e, k) =
+      rw (
+        e,
+        begins-cut lf bfsWord bs r refl,
+        begins-cut lf cdlpWord bs r refl,
+        begins-word lf wccWord bs r refl k,
+        begins-word lf lccWord bs r refl k,
+      )
 
   made-well : {A B : Type 0} (f : A → B) (w : Word A) → wellFormed (made f w) ≡ wellFormed w
   made-well f malformed = refl
@@ -74,17 +82,24 @@ module _ (s : List ℕ) (at : ℕ) where
             (reads .unended (mem-right lf w (drop (at + length w) s) (rw (← drop-drop, ← begins-split w (drop at s) h) k)));
       }
     where
-      ended : (bs r : List ℕ) (e : drop at s ≡ bs ++ lf ∷ r) (k : mem lf bs ≡ false) → Reads lf identOf s (at + length w) (fieldAt s (at + length w) lf)
+      ended : (bs r : List ℕ) (e : drop at s ≡ bs ++ lf ∷ r) (k : mem lf bs ≡ false)
+          → Reads lf identOf s (at + length w) (fieldAt s (at + length w) lf)
           → Ends (at + length bs + 1) (jobOf bs) (withNumber bfs (fieldAt s (at + length w) lf))
       ended bs r e k reads =
           let b : begins w bs ≡ true = sym (begins-cut lf w bs r m) ∙ rw e at h in
           let l : length w ≤ length bs = begins-long w bs b in
-          let d : drop (at + length w) s ≡ drop (length w) bs ++ lf ∷ r = sym (drop-drop (length w) at s) ∙ ap (drop (length w)) e ∙ drop-append-le (length w) bs (lf ∷ r) l in
+          let d : drop (at + length w) s ≡ drop (length w) bs ++ lf ∷ r = sym (drop-drop (length w) at s) ∙ ap (drop (length w)) e
+          ∙ drop-append-le (length w) bs (lf ∷ r) l in
           let n : mem lf (drop (length w) bs) ≡ false = mem-right lf w (drop (length w) bs) (rw (← begins-split w bs b) k) in
-          let y : Ends (at + length w + length (drop (length w) bs) + 1) (identOf (drop (length w) bs)) (fieldAt s (at + length w) lf) = reads .ended (drop (length w) bs) r d n in
+          let y : Ends (at + length w + length (drop (length w) bs) + 1) (identOf (drop (length w) bs))
+          (fieldAt s (at + length w) lf) = reads .ended (drop (length w) bs) r d n in
           record {
             said = ap (made (jobBy bfs)) (y .said) ∙ sym (f bs r (e, k));
-            next = λ g. omega (arith, length-drop (length w) bs, y .next (sym (made-well (jobBy bfs) (identOf (drop (length w) bs))) ∙ sym (ap wellFormed (f bs r (e, k))) ∙ g));
+            next = λ g. omega (
+              arith,
+              length-drop (length w) bs,
+              y .next (sym (made-well (jobBy bfs) (identOf (drop (length w) bs))) ∙ sym (ap wellFormed (f bs r (e, k))) ∙ g),
+            );
           }
 
   module _ (p : Bool) (a : p ≡ begins bfsWord (drop at s)) where
@@ -93,12 +108,15 @@ module _ (s : List ℕ) (at : ℕ) where
     job-bfs h x e =
         e ∙ line-said jobOf s at _ (number-reads true bfsWord refl (sym a ∙ h) (λ bs r l. sym (job-by bs r l) ∙ rw (sym a ∙ h)))
 
-    pub job-cdlp : p ≡ false → (q : Bool) → q ≡ begins cdlpWord (drop at s) → q ≡ true → (x : JobLine) → jobSays x ≡ numberedAt s at (at + 5) false → jobSays x ≡ jobLine s at
+    pub job-cdlp : p ≡ false → (q : Bool) → q ≡ begins cdlpWord (drop at s) → q ≡ true → (x : JobLine)
+        → jobSays x ≡ numberedAt s at (at + 5) false → jobSays x ≡ jobLine s at
     unfolding numberedAt mem
     job-cdlp h q b g x e =
-        e ∙ line-said jobOf s at _ (number-reads false cdlpWord refl (sym b ∙ g) (λ bs r l. sym (job-by bs r l) ∙ rw (sym a ∙ h, sym b ∙ g)))
+        e ∙ line-said jobOf s at _ (number-reads false cdlpWord refl (sym b ∙ g)
+        (λ bs r l. sym (job-by bs r l) ∙ rw (sym a ∙ h, sym b ∙ g)))
 
-    module _ (h : p ≡ false) (q : Bool) (b : q ≡ begins cdlpWord (drop at s)) (g : q ≡ false) (t : Bool) (d : t ≡ begins (wccWord ++ (lf ∷ [])) (drop at s)) where
+    module _ (h : p ≡ false) (q : Bool) (b : q ≡ begins cdlpWord (drop at s)) (g : q ≡ false) (t : Bool)
+        (d : t ≡ begins (wccWord ++ (lf ∷ [])) (drop at s)) where
       pub job-wcc : t ≡ true → gives (Wcc, at + 4) ≡ jobLine s at
       unfolding mem
       job-wcc i =
@@ -111,7 +129,9 @@ module _ (s : List ℕ) (at : ℕ) where
           line-said jobOf s at (scanned (value Lcc) (at + 4)) (word-reads jobOf s at lccWord Lcc (at + 4) refl (sym k ∙ j) (omega arith)
           (λ bs r l. sym (job-by bs r l) ∙ rw (sym a ∙ h, sym b ∙ g, sym d ∙ i, sym k ∙ j)))
 
-      pub job-none : t ≡ false → (u : Bool) → u ≡ begins (lccWord ++ (lf ∷ [])) (drop at s) → u ≡ false → (r : Refusal) → r ≡ sheetFault s at badForm → refuses r ≡ jobLine s at
+      pub job-none : t ≡ false → (u : Bool) → u ≡ begins (lccWord ++ (lf ∷ [])) (drop at s) → u ≡ false → (r : Refusal)
+          → r ≡ sheetFault s at badForm → refuses r ≡ jobLine s at
       job-none i u k j r f =
           ap refuses f
-          ∙ line-said jobOf s at (scanned malformed at) (none-reads jobOf s at at (λ bs r l. sym (job-by bs r l) ∙ rw (sym a ∙ h, sym b ∙ g, sym d ∙ i, sym k ∙ j)))
+          ∙ line-said jobOf s at (scanned malformed at)
+          (none-reads jobOf s at at (λ bs r l. sym (job-by bs r l) ∙ rw (sym a ∙ h, sym b ∙ g, sym d ∙ i, sym k ∙ j)))

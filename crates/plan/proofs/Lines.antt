@@ -44,7 +44,8 @@ module _ (s : List ℕ) (at number i x : ℕ) (inv : number + lfs (drop i (take 
   number-end h = past-all (simp length-take (omega arith))
 
 -- ---- a line by what is scanned of it; a missing line is as one that is malformed
-pub line-said : {A : Type 0} (word : List ℕ → Word A) (s : List ℕ) (at : ℕ) (x : Scanned A) → Reads lf word s at x → inSheet s (lineOf at x) ≡ sheetLine word s at
+pub line-said : {A : Type 0} (word : List ℕ → Word A) (s : List ℕ) (at : ℕ) (x : Scanned A) → Reads lf word s at x
+    → inSheet s (lineOf at x) ≡ sheetLine word s at
 unfolding sheetLine mem
 line-said word s at x r =
     bool-cases (leb (length s) at) _
@@ -59,7 +60,8 @@ Line s at bs r = (drop at s ≡ bs ++ lf ∷ r) × (mem lf bs ≡ false)
 
 module _ {A : Type 0} (word : List ℕ → Word A) (s : List ℕ) (at : ℕ) where
   -- a line that is a word
-  pub word-reads : (w : List ℕ) (v : A) (next : ℕ) → mem lf w ≡ false → begins (w ++ (lf ∷ [])) (drop at s) ≡ true → next ≡ at + length w + 1
+  pub word-reads : (w : List ℕ) (v : A) (next : ℕ) → mem lf w ≡ false → begins (w ++ (lf ∷ [])) (drop at s) ≡ true
+      → next ≡ at + length w + 1
       → ((bs r : List ℕ) → Line s at bs r → word bs ≡ value v) → Reads lf word s at (scanned (value v) next)
   word-reads w v next m h n f =
       record {

@@ -25,7 +25,8 @@ use Rattle.text.proofs.Counts.{counts-one}
 use Rattle.text.proofs.Cuts.{Cut, line-cut, cut-line}
 use Rattle.plan.specs.Lines.{sheetFault, inSheet, sheetLine, isWord}
 use Rattle.plan.specs.Jobs.{jobOf}
-use Rattle.plan.specs.Sheet.{mostJobs, mostBytes, directedWord, undirectedWord, modeOf, modeLine, limited, countLine, anyOf, nextOf, linePast, linesPast, block, linesOf, section, plan, sections, ended, checked}
+use Rattle.plan.specs.Sheet.{mostJobs, mostBytes, directedWord, undirectedWord, modeOf, modeLine, limited, countLine}
+use Rattle.plan.specs.Sheet.{anyOf, nextOf, linePast, linesPast, block, linesOf, section, plan, sections, ended, checked}
 use Rattle.plan.specs.Form.{modeWord, SectionForm, sectionBytes, SheetForm}
 use Rattle.plan.specs.declared.sections.Block.{Block}
 use Rattle.plan.specs.declared.sections.Plan.{Plan}
@@ -42,12 +43,14 @@ module _ {A : Type 0} (word : List ℕ → Word A) (s : List ℕ) (place : ℕ) 
   unfolding sheetLine
   sheet-cut v next e = line-cut word s place v next (given-line (lineBy word s place) v next e)
 
-  cut-sheet : (w r : List ℕ) (v : A) → drop place s ≡ w ++ lf ∷ r → mem lf w ≡ false → word w ≡ value v → sheetLine word s place ≡ gives (v, place + length w + 1)
+  cut-sheet : (w r : List ℕ) (v : A) → drop place s ≡ w ++ lf ∷ r → mem lf w ≡ false → word w ≡ value v
+      → sheetLine word s place ≡ gives (v, place + length w + 1)
   unfolding sheetLine
   cut-sheet w r v e h g = ap (inSheet s) (cut-line word s place w r v e h g)
 
 -- ---- lines one after another: those of jobs, or any
-module _ {A : Type 0} (word : List ℕ → Word A) (jobs : Bool) (s : List ℕ) (same : (place : ℕ) → linePast jobs s place ≡ nextOf (sheetLine word s place)) where
+module _ {A : Type 0} (word : List ℕ → Word A) (jobs : Bool) (s : List ℕ)
+    (same : (place : ℕ) → linePast jobs s place ≡ nextOf (sheetLine word s place)) where
   record Lines (k place to : ℕ) : Type 0 where
     lines : List ℕ
     values : List A
@@ -64,7 +67,11 @@ module _ {A : Type 0} (word : List ℕ → Word A) (jobs : Bool) (s : List ℕ) 
       record {
         lines = c .w ++ lf ∷ l .lines;
         values = v ∷ l .values;
-        says = record { words = c .w ∷ l .says .words; whole = ap (λ (b : List ℕ). c .w ++ lf ∷ b) (l .says .whole); values = (c .whole, c .says, l .says .values) };
+        says = record {
+          words = c .w ∷ l .says .words;
+          whole = ap (λ (b : List ℕ). c .w ++ lf ∷ b) (l .says .whole);
+          values = (c .whole, c .says, l .says .values);
+        };
         many = ap suc (l .many);
         cut = c .cut ∙ ap (λ (b : List ℕ). c .w ++ lf ∷ b) (l .cut) ∙ sym (append-assoc (c .w) (lf ∷ l .lines) (drop to s));
         on = omega (arith, c .on, l .on, length-append (c .w) (lf ∷ l .lines));
@@ -74,10 +81,18 @@ module _ {A : Type 0} (word : List ℕ → Word A) (jobs : Bool) (s : List ℕ) 
   unfolding linesPast
   lines-cut zero place to e =
       let q : place ≡ to = given-one e in
-      record { lines = []; values = []; says = record { words = []; whole = refl; values = tt }; many = refl; cut = ap (λ (k : ℕ). drop k s) q; on = omega arith }
+      record {
+        lines = [];
+        values = [];
+        says = record { words = []; whole = refl; values = tt };
+        many = refl;
+        cut = ap (λ (k : ℕ). drop k s) q;
+        on = omega arith;
+      }
   lines-cut (suc k) place to e = go (linePast jobs s place) refl (lines-cut k)
     where
-      go : (x : Said ℕ) → linePast jobs s place ≡ x → ((next to : ℕ) → linesPast jobs k s next ≡ gives to → Lines k next to) → Lines (suc k) place to
+      go : (x : Said ℕ) → linePast jobs s place ≡ x → ((next to : ℕ) → linesPast jobs k s next ≡ gives to → Lines k next to)
+          → Lines (suc k) place to
       go (refuses r) q f = refused-given (rw (linesPast, q) at e)
       go (gives next) q f = first-line k place to next (sym (same place) ∙ q) (f next to (rw (linesPast, q) at e))
 
@@ -89,12 +104,15 @@ module _ {A : Type 0} (word : List ℕ → Word A) (jobs : Bool) (s : List ℕ) 
   lines-back (w ∷ ws) [] place r e h = absurd h
   lines-back (w ∷ ws) (v ∷ vs) place r e h =
       let c = e ∙ append-assoc w (lf ∷ joined ws) r in
-      let q : linePast jobs s place ≡ gives (place + length w + 1) = same place ∙ ap nextOf (cut-sheet word s place w (joined ws ++ r) v c (h .0) (h .1)) in
+      let q : linePast jobs s place ≡ gives (place + length w + 1) = same place
+      ∙ ap nextOf (cut-sheet word s place w (joined ws ++ r) v c (h .0) (h .1)) in
       let a = length-append w (lf ∷ joined ws) in
-      rw (linesPast, q) (lines-back ws vs (place + length w + 1) r (drop-past s w (joined ws ++ r) place lf c) (h .2) ∙ ap gives (omega arith))
+      rw (linesPast, q) (lines-back ws vs (place + length w + 1) r (drop-past s w (joined ws ++ r) place lf c) (h .2)
+      ∙ ap gives (omega arith))
 
 -- ---- a section, by its bytes
-module _ {A : Type 0} (word : List ℕ → Word A) (jobs : Bool) (limit : ℕ) (s : List ℕ) (same : (place : ℕ) → linePast jobs s place ≡ nextOf (sheetLine word s place)) where
+module _ {A : Type 0} (word : List ℕ → Word A) (jobs : Bool) (limit : ℕ) (s : List ℕ)
+    (same : (place : ℕ) → linePast jobs s place ≡ nextOf (sheetLine word s place)) where
   record SectionCut (place : ℕ) (b : Block) : Type 0 where
     form : SectionForm word limit place b
     cut : drop place s ≡ sectionBytes form ++ drop (b .to) s
@@ -106,10 +124,21 @@ module _ {A : Type 0} (word : List ℕ → Word A) (jobs : Bool) (limit : ℕ) (
       by true q h = (leb-true (c .0) limit q, given-one h)
       by false q h = refused-given h
 
-  section-made : (place n from to : ℕ) → Cut countOf s place n from → n ≤ limit → Lines word jobs s same n from to → SectionCut place (block n from to)
+  section-made : (place n from to : ℕ) → Cut countOf s place n from → n ≤ limit → Lines word jobs s same n from to
+      → SectionCut place (block n from to)
   section-made place n from to c few l =
       record {
-        form = record { count = c .w; counted = c .says; few = few; lines = l .lines; values = l .values; says = l .says; many = l .many; from = c .on; to = l .on };
+        form = record {
+          count = c .w;
+          counted = c .says;
+          few = few;
+          lines = l .lines;
+          values = l .values;
+          says = l .says;
+          many = l .many;
+          from = c .on;
+          to = l .on;
+        };
         cut = c .cut ∙ ap (λ (b : List ℕ). c .w ++ lf ∷ b) (l .cut) ∙ sym (append-assoc (c .w) (lf ∷ l .lines) (drop to s));
       }
 
@@ -124,7 +153,8 @@ module _ {A : Type 0} (word : List ℕ → Word A) (jobs : Bool) (limit : ℕ) (
       let l = said-gives (block n from) (linesPast jobs n s from) b (sym (x .2)) in
       let few : n ≤ limit = omega (arith, z .0, ap (λ (c : ℕ × ℕ). c .0) (z .1)) in
       subst (SectionCut place) (sym (l .2))
-      (section-made place n from (l .0) (sheet-cut countOf s place n from (y .1 ∙ ap gives (z .1))) few (lines-cut word jobs s same n from (l .0) (l .1)))
+      (section-made place n from (l .0) (sheet-cut countOf s place n from (y .1 ∙ ap gives (z .1))) few
+      (lines-cut word jobs s same n from (l .0) (l .1)))
 
   module _ (place : ℕ) (b : Block) (x : SectionForm word limit place b) (r : List ℕ) (e : drop place s ≡ sectionBytes x ++ r) where
     count-first : drop place s ≡ x .count ++ lf ∷ (x .lines ++ r)
@@ -138,17 +168,21 @@ module _ {A : Type 0} (word : List ℕ → Word A) (jobs : Bool) (limit : ℕ) (
 
     section-past : drop (b .to) s ≡ r
     section-past =
-        ap (λ (k : ℕ). drop k s) (x .to) ∙ sym (drop-drop (length (x .lines)) (b .from) s) ∙ ap (drop (length (x .lines))) lines-at ∙ drop-append-seam (x .lines) r
+        ap (λ (k : ℕ). drop k s) (x .to) ∙ sym (drop-drop (length (x .lines)) (b .from) s) ∙ ap (drop (length (x .lines))) lines-at
+        ∙ drop-append-seam (x .lines) r
 
     section-back : section jobs limit s place ≡ gives b
     unfolding section countLine within
     section-back =
-        let m : mem lf (x .count) ≡ false = false-of (mem lf (x .count)) (λ h. no-case (let z : value (b .count) ≡ malformed = sym (x .counted) ∙ count-stray lf refl (x .count) h in cc)) in
+        let m : mem lf (x .count) ≡ false = false-of (mem lf (x .count))
+        (λ h. no-case (let z : value (b .count) ≡ malformed = sym (x .counted) ∙ count-stray lf refl (x .count) h in cc)) in
         let c : sheetLine countOf s place ≡ gives (b .count, b .from) =
-        cut-sheet countOf s place (x .count) (x .lines ++ r) (b .count) count-first m (x .counted) ∙ ap (λ (k : ℕ). gives (b .count, k)) (sym (x .from)) in
+        cut-sheet countOf s place (x .count) (x .lines ++ r) (b .count) count-first m (x .counted)
+        ∙ ap (λ (k : ℕ). gives (b .count, k)) (sym (x .from)) in
         let l : linesPast jobs (b .count) s (b .from) ≡ gives (b .to) =
         ap (λ (k : ℕ). linesPast jobs k s (b .from)) (sym (x .many))
-        ∙ lines-back word jobs s same (x .says .words) (x .values) (b .from) r (lines-at ∙ ap (λ (a : List ℕ). a ++ r) (x .says .whole)) (x .says .values)
+        ∙ lines-back word jobs s same (x .says .words) (x .values) (b .from) r (lines-at ∙ ap (λ (a : List ℕ). a ++ r) (x .says .whole))
+        (x .says .values)
         ∙ ap gives (omega (arith, x .to, ap length (x .says .whole))) in
         rw (c, le-leb (b .count) limit (x .few), l)
 
@@ -157,7 +191,8 @@ mode-word : (w : List ℕ) (d : Bool) → modeOf w ≡ value d → w ≡ modeWor
 unfolding modeOf
 mode-word w d e = by (isWord directedWord w) refl (isWord undirectedWord w) refl d e
   where
-    by : (t : Bool) → isWord directedWord w ≡ t → (u : Bool) → isWord undirectedWord w ≡ u → (d : Bool) → cond t (value true) (cond u (value false) malformed) ≡ value d → w ≡ modeWord d
+    by : (t : Bool) → isWord directedWord w ≡ t → (u : Bool) → isWord undirectedWord w ≡ u → (d : Bool)
+        → cond t (value true) (cond u (value false) malformed) ≡ value d → w ≡ modeWord d
     by true q u r true h = is-word directedWord w q
     by true q u r false h = no-case cc
     by false q true r true h = no-case cc
@@ -182,13 +217,15 @@ job-same : (s : List ℕ) (place : ℕ) → linePast true s place ≡ nextOf (sh
 job-same s place = refl
 
 module _ (s : List ℕ) (short : length s ≤ mostBytes) where
-  sections-form : (d : Bool) (m : ℕ) (v e j : Block) → sheetLine modeOf s 0 ≡ gives (d, m) → section false deskVertices s m ≡ gives v → section false deskEdges s (v .to) ≡ gives e
+  sections-form : (d : Bool) (m : ℕ) (v e j : Block) → sheetLine modeOf s 0 ≡ gives (d, m) → section false deskVertices s m ≡ gives v
+      → section false deskEdges s (v .to) ≡ gives e
       → section true mostJobs s (e .to) ≡ gives j → length s ≤ j .to → SheetForm s (plan d v e j)
   sections-form d m v e j a b c f g =
       let w = sheet-cut modeOf s 0 d m a in
       let q : w .w ≡ modeWord d = mode-word (w .w) d (w .says) in
       let k : m ≡ length (modeWord d) + 1 = omega (arith, w .on, ap length q) in
-      let x = section-cut anyOf false deskVertices s (any-same s) (length (modeWord d) + 1) v (ap (section false deskVertices s) (sym k) ∙ b) in
+      let x = section-cut anyOf false deskVertices s (any-same s) (length (modeWord d) + 1) v
+      (ap (section false deskVertices s) (sym k) ∙ b) in
       let y = section-cut anyOf false deskEdges s (any-same s) (v .to) e c in
       let z = section-cut jobOf true mostJobs s (job-same s) (e .to) j f in
       record {
@@ -206,9 +243,12 @@ module _ (s : List ℕ) (short : length s ≤ mostBytes) where
         short = short;
       }
 
-  sections-by : (p : Plan) (d : Bool) (m : ℕ) (v e j : Block) → sheetLine modeOf s 0 ≡ gives (d, m) → section false deskVertices s m ≡ gives v
-      → section false deskEdges s (v .to) ≡ gives e → section true mostJobs s (e .to) ≡ gives j → plan d v e j ≡ p → length s ≤ p .jobs .to → SheetForm s p
-  sections-by p d m v e j a b c f q g = subst (SheetForm s) q (sections-form d m v e j a b c f (omega (arith, ap (λ (x : Plan). x .jobs .to) q)))
+  sections-by : (p : Plan) (d : Bool) (m : ℕ) (v e j : Block) → sheetLine modeOf s 0 ≡ gives (d, m)
+      → section false deskVertices s m ≡ gives v
+      → section false deskEdges s (v .to) ≡ gives e → section true mostJobs s (e .to) ≡ gives j → plan d v e j ≡ p → length s ≤ p .jobs .to
+      → SheetForm s p
+  sections-by p d m v e j a b c f q g =
+      subst (SheetForm s) q (sections-form d m v e j a b c f (omega (arith, ap (λ (x : Plan). x .jobs .to) q)))
 
   sections-cut : (p : Plan) → sections s ≡ gives p → length s ≤ p .jobs .to → SheetForm s p
   unfolding sections
@@ -222,7 +262,8 @@ module _ (s : List ℕ) (short : length s ≤ mostBytes) where
 ended-passed : (s : List ℕ) (x p : Plan) → ended s x ≡ gives p → (length s ≤ p .jobs .to) × (x ≡ p)
 ended-passed s x p e = by (ltb (x .jobs .to) (length s)) refl e
   where
-    by : (t : Bool) → ltb (x .jobs .to) (length s) ≡ t → cond t (refuses (sheetFault s (x .jobs .to) badForm)) (gives x) ≡ gives p → (length s ≤ p .jobs .to) × (x ≡ p)
+    by : (t : Bool) → ltb (x .jobs .to) (length s) ≡ t → cond t (refuses (sheetFault s (x .jobs .to) badForm)) (gives x) ≡ gives p
+        → (length s ≤ p .jobs .to) × (x ≡ p)
     by true q h = refused-given h
     by false q h = let k : x ≡ p = given-one h in (omega (arith, ltb-false (x .jobs .to) (length s) q, ap (λ (y : Plan). y .jobs .to) k), k)
 
@@ -231,7 +272,8 @@ pub accepted-form : (s : List ℕ) (p : Plan) → checked s ≡ gives p → Shee
 unfolding checked
 accepted-form s p e = by (ltb mostBytes (length s)) refl e
   where
-    by : (t : Bool) → ltb mostBytes (length s) ≡ t → cond t (refuses (at tooMany sheetFile 0)) (onward (sections s) (ended s)) ≡ gives p → SheetForm s p
+    by : (t : Bool) → ltb mostBytes (length s) ≡ t → cond t (refuses (at tooMany sheetFile 0)) (onward (sections s) (ended s)) ≡ gives p
+        → SheetForm s p
     by true q h = refused-given h
     by false q h =
         let x = onward-passed (sections s) (ended s) p h in
@@ -257,20 +299,29 @@ module _ (s : List ℕ) (p : Plan) (f : SheetForm s p) where
 
   at-mode : sheetLine modeOf s 0 ≡ gives (p .directed, start)
   at-mode =
-      cut-sheet modeOf s 0 (modeWord (p .directed)) (vertexBytes ++ (edgeBytes ++ jobBytes)) (p .directed) (f .whole) (mode-whole (p .directed)) (mode-value (p .directed))
+      cut-sheet modeOf s 0 (modeWord (p .directed)) (vertexBytes ++ (edgeBytes ++ jobBytes)) (p .directed) (f .whole)
+      (mode-whole (p .directed)) (mode-value (p .directed))
       ∙ ap (λ (n : ℕ). gives (p .directed, n)) start-is
 
   at-vertices : drop start s ≡ vertexBytes ++ (edgeBytes ++ jobBytes)
-  at-vertices = ap (λ (n : ℕ). drop n s) (sym start-is) ∙ drop-past s (modeWord (p .directed)) (vertexBytes ++ (edgeBytes ++ jobBytes)) 0 lf (f .whole)
+  at-vertices =
+      ap (λ (n : ℕ). drop n s) (sym start-is) ∙ drop-past s (modeWord (p .directed)) (vertexBytes ++ (edgeBytes ++ jobBytes)) 0 lf
+      (f .whole)
 
   at-edges : drop (p .vertices .to) s ≡ edgeBytes ++ jobBytes
   at-edges = section-past anyOf false deskVertices s (any-same s) start (p .vertices) (f .vertices) (edgeBytes ++ jobBytes) at-vertices
 
   at-jobs : drop (p .edges .to) s ≡ jobBytes ++ []
-  at-jobs = section-past anyOf false deskEdges s (any-same s) (p .vertices .to) (p .edges) (f .edges) jobBytes at-edges ∙ sym (append-nil jobBytes)
+  at-jobs =
+      section-past anyOf false deskEdges s (any-same s) (p .vertices .to) (p .edges) (f .edges) jobBytes at-edges
+      ∙ sym (append-nil jobBytes)
 
   at-end : length s ≤ p .jobs .to
-  at-end = omega (arith, ap length (section-past jobOf true mostJobs s (job-same s) (p .edges .to) (p .jobs) (f .jobs) [] at-jobs), length-drop (p .jobs .to) s)
+  at-end = omega (
+    arith,
+    ap length (section-past jobOf true mostJobs s (job-same s) (p .edges .to) (p .jobs) (f .jobs) [] at-jobs),
+    length-drop (p .jobs .to) s,
+  )
 
   -- bytes of that form are accepted with that plan
   pub form-accepted : checked s ≡ gives p
@@ -300,7 +351,8 @@ pub sheet-accepted : (s : List ℕ) (p : Plan) → (checked s ≡ gives p) ↔ S
 sheet-accepted s p = (accepted-form s p, form-accepted s p)
 
 -- an accepted sheet's bytes are fixed by its plan and its lines: the mode line and the three counts are those of the plan
-pub sheet-fixed : (s t : List ℕ) (p : Plan) (f : SheetForm s p) (g : SheetForm t p) → f .vertices .lines ≡ g .vertices .lines → f .edges .lines ≡ g .edges .lines
+pub sheet-fixed : (s t : List ℕ) (p : Plan) (f : SheetForm s p) (g : SheetForm t p) → f .vertices .lines ≡ g .vertices .lines
+    → f .edges .lines ≡ g .edges .lines
     → f .jobs .lines ≡ g .jobs .lines → s ≡ t
 sheet-fixed s t p f g a b c =
     f .whole
@@ -308,7 +360,8 @@ sheet-fixed s t p f g a b c =
     (both (same-section (f .vertices) (g .vertices) a) (both (same-section (f .edges) (g .edges) b) (same-section (f .jobs) (g .jobs) c)))
     ∙ sym (g .whole)
   where
-    same-section : {A : Type 0} {word : List ℕ → Word A} {limit place : ℕ} {b : Block} (x y : SectionForm word limit place b) → x .lines ≡ y .lines → sectionBytes x ≡ sectionBytes y
+    same-section : {A : Type 0} {word : List ℕ → Word A} {limit place : ℕ} {b : Block} (x y : SectionForm word limit place b)
+        → x .lines ≡ y .lines → sectionBytes x ≡ sectionBytes y
     same-section {A} {word} {limit} {place} {b} x y e = let q = counts-one (x .count) (y .count) (b .count) (x .counted) (y .counted) in cc
 
     both : {k l m n : List ℕ} → k ≡ m → l ≡ n → k ++ l ≡ m ++ n

@@ -15,7 +15,8 @@ use Rattle.text.specs.Line.{LineSaid, line, none, fault, lineBy}
 use Rattle.text.proofs.Places.{Moved, Placed, places}
 use Rattle.plan.specs.Lines.{inSheet, sheetLine}
 use Rattle.plan.specs.Jobs.{jobOf}
-use Rattle.plan.specs.Sheet.{mostJobs, mostBytes, modeOf, limited, countLine, anyOf, nextOf, linePast, linesPast, block, linesOf, section, sections, ended, checked}
+use Rattle.plan.specs.Sheet.{mostJobs, mostBytes, modeOf, limited, countLine, anyOf, nextOf}
+use Rattle.plan.specs.Sheet.{linePast, linesPast, block, linesOf, section, sections, ended, checked}
 use Rattle.plan.specs.declared.sections.Block.{Block}
 use Rattle.plan.specs.declared.sections.Plan.{Plan}
 
@@ -36,7 +37,8 @@ pub sheet-line : {A : Type 0} (word : List ℕ → Word A) (s : List ℕ) (place
 unfolding sheetLine
 sheet-line word s place = line-past s place (lineBy word s place) (places word s place)
 
-pub line-moved : {A : Type 0} (word : List ℕ → Word A) (s : List ℕ) (place : ℕ) (v : A) (next : ℕ) → sheetLine word s place ≡ gives (v, next) → Moved s place next
+pub line-moved : {A : Type 0} (word : List ℕ → Word A) (s : List ℕ) (place : ℕ) (v : A) (next : ℕ)
+    → sheetLine word s place ≡ gives (v, next) → Moved s place next
 line-moved word s place v next e = rw e at (sheet-line word s place)
 
 -- ---- lines: forward, or not at all, and within the sheet
@@ -61,7 +63,8 @@ lines-in jobs (suc k) s place h = by (λ next g. lines-in jobs k s next g) (line
     after next m (gives to) w = record { rise = omega (arith, m .forward, w .rise); inside = w .inside }
     after next m (refuses r) w = tt
 
-    by : ((next : ℕ) → next ≤ length s → Gives (Within s next) (linesPast jobs k s next)) → (x : Said ℕ) → linePast jobs s place ≡ x → Gives (Moved s place) x → Gives (Within s place) (linesPast jobs (suc k) s place)
+    by : ((next : ℕ) → next ≤ length s → Gives (Within s next) (linesPast jobs k s next)) → (x : Said ℕ) → linePast jobs s place ≡ x
+        → Gives (Moved s place) x → Gives (Within s place) (linesPast jobs (suc k) s place)
     by ih (gives next) e m = rw (linesPast, e) (after next m (linesPast jobs k s next) (ih next (m .inside)))
     by ih (refuses r) e m = rw (linesPast, e) tt
 
@@ -74,9 +77,11 @@ pub section-in : (jobs : Bool) (limit : ℕ) (s : List ℕ) (place : ℕ) → Gi
 unfolding section countLine
 section-in jobs limit s place =
     either-onward (λ c. Moved s place (c .1) × c .0 ≤ limit) (Placed-block s limit) Any (countLine limit s place) (linesOf jobs s)
-    (either-onward (Past s place) (λ c. Moved s place (c .1) × c .0 ≤ limit) Any (sheetLine countOf s place) (limited limit s place) (sheet-line countOf s place)
+    (either-onward (Past s place) (λ c. Moved s place (c .1) × c .0 ≤ limit) Any (sheetLine countOf s place) (limited limit s place)
+    (sheet-line countOf s place)
     (λ c m. either-cond _ Any (leb (c .0) limit) (gives c) _ (λ e. (m, leb-true (c .0) limit e)) (λ e. tt)))
-    (λ c h. either-onward (Within s (c .1)) (Placed-block s limit) Any (linesPast jobs (c .0) s (c .1)) (λ to. gives (block (c .0) (c .1) to))
+    (λ c h. either-onward (Within s (c .1)) (Placed-block s limit) Any (linesPast jobs (c .0) s (c .1))
+    (λ to. gives (block (c .0) (c .1) to))
     (lines-in jobs (c .0) s (c .1) (h .0 .inside))
     (λ to w. record { lines = w; few = h .1 }))
 
@@ -91,9 +96,12 @@ sections-in : (s : List ℕ) → Gives (Placed-plan s) (sections s)
 unfolding sections
 sections-in s =
     either-onward (Past s 0) (Placed-plan s) Any (sheetLine modeOf s 0) _ (sheet-line modeOf s 0)
-    (λ mode m. either-onward (Placed-block s deskVertices) (Placed-plan s) Any (section false deskVertices s (mode .1)) _ (section-in false deskVertices s (mode .1))
-    (λ vertices v. either-onward (Placed-block s deskEdges) (Placed-plan s) Any (section false deskEdges s (vertices .to)) _ (section-in false deskEdges s (vertices .to))
-    (λ edges e. either-onward (Placed-block s mostJobs) (Placed-plan s) Any (section true mostJobs s (edges .to)) _ (section-in true mostJobs s (edges .to))
+    (λ mode m. either-onward (Placed-block s deskVertices) (Placed-plan s) Any (section false deskVertices s (mode .1)) _
+    (section-in false deskVertices s (mode .1))
+    (λ vertices v. either-onward (Placed-block s deskEdges) (Placed-plan s) Any (section false deskEdges s (vertices .to)) _
+    (section-in false deskEdges s (vertices .to))
+    (λ edges e. either-onward (Placed-block s mostJobs) (Placed-plan s) Any (section true mostJobs s (edges .to)) _
+    (section-in true mostJobs s (edges .to))
     (λ jobs j. record { vertices = v .lines; edges = e .lines; jobs = j .lines; few = j .few }))))
 
 -- a sheet that is accepted

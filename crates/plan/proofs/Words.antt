@@ -27,7 +27,8 @@ begins-has s p b w =
 
 module _ (s w : List ℕ) (p i : ℕ) (x : Bool) (inv : begins (drop i w) (drop p s) ≡ x) where
   begins-step : i < length w → (hasAt s p (getD w i 0) && begins (drop (i + 1) w) (drop (p + 1) s)) ≡ x
-  begins-step h = sym (begins-has s p (getD w i 0) (drop (i + 1) w)) ∙ ap (λ l. begins l (drop p s)) (rw add-one (sym (drop-cons w i 0 h))) ∙ inv
+  begins-step h =
+      sym (begins-has s p (getD w i 0) (drop (i + 1) w)) ∙ ap (λ l. begins l (drop p s)) (rw add-one (sym (drop-cons w i 0 h))) ∙ inv
 
   pub begins-not : (t : Bool) → i < length w → t ≡ hasAt s p (getD w i 0) → not t ≡ true → false ≡ x
   begins-not t h e n = rw (failed t _ e n) at (begins-step h)

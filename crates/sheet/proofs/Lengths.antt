@@ -39,7 +39,8 @@ use Rattle.plan.specs.declared.job.Job.{Job}
 use Rattle.plan.specs.declared.job.Job.the-variants as J
 use Rattle.plan.proofs.Places.{line-moved}
 use Rattle.text.proofs.Places.{Moved, Small}
-use Rattle.listing.specs.Listing.{slash, refusedWord, spacedText, numbersText, refusedText, headText, namedText, pairText, fractionText, ratioText, pairLines, ratioLines}
+use Rattle.listing.specs.Listing.{slash, refusedWord, spacedText, numbersText, refusedText, headText}
+use Rattle.listing.specs.Listing.{namedText, pairText, fractionText, ratioText, pairLines, ratioLines}
 use Rattle.sheet.specs.Jobs.{zeros, zerosZ, answered, bfsText, wccText, cdlpText, lccText, jobText, between, jobsText}
 
 -- ---- an identifier has at most 20 bytes, a number of at most 7 digits 7
@@ -62,16 +63,29 @@ named-most id h = omega (arith, length-append (signedText id) (space ∷ []), si
 pair-most : (id v : ℤ) → Small id → Small v → length (pairText id v) ≤ 42
 unfolding pairText
 pair-most id v h g =
-    omega (arith, length-append (namedText id) (signedText v ++ (lf ∷ [])), length-append (signedText v) (lf ∷ []), named-most id h, signed-most v g)
+    omega (
+      arith,
+      length-append (namedText id) (signedText v ++ (lf ∷ [])),
+      length-append (signedText v) (lf ∷ []),
+      named-most id h,
+      signed-most v g,
+    )
 
 fraction-most : (n d : ℕ) → Short n → Short d → length (fractionText n d) ≤ 15
 unfolding fractionText
-fraction-most n d h g = omega (arith, length-append (decimal n) (slash ∷ decimal d), decimal-long 7 n (omega arith) h, decimal-long 7 d (omega arith) g)
+fraction-most n d h g =
+    omega (arith, length-append (decimal n) (slash ∷ decimal d), decimal-long 7 n (omega arith) h, decimal-long 7 d (omega arith) g)
 
 ratio-most : (id : ℤ) (n d : ℕ) → Small id → Short n → Short d → length (ratioText id n d) ≤ 42
 unfolding ratioText
 ratio-most id n d h g k =
-    omega (arith, length-append (namedText id) (fractionText n d ++ (lf ∷ [])), length-append (fractionText n d) (lf ∷ []), named-most id h, fraction-most n d g k)
+    omega (
+      arith,
+      length-append (namedText id) (fractionText n d ++ (lf ∷ [])),
+      length-append (fractionText n d) (lf ∷ []),
+      named-most id h,
+      fraction-most n d g k,
+    )
 
 pairs-most : (ids vs : List ℤ) → All Small ids → All Small vs → length (pairLines ids vs) ≤ 42 * length ids
 unfolding pairLines
@@ -80,13 +94,19 @@ pairs-most (id ∷ ids) [] h g = omega arith
 pairs-most (id ∷ ids) (v ∷ vs) h g =
     omega (arith, length-append (pairText id v) (pairLines ids vs), pair-most id v (h .0) (g .0), pairs-most ids vs (h .1) (g .1))
 
-ratios-most : (ids : List ℤ) (ns ds : List ℕ) → All Small ids → All Short ns → All Short ds → length (ratioLines ids ns ds) ≤ 42 * length ids
+ratios-most : (ids : List ℤ) (ns ds : List ℕ) → All Small ids → All Short ns → All Short ds
+    → length (ratioLines ids ns ds) ≤ 42 * length ids
 unfolding ratioLines
 ratios-most [] ns ds h g k = omega arith
 ratios-most (id ∷ ids) [] ds h g k = omega arith
 ratios-most (id ∷ ids) (n ∷ ns) [] h g k = omega arith
 ratios-most (id ∷ ids) (n ∷ ns) (d ∷ ds) h g k =
-    omega (arith, length-append (ratioText id n d) (ratioLines ids ns ds), ratio-most id n d (h .0) (g .0) (k .0), ratios-most ids ns ds (h .1) (g .1) (k .1))
+    omega (
+      arith,
+      length-append (ratioText id n d) (ratioLines ids ns ds),
+      ratio-most id n d (h .0) (g .0) (k .0),
+      ratios-most ids ns ds (h .1) (g .1) (k .1),
+    )
 
 spaced-most : (k n : ℕ) → 1 ≤ k → n < 10 ^ k → length (spacedText n) ≤ suc k
 unfolding spacedText
@@ -111,7 +131,8 @@ plain-brief n h = record { number = h; file = omega arith; line = omega arith }
 
 -- ---- a job prints at most 43,013 bytes behind its line: a count line of 5, and 1,024 lines of 42
 module _ (n : ℕ) (line listing : List ℕ) (few : n ≤ 1024) (long : length listing ≤ 43008) where
-  answered-most : (a b c : Bool) (number : ℕ) → number < 10 ^ 2 → length (answered n line (kernelSays a b number c) listing) ≤ length line + 43013
+  answered-most : (a b c : Bool) (number : ℕ) → number < 10 ^ 2
+      → length (answered n line (kernelSays a b number c) listing) ≤ length line + 43013
   unfolding kernelSays headText
   answered-most false b c number h = omega (arith, refused-most _ (plain-brief 9 (omega arith)))
   answered-most true false c number h = omega (arith, refused-most _ (plain-brief number h))
@@ -142,7 +163,8 @@ depths-small g (At root) h = all-column Small _ (λ v. least-small _ (g .vertice
 
 labels-small : (g : Graph) → All Small (g .ids) → All Small (wccOf g)
 unfolding labelOf
-labels-small g h = all-column Small _ (λ v. all-at Small (names g) _ (pos 0) (omega arith) (all-take Small (g .vertices) (g .ids) h)) 0 (g .vertices)
+labels-small g h =
+    all-column Small _ (λ v. all-at Small (names g) _ (pos 0) (omega arith) (all-take Small (g .vertices) (g .ids) h)) 0 (g .vertices)
 
 module _ (P : ℤ → Type 0) (none : P (pos 0)) where
   standing-all : (k : ℕ) (ls cs : List ℤ) → All P cs → All P (standing sameZ k ls cs)
@@ -199,12 +221,20 @@ module _ (out : ℕ → List ℕ) (ns : List ℕ) (few : length ns ≤ 1024) whe
   among-short = by (ltb (length ns) 2)
     where
       by : (t : Bool)
-          → Short (cond t (record { numerator = 0; denominator = 1 }) (lowest (arcsFrom out ns ns) (length ns * (length ns - 1))) .numerator)
-          × Short (cond t (record { numerator = 0; denominator = 1 }) (lowest (arcsFrom out ns ns) (length ns * (length ns - 1))) .denominator)
+          → Short (cond t (record { numerator = 0; denominator = 1 }) (lowest (arcsFrom out ns ns) (length ns * (length ns - 1)))
+          .numerator)
+          × Short (cond t (record { numerator = 0; denominator = 1 }) (lowest (arcsFrom out ns ns) (length ns * (length ns - 1)))
+          .denominator)
       by true = (omega arith, omega arith)
       by false =
-          let p : length ns * (length ns - 1) ≤ length ns * length ns = mul-le-mul (let r : length ns ≤ length ns = omega arith in r) (omega arith) in (
-            omega (arith, square, arcs-most out ns ns, div-le-self (arcsFrom out ns ns) (gcdOf (arcsFrom out ns ns) (length ns * (length ns - 1)))),
+          let p : length ns * (length ns - 1) ≤ length ns * length ns = mul-le-mul (let r : length ns ≤ length ns = omega arith in r)
+          (omega arith) in (
+            omega (
+              arith,
+              square,
+              arcs-most out ns ns,
+              div-le-self (arcsFrom out ns ns) (gcdOf (arcsFrom out ns ns) (length ns * (length ns - 1))),
+            ),
             omega (arith, square, p, div-le-self (length ns * (length ns - 1)) (gcdOf (arcsFrom out ns ns) (length ns * (length ns - 1)))),
           )
 
@@ -223,19 +253,22 @@ module _ (g : Graph) (ids : All Small (g .ids)) (count : length (g .ids) ≤ 102
   unfolding bfsText bfsCall bfsSays
   bfs-most line root =
       answered-most (g .vertices) line _ few
-      (lines-most _ (all-left Small (bfsSays g (placeIn (names g) root) zerosZ zeros) (pos 0) 1024 _ (omega arith) (depths-small g (placeIn (names g) root) few))) _ _ _ 10 (omega arith)
+      (lines-most _ (all-left Small (bfsSays g (placeIn (names g) root) zerosZ zeros) (pos 0) 1024 _ (omega arith)
+      (depths-small g (placeIn (names g) root) few))) _ _ _ 10 (omega arith)
 
   wcc-most : (line : List ℕ) → length (wccText g line) ≤ length line + 43013
   unfolding wccText W.wccCall W.leftBy
   wcc-most line =
       let said = kernelSays (soundGraph g) true 0 (W.roomFor (g .vertices) zerosZ zeros zeros) in
-      answered-most (g .vertices) line _ few (lines-most _ (all-left Small said (pos 0) 1024 (wccOf g) (omega arith) (labels-small g ids))) _ _ _ 0 (omega arith)
+      answered-most (g .vertices) line _ few (lines-most _ (all-left Small said (pos 0) 1024 (wccOf g) (omega arith) (labels-small g ids)))
+      _ _ _ 0 (omega arith)
 
   cdlp-most : (line : List ℕ) (k : ℤ) → length (cdlpText g k line) ≤ length line + 43013
   unfolding cdlpText C.cdlpCall C.leftBy
   cdlp-most line k =
       let said = kernelSays (soundGraph g) (C.goodRounds k) 11 (C.roomFor (g .vertices) zerosZ zeros zeros zeros) in
-      answered-most (g .vertices) line _ few (lines-most _ (all-left Small said (pos 0) 1024 (cdlpOf g (natAbs k)) (omega arith) (cdlp-small g (natAbs k) ids))) _ _ _ 11 (omega arith)
+      answered-most (g .vertices) line _ few (lines-most _
+      (all-left Small said (pos 0) 1024 (cdlpOf g (natAbs k)) (omega arith) (cdlp-small g (natAbs k) ids))) _ _ _ 11 (omega arith)
 
   lcc-most : (line : List ℕ) → length (lccText g line) ≤ length line + 43013
   unfolding lccText lccCall lccSays numerator denominator
@@ -243,8 +276,10 @@ module _ (g : Graph) (ids : All Small (g .ids)) (count : length (g .ids) ≤ 102
       let said = lccSays g zeros zeros zeros in
       answered-most (g .vertices) line _ few
       (fractions-most _ _
-      (all-left Short said 0 1024 (numerators g) (omega arith) (all-column Short _ (λ v. among-short (outward g) _ (neighbours-few v) .0) 0 (g .vertices)))
-      (all-left Short said 0 1024 (denominators g) (omega arith) (all-column Short _ (λ v. among-short (outward g) _ (neighbours-few v) .1) 0 (g .vertices))))
+      (all-left Short said 0 1024 (numerators g) (omega arith)
+      (all-column Short _ (λ v. among-short (outward g) _ (neighbours-few v) .0) 0 (g .vertices)))
+      (all-left Short said 0 1024 (denominators g) (omega arith)
+      (all-column Short _ (λ v. among-short (outward g) _ (neighbours-few v) .1) 0 (g .vertices))))
       _ _ _ 0 (omega arith)
 
   pub job-most : (line : List ℕ) (j : Job) → length (jobText g line j) ≤ length line + 43013
@@ -259,12 +294,21 @@ module _ (g : Graph) (ids : All Small (g .ids)) (count : length (g .ids) ≤ 102
   jobs-most s zero place h = omega arith
   jobs-most s (suc k) place h = by (jobLine s place) refl (λ next l. jobs-most s k next l)
     where
-      by : (x : Said (Job × ℕ)) → jobLine s place ≡ x → ((next : ℕ) → next ≤ length s → length (jobsText g s k next) ≤ (length s - next) + k * 43013)
+      by : (x : Said (Job × ℕ)) → jobLine s place ≡ x
+          → ((next : ℕ) → next ≤ length s → length (jobsText g s k next) ≤ (length s - next) + k * 43013)
           → length (jobsText g s (suc k) place) ≤ (length s - place) + suc k * 43013
       by (gives x) e ih =
           let m : Moved s place (x .1) = line-moved jobOf s place (x .0) (x .1) e in
           let d : length (drop place s) ≡ length s - place = length-drop place s in
-          let w : length (between place (x .1) s) ≡ x .1 - place = length-take-le (x .1 - place) (drop place s) (omega (arith, m .inside)) in
+          let w : length (between place (x .1) s) ≡ x .1
+          - place = length-take-le (x .1 - place) (drop place s) (omega (arith, m .inside)) in
           rw (jobsText, e)
-          (omega (arith, length-append (jobText g (between place (x .1) s) (x .0)) (jobsText g s k (x .1)), job-most (between place (x .1) s) (x .0), ih (x .1) (m .inside), m .forward, m .inside))
+          (omega (
+            arith,
+            length-append (jobText g (between place (x .1) s) (x .0)) (jobsText g s k (x .1)),
+            job-most (between place (x .1) s) (x .0),
+            ih (x .1) (m .inside),
+            m .forward,
+            m .inside,
+          ))
       by (refuses r) e ih = rw (jobsText, e) (omega arith)

@@ -1,4 +1,5 @@
--- What a sheet's jobs print once its load is accepted: the graph is sound and the areas are long enough, so WCC and LCC are never refused, BFS only where its
+-- What a sheet's jobs print once its load is accepted:
+-- the graph is sound and the areas are long enough, so WCC and LCC are never refused, BFS only where its
 -- root isn't there, CDLP only for its iterations; else each vertex has its line. Assumes nothing.
 use Prim.Native.Nat.{ℕ, zero, suc, _≤_}
 use mathlib.Core.Path.{_≡_, refl, sym, ap, _∙_}
@@ -41,7 +42,8 @@ pairs-pad [] vs z e = refl
 pairs-pad (id ∷ ids) [] z e = absurd (omega arith)
 pairs-pad (id ∷ ids) (v ∷ vs) z e = ap (λ l. pairText id v ++ l) (pairs-pad ids vs z (omega arith))
 
-ratios-pad : (ids : List ℤ) (ns ds y z : List ℕ) → length ns ≡ length ids → length ds ≡ length ids → ratioLines ids (ns ++ y) (ds ++ z) ≡ ratioLines ids ns ds
+ratios-pad : (ids : List ℤ) (ns ds y z : List ℕ) → length ns ≡ length ids → length ds ≡ length ids
+    → ratioLines ids (ns ++ y) (ds ++ z) ≡ ratioLines ids ns ds
 unfolding ratioLines
 ratios-pad [] ns ds y z e f = refl
 ratios-pad (id ∷ ids) [] ds y z e f = absurd (omega arith)
@@ -55,21 +57,25 @@ module _ (g : Graph) (sound : soundGraph g ≡ true) (count : length (g .ids) �
 
   pub wcc-runs : wccText g line ≡ headText line (g .vertices) ++ pairLines (g .ids) (wccOf g)
   unfolding wccText W.wccCall W.leftBy W.roomFor kernelSays
-  wcc-runs = rw (sound, roomy) (ap (λ l. headText line (g .vertices) ++ l) (pairs-pad (g .ids) (wccOf g) _ (column-length _ 0 (g .vertices) ∙ sym count)))
+  wcc-runs =
+      rw (sound, roomy) (ap (λ l. headText line (g .vertices) ++ l)
+      (pairs-pad (g .ids) (wccOf g) _ (column-length _ 0 (g .vertices) ∙ sym count)))
 
   pub lcc-runs : lccText g line ≡ headText line (g .vertices) ++ ratioLines (g .ids) (numerators g) (denominators g)
   unfolding lccText L.lccCall L.lccSays L.room kernelSays
   lcc-runs =
       rw (sound, roomy)
       (ap (λ l. headText line (g .vertices) ++ l)
-      (ratios-pad (g .ids) (numerators g) (denominators g) _ _ (column-length _ 0 (g .vertices) ∙ sym count) (column-length _ 0 (g .vertices) ∙ sym count)))
+      (ratios-pad (g .ids) (numerators g) (denominators g) _ _ (column-length _ 0 (g .vertices) ∙ sym count)
+      (column-length _ 0 (g .vertices) ∙ sym count)))
 
   pub bfs-runs : (root : ℤ) (v : ℕ) → placeIn (names g) root ≡ At v
       → bfsText g root line ≡ headText line (g .vertices) ++ pairLines (g .ids) (depths (g .vertices) (outward g) v)
   unfolding bfsText bfsCall bfsSays kernelSays
   bfs-runs root v e =
       rw (e, sound, roomy)
-      (ap (λ l. headText line (g .vertices) ++ l) (pairs-pad (g .ids) (depths (g .vertices) (outward g) v) _ (column-length _ 0 (g .vertices) ∙ sym count)))
+      (ap (λ l. headText line (g .vertices) ++ l) (pairs-pad (g .ids) (depths (g .vertices) (outward g) v) _
+      (column-length _ 0 (g .vertices) ∙ sym count)))
 
   pub bfs-stops : (root : ℤ) → placeIn (names g) root ≡ Missing → bfsText g root line ≡ refusedText (plain notThere)
   unfolding bfsText bfsCall bfsSays kernelSays
@@ -80,10 +86,12 @@ module _ (g : Graph) (sound : soundGraph g ≡ true) (count : length (g .ids) �
   rounds-long zero = length-take-le (g .vertices) (g .ids) (omega arith)
   rounds-long (suc k) = column-length _ 0 (g .vertices)
 
-  pub cdlp-runs : (k : ℤ) → C.goodRounds k ≡ true → cdlpText g k line ≡ headText line (g .vertices) ++ pairLines (g .ids) (cdlpOf g (natAbs k))
+  pub cdlp-runs : (k : ℤ) → C.goodRounds k ≡ true → cdlpText g k line ≡ headText line (g .vertices)
+      ++ pairLines (g .ids) (cdlpOf g (natAbs k))
   unfolding cdlpText C.cdlpCall C.leftBy C.roomFor kernelSays
   cdlp-runs k e =
-      rw (sound, e, roomy) (ap (λ l. headText line (g .vertices) ++ l) (pairs-pad (g .ids) (cdlpOf g (natAbs k)) _ (rounds-long (natAbs k) ∙ sym count)))
+      rw (sound, e, roomy) (ap (λ l. headText line (g .vertices) ++ l)
+      (pairs-pad (g .ids) (cdlpOf g (natAbs k)) _ (rounds-long (natAbs k) ∙ sym count)))
 
   pub cdlp-stops : (k : ℤ) → C.goodRounds k ≡ false → cdlpText g k line ≡ refusedText (plain badRounds)
   unfolding cdlpText C.cdlpCall C.leftBy kernelSays
@@ -91,7 +99,8 @@ module _ (g : Graph) (sound : soundGraph g ≡ true) (count : length (g .ids) �
 
 -- ---- the graph that an accepted load leaves is such a graph
 cut-ids : (g : Graph) → soundIds g ≡ true
-    → soundIds (lent (record { vertices = g .vertices; arcs = g .arcs }) (names g) (g .outOffsets) (g .outTargets) (g .inOffsets) (g .inSources)) ≡ true
+    → soundIds (lent (record { vertices = g .vertices; arcs = g .arcs }) (names g) (g .outOffsets) (g .outTargets) (g .inOffsets)
+    (g .inSources)) ≡ true
 unfolding soundIds
 cut-ids g h =
     let n = g .vertices in
@@ -104,7 +113,8 @@ unfolding soundSides soundGraph
 sound-ids g h = and-second (leb (g .vertices) 65536 && leb (g .arcs) 2097152) (soundIds g) (and-first _ _ (and-first _ _ h))
 
 cut-sound : (g : Graph) → soundGraph g ≡ true
-    → soundGraph (lent (record { vertices = g .vertices; arcs = g .arcs }) (names g) (g .outOffsets) (g .outTargets) (g .inOffsets) (g .inSources)) ≡ true
+    → soundGraph (lent (record { vertices = g .vertices; arcs = g .arcs }) (names g) (g .outOffsets) (g .outTargets) (g .inOffsets)
+    (g .inSources)) ≡ true
 unfolding soundSides soundGraph
 cut-sound g h = rw (cut-ids g (sound-ids g h)) (rw (sound-ids g h) at h)
 
@@ -118,7 +128,8 @@ module _ (s : List ℕ) (p : Plan) (l : Lists)
   pub load-prints : planText s p ≡ jobsText deskGraph s (p .jobs .count) (p .jobs .from)
   unfolding planText
   load-prints =
-      ap (loadText s p (loadOf s p deskRoom)) (load-answer desk (modeNumber (p .directed)) deskRoom (linesIn (p .vertices) s) (linesIn (p .edges) s) l h)
+      ap (loadText s p (loadOf s p deskRoom)) (load-answer desk (modeNumber (p .directed)) deskRoom (linesIn (p .vertices) s)
+      (linesIn (p .edges) s) l h)
 
   pub desk-sound : soundGraph deskGraph ≡ true
   desk-sound =

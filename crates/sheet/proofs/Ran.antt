@@ -28,29 +28,37 @@ use Rattle.sheet.specs.Jobs.{zeros, zerosZ, answered, bfsText, wccText, 
 
 -- ---- by a kernel's answer
 module _ (n : ℕ) (line listing : List ℕ) (x : Answer) (o : List ℕ) (at : ℕ) {o′ : List ℕ} {p : ℕ} where
-  pub ran-refused : (r : Refusal) → x ≡ Refused r → written o′ p ≡ putAt o at (refusedText r) → written o′ p ≡ putAt o at (answered n line (says x) listing)
+  pub ran-refused : (r : Refusal) → x ≡ Refused r → written o′ p ≡ putAt o at (refusedText r)
+      → written o′ p ≡ putAt o at (answered n line (says x) listing)
   ran-refused r e w = put-as o at (refusedText r) w _ (ap (λ y. answered n line (says y) listing) (sym e))
 
   pub ran-done : {o″ : List ℕ} {q : ℕ} → x ≡ Done → written o′ p ≡ putAt o at (headText line n) → written o″ q ≡ putAt o′ p listing
       → written o″ q ≡ putAt o at (answered n line (says x) listing)
-  ran-done e w v = put-as o at (headText line n ++ listing) (put-then o at (headText line n) w listing v) _ (ap (λ y. answered n line (says y) listing) (sym e))
+  ran-done e w v =
+      put-as o at (headText line n ++ listing) (put-then o at (headText line n) w listing v) _
+      (ap (λ y. answered n line (says y) listing) (sym e))
 
 -- ---- a job's text, by what its kernel left in the areas
 module _ (g : Graph) (line : List ℕ) (x : Answer) (o : List ℕ) (at : ℕ) {o′ : List ℕ} {p : ℕ} where
   pub bfs-put : (root z : ℤ) (d : List ℤ) (q : List ℕ) → z ≡ root → B.outcome (says x) d q ≡ B.bfsCall g z zerosZ zeros
-      → written o′ p ≡ putAt o at (answered (g .vertices) line (says x) (pairLines (g .ids) d)) → written o′ p ≡ putAt o at (bfsText g root line)
+      → written o′ p ≡ putAt o at (answered (g .vertices) line (says x) (pairLines (g .ids) d))
+      → written o′ p ≡ putAt o at (bfsText g root line)
   unfolding bfsText
   bfs-put root z d q same call w =
       put-as o at _ w (bfsText g root line)
-      (ap (λ (c : B.Outcome). answered (g .vertices) line (c .said) (pairLines (g .ids) (c .depth))) (call ∙ ap (λ (y : ℤ). B.bfsCall g y zerosZ zeros) same))
+      (ap (λ (c : B.Outcome). answered (g .vertices) line (c .said) (pairLines (g .ids) (c .depth)))
+      (call ∙ ap (λ (y : ℤ). B.bfsCall g y zerosZ zeros) same))
 
   pub wcc-put : (d : List ℤ) (u v : List ℕ) → W.outcome (says x) d u v ≡ W.wccCall g zerosZ zeros zeros
       → written o′ p ≡ putAt o at (answered (g .vertices) line (says x) (pairLines (g .ids) d)) → written o′ p ≡ putAt o at (wccText g line)
   unfolding wccText
-  wcc-put d u v call w = put-as o at _ w (wccText g line) (ap (λ (c : W.Outcome). answered (g .vertices) line (c .said) (pairLines (g .ids) (c .result))) call)
+  wcc-put d u v call w =
+      put-as o at _ w (wccText g line) (ap (λ (c : W.Outcome). answered (g .vertices) line (c .said) (pairLines (g .ids) (c .result))) call)
 
-  pub cdlp-put : (iterations z : ℤ) (d : List ℤ) (u v t : List ℕ) → z ≡ iterations → C.outcome (says x) d u v t ≡ C.cdlpCall g z zerosZ zeros zeros zeros
-      → written o′ p ≡ putAt o at (answered (g .vertices) line (says x) (pairLines (g .ids) d)) → written o′ p ≡ putAt o at (cdlpText g iterations line)
+  pub cdlp-put : (iterations z : ℤ) (d : List ℤ) (u v t : List ℕ) → z ≡ iterations
+      → C.outcome (says x) d u v t ≡ C.cdlpCall g z zerosZ zeros zeros zeros
+      → written o′ p ≡ putAt o at (answered (g .vertices) line (says x) (pairLines (g .ids) d))
+      → written o′ p ≡ putAt o at (cdlpText g iterations line)
   unfolding cdlpText
   cdlp-put iterations z d u v t same call w =
       put-as o at _ w (cdlpText g iterations line)
@@ -58,27 +66,32 @@ module _ (g : Graph) (line : List ℕ) (x : Answer) (o : List ℕ) (at : ℕ) {o
       (call ∙ ap (λ (y : ℤ). C.cdlpCall g y zerosZ zeros zeros zeros) same))
 
   pub lcc-put : (n d u : List ℕ) → L.outcome (says x) n d u ≡ L.lccCall g zeros zeros zeros
-      → written o′ p ≡ putAt o at (answered (g .vertices) line (says x) (ratioLines (g .ids) n d)) → written o′ p ≡ putAt o at (lccText g line)
+      → written o′ p ≡ putAt o at (answered (g .vertices) line (says x) (ratioLines (g .ids) n d))
+      → written o′ p ≡ putAt o at (lccText g line)
   unfolding lccText
   lcc-put n d u call w =
-      put-as o at _ w (lccText g line) (ap (λ (c : L.Outcome). answered (g .vertices) line (c .said) (ratioLines (g .ids) (c .numerators) (c .denominators))) call)
+      put-as o at _ w (lccText g line)
+      (ap (λ (c : L.Outcome). answered (g .vertices) line (c .said) (ratioLines (g .ids) (c .numerators) (c .denominators))) call)
 
 -- ---- a job by its kind
 module _ (g : Graph) (line : List ℕ) (j : Job) (o : List ℕ) (at : ℕ) {o′ : List ℕ} {p : ℕ} where
-  pub job-bfs : (root z : ℤ) → j ≡ J.Bfs root → z ≡ root → written o′ p ≡ putAt o at (bfsText g z line) → written o′ p ≡ putAt o at (jobText g line j)
+  pub job-bfs : (root z : ℤ) → j ≡ J.Bfs root → z ≡ root → written o′ p ≡ putAt o at (bfsText g z line)
+      → written o′ p ≡ putAt o at (jobText g line j)
   job-bfs root z e f w = put-as o at _ w _ (ap (λ y. bfsText g y line) f ∙ ap (jobText g line) (sym e))
 
   pub job-wcc : j ≡ J.Wcc → written o′ p ≡ putAt o at (wccText g line) → written o′ p ≡ putAt o at (jobText g line j)
   job-wcc e w = put-as o at _ w _ (ap (jobText g line) (sym e))
 
-  pub job-cdlp : (k z : ℤ) → j ≡ J.Cdlp k → z ≡ k → written o′ p ≡ putAt o at (cdlpText g z line) → written o′ p ≡ putAt o at (jobText g line j)
+  pub job-cdlp : (k z : ℤ) → j ≡ J.Cdlp k → z ≡ k → written o′ p ≡ putAt o at (cdlpText g z line)
+      → written o′ p ≡ putAt o at (jobText g line j)
   job-cdlp k z e f w = put-as o at _ w _ (ap (λ y. cdlpText g y line) f ∙ ap (jobText g line) (sym e))
 
   pub job-lcc : j ≡ J.Lcc → written o′ p ≡ putAt o at (lccText g line) → written o′ p ≡ putAt o at (jobText g line j)
   job-lcc e w = put-as o at _ w _ (ap (jobText g line) (sym e))
 
 -- ---- the jobs one after another: what is left of them, printed from here on, makes the whole
-pub job-moved : (s : List ℕ) (place : ℕ) (x : JobLine) (j : Job) (end : ℕ) → jobSays x ≡ jobLine s place → x ≡ JL.Line j end → Moved s place end
+pub job-moved : (s : List ℕ) (place : ℕ) (x : JobLine) (j : Job) (end : ℕ) → jobSays x ≡ jobLine s place → x ≡ JL.Line j end
+    → Moved s place end
 job-moved s place x j end u e = line-moved jobOf s place j end (sym u ∙ ap jobSays e)
 
 module _ {w : Written} (g : Graph) (s : List ℕ) where
@@ -87,13 +100,16 @@ module _ {w : Written} (g : Graph) (s : List ℕ) where
   jobs-end zero place o at h e = putting-end o at [] e refl
   jobs-end (suc k) place o at h e = absurd (omega arith)
 
-  pub jobs-fault : (left place : ℕ) (x : JobLine) (r : Refusal) (o : List ℕ) (at : ℕ) → 0 < left → jobSays x ≡ jobLine s place → x ≡ JL.Refused r
+  pub jobs-fault : (left place : ℕ) (x : JobLine) (r : Refusal) (o : List ℕ) (at : ℕ) → 0 < left → jobSays x ≡ jobLine s place
+      → x ≡ JL.Refused r
       → putAt o at (jobsText g s left place) ≡ w → written o at ≡ w
   unfolding jobsText
   jobs-fault zero place x r o at h u f e = absurd (omega arith)
-  jobs-fault (suc k) place x r o at h u f e = let q : jobLine s place ≡ refuses r = sym u ∙ ap jobSays f in putting-end o at [] (rw (jobsText, q) at e) refl
+  jobs-fault (suc k) place x r o at h u f e =
+      let q : jobLine s place ≡ refuses r = sym u ∙ ap jobSays f in putting-end o at [] (rw (jobsText, q) at e) refl
 
-  pub jobs-more : (left place end : ℕ) (x : JobLine) (j : Job) (o : List ℕ) (at : ℕ) {o′ : List ℕ} {at′ : ℕ} → 0 < left → jobSays x ≡ jobLine s place → x ≡ JL.Line j end
+  pub jobs-more : (left place end : ℕ) (x : JobLine) (j : Job) (o : List ℕ) (at : ℕ) {o′ : List ℕ} {at′ : ℕ} → 0 < left
+      → jobSays x ≡ jobLine s place → x ≡ JL.Line j end
       → putAt o at (jobsText g s left place) ≡ w → written o′ at′ ≡ putAt o at (jobText g (between place end s) j)
       → putAt o′ at′ (jobsText g s (left - 1) end) ≡ w
   unfolding jobsText

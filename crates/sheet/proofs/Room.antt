@@ -1,4 +1,5 @@
--- The output of every sheet has at most 753,744 bytes: a job prints at most 43,013 bytes behind its line, and the lines of the jobs stand in the sheet.
+-- The output of every sheet has at most 753,744 bytes:
+-- a job prints at most 43,013 bytes behind its line, and the lines of the jobs stand in the sheet.
 -- And a sheet that is too long prints what its first 65,537 bytes print. Assumes nothing.
 use Prim.Native.Nat.{ℕ, zero, suc, _+_, _*_, _^_, _≤_, _<_}
 use mathlib.Core.Path.{_≡_, refl, sym, ap, _∙_}
@@ -24,7 +25,8 @@ use Rattle.load.specs.Load.{Lists, loaded, sizeOf, outcomeOf, loadCall, desk, d
 use Rattle.load.proofs.Refused.{load-turned}
 use Rattle.plan.specs.Lines.{lfs, sheetFault, inSheet, sheetLine}
 use Rattle.plan.specs.Jobs.{jobOf}
-use Rattle.plan.specs.Sheet.{mostBytes, mostJobs, modeOf, limited, countLine, anyOf, nextOf, linePast, linesPast, linesOf as blockLines, section, sections, ended, checked}
+use Rattle.plan.specs.Sheet.{mostBytes, mostJobs, modeOf, limited, countLine, anyOf, nextOf, linePast}
+use Rattle.plan.specs.Sheet.{linesPast, linesOf as blockLines, section, sections, ended, checked}
 use Rattle.plan.specs.declared.sections.Plan.{Plan}
 use Rattle.plan.proofs.Places.{Accepted, accepted}
 use Rattle.write.specs.Put.{written, putAt}
@@ -65,8 +67,10 @@ module _ (s : List ℕ) (p : Plan) (a : Accepted s p) where
         a .short,
         w .rise,
         w .inside,
-        jobs-most (graphIn (sizeOf l) (o .ids) (o .outOffsets) (o .outTargets) (o .inOffsets) (o .inSources)) (all-take Small (length (l .ids)) _ (all-pad Small (pos 0) 1024 (l .ids) (omega arith) small))
-            (omega (arith, g .idsFit, length-take (length (l .ids)) (padWith (pos 0) 1024 (l .ids)))) (g .idsFit) s (p .jobs .count) (p .jobs .from) (omega (arith, w .rise, w .inside)),
+        jobs-most (graphIn (sizeOf l) (o .ids) (o .outOffsets) (o .outTargets) (o .inOffsets) (o .inSources))
+            (all-take Small (length (l .ids)) _ (all-pad Small (pos 0) 1024 (l .ids) (omega arith) small))
+            (omega (arith, g .idsFit, length-take (length (l .ids)) (padWith (pos 0) 1024 (l .ids)))) (g .idsFit) s (p .jobs .count)
+            (p .jobs .from) (omega (arith, w .rise, w .inside)),
       )
 
   plan-most : length (planText s p) ≤ mostOutput
@@ -109,7 +113,8 @@ module _ (s : List ℕ) (short : length s ≤ mostBytes) where
   lines-brief jobs zero place = tt
   lines-brief jobs (suc k) place = by (linePast jobs s place) refl (past-brief jobs place) (λ next. lines-brief jobs k next)
     where
-      by : (x : Said ℕ) → linePast jobs s place ≡ x → Either Any Brief x → ((next : ℕ) → Either Any Brief (linesPast jobs k s next)) → Either Any Brief (linesPast jobs (suc k) s place)
+      by : (x : Said ℕ) → linePast jobs s place ≡ x → Either Any Brief x → ((next : ℕ) → Either Any Brief (linesPast jobs k s next))
+          → Either Any Brief (linesPast jobs (suc k) s place)
       by (gives next) e h ih = rw (linesPast, e) (ih next)
       by (refuses r) e h ih = rw (linesPast, e) h
 

@@ -31,11 +31,13 @@ module _ (s : List ℕ) (p : Plan) where
   abbrev pub listsIn : Said Lists
   listsIn = loaded desk (modeNumber (p .directed)) deskRoom (linesIn (p .vertices) s) (linesIn (p .edges) s)
 
-  pub lists-good : (l : Lists) → listsIn ≡ gives l → GoodLoad desk (modeNumber (p .directed)) deskRoom (linesIn (p .vertices) s) (linesIn (p .edges) s) l
+  pub lists-good : (l : Lists) → listsIn ≡ gives l
+      → GoodLoad desk (modeNumber (p .directed)) deskRoom (linesIn (p .vertices) s) (linesIn (p .edges) s) l
   lists-good l e = load-accepted desk (modeNumber (p .directed)) deskRoom (linesIn (p .vertices) s) (linesIn (p .edges) s) l .0 e
 
 -- a graph that was loaded has no more vertices than the area of identifiers has places
-pub few-vertices : (s : List ℕ) (p : Plan) (x : Loaded) {ids : List ℤ} {oo ot io is : List ℕ} (size : Size) → outcome (says x) ids oo ot io is ≡ loadOf s p deskRoom
+pub few-vertices : (s : List ℕ) (p : Plan) (x : Loaded) {ids : List ℤ} {oo ot io is : List ℕ} (size : Size)
+    → outcome (says x) ids oo ot io is ≡ loadOf s p deskRoom
     → x ≡ LD.Graph size → size .vertices ≤ 1024
 unfolding loadCall outcomeOf
 few-vertices s p x size u e =
@@ -44,16 +46,19 @@ few-vertices s p x size u e =
     omega (arith, lists-good s p (g .0) (g .1) .idsFit)
 
 -- ---- a load's answers
-module _ (s : List ℕ) (p : Plan) (x : Loaded) (ids : List ℤ) (oo ot io is : List ℕ) (u : outcome (says x) ids oo ot io is ≡ loadOf s p deskRoom)
+module _ (s : List ℕ) (p : Plan) (x : Loaded) (ids : List ℤ) (oo ot io is : List ℕ)
+    (u : outcome (says x) ids oo ot io is ≡ loadOf s p deskRoom)
     (o : List ℕ) (at : ℕ) (o′ : List ℕ) (next : ℕ) where
   load-text : loadText s p (outcome (says x) ids oo ot io is) (says x) ≡ planText s p
   unfolding planText
   load-text = ap (λ (c : Outcome). loadText s p c (c .answer)) u
 
-  pub load-refused : (r : Refusal) → x ≡ LD.Refused r → written o′ next ≡ putAt o at (refusedText r) → written o′ next ≡ putAt o at (planText s p)
+  pub load-refused : (r : Refusal) → x ≡ LD.Refused r → written o′ next ≡ putAt o at (refusedText r)
+      → written o′ next ≡ putAt o at (planText s p)
   load-refused r e w = put-as o at _ w _ (ap (λ y. loadText s p (outcome (says x) ids oo ot io is) (says y)) (sym e) ∙ load-text)
 
-  pub load-good : (size : Size) → x ≡ LD.Graph size → written o′ next ≡ putAt o at (jobsText (graphIn size ids oo ot io is) s (p .jobs .count) (p .jobs .from))
+  pub load-good : (size : Size) → x ≡ LD.Graph size
+      → written o′ next ≡ putAt o at (jobsText (graphIn size ids oo ot io is) s (p .jobs .count) (p .jobs .from))
       → written o′ next ≡ putAt o at (planText s p)
   load-good size e w = put-as o at _ w _ (ap (λ y. loadText s p (outcome (says x) ids oo ot io is) (says y)) (sym e) ∙ load-text)
 
@@ -62,10 +67,16 @@ module _ (s : List ℕ) (x : Checked) (u : checkedSays x ≡ checked s) where
   pub placed : (p : Plan) → x ≡ Ch.Good p → Placed s p
   placed p e =
       let a = accepted s p (sym u ∙ ap checkedSays e) .places in
-      record { vertices-rise = a .vertices .rise; vertices-in = a .vertices .inside; edges-rise = a .edges .rise; edges-in = a .edges .inside }
+      record {
+        vertices-rise = a .vertices .rise;
+        vertices-in = a .vertices .inside;
+        edges-rise = a .edges .rise;
+        edges-in = a .edges .inside;
+      }
 
   module _ (o : List ℕ) (at : ℕ) (o′ : List ℕ) (next : ℕ) where
-    pub answer-refused : (r : Refusal) → x ≡ Ch.Refused r → written o′ next ≡ putAt o at (refusedText r) → written o′ next ≡ putAt o at (deskOutput s)
+    pub answer-refused : (r : Refusal) → x ≡ Ch.Refused r → written o′ next ≡ putAt o at (refusedText r)
+        → written o′ next ≡ putAt o at (deskOutput s)
     unfolding deskOutput
     answer-refused r e w = put-as o at _ w _ (ap (checkedText s) (sym (ap checkedSays e) ∙ u))
 

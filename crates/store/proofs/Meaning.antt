@@ -39,7 +39,8 @@ unfolding mem hasArc
 mem-targets [] u w = refl
 mem-targets (a ∷ l) u w = cases (eqb (a .0) u) (mem-targets l u w)
   where
-    cases : (p : Bool) → mem w (targetsOf l u) ≡ hasArc l u w → mem w (cond p (a .1 ∷ targetsOf l u) (targetsOf l u)) ≡ ((p && eqb w (a .1)) || hasArc l u w)
+    cases : (p : Bool) → mem w (targetsOf l u) ≡ hasArc l u w
+        → mem w (cond p (a .1 ∷ targetsOf l u) (targetsOf l u)) ≡ ((p && eqb w (a .1)) || hasArc l u w)
     cases true e = ap (λ (t : Bool). eqb w (a .1) || t) e
     cases false e = e
 
@@ -82,7 +83,8 @@ module _ (n s t : ℕ) (l : List Arc) (h : All (Fine n) l) (f : n < s) (g : leng
   good : Ordered l → (v : ℕ) → v < n → soundPart n v (partOf n (pad s (offsets l n)) (pad t (parts l n)) v) ≡ true
   good o v k =
       rw (part-stored v k)
-      (and-both (rising-part l v o) (each-member (other n v) (targetsOf l v) (λ x m. others v x (fine-of n l v x h (sym (mem-targets l v x) ∙ m)))))
+      (and-both (rising-part l v o) (each-member (other n v) (targetsOf l v)
+      (λ x m. others v x (fine-of n l v x h (sym (mem-targets l v x) ∙ m)))))
 
   pub side-sound : Ordered l → soundSide n (length l) (pad s (offsets l n)) (pad t (parts l n)) ≡ true
   unfolding soundSide soundOffsets
@@ -92,19 +94,23 @@ module _ (n s t : ℕ) (l : List Arc) (h : All (Fine n) l) (f : n < s) (g : leng
       let lt : length (pad t (parts l n)) ≡ t = pad-length 0 t (parts l n) (let e = start-all in omega arith) in
       and-both (and-both
       (and-both (lt-ltb n (length off) (rw lo f)) (le-leb (length l) (length (pad t (parts l n))) (rw lt g)))
-      (and-both (and-both (eq-eqb (getD off 0 0) 0 (offset-at l n s 0 (omega arith))) (eq-eqb (getD off n 0) (length l) (offset-at l n s n (omega arith) ∙ start-all)))
+      (and-both (and-both (eq-eqb (getD off 0 0) 0 (offset-at l n s 0 (omega arith)))
+      (eq-eqb (getD off n 0) (length l) (offset-at l n s n (omega arith) ∙ start-all)))
       (every-of (λ v. leb (getD off v 0) (getD off (v + 1) 0)) n
       (λ v q. le-leb (getD off v 0) (getD off (v + 1) 0)
-      (let a = offset-at l n s v (omega arith) in let b = offset-at l n s (v + 1) (omega arith) ∙ ap (start l) (add-one v) in let z = start-suc l v in omega arith)))))
+      (let a = offset-at l n s v (omega arith) in let b = offset-at l n s (v + 1) (omega arith) ∙ ap (start l) (add-one v) in
+      let z = start-suc l v in omega arith)))))
       (every-of (λ v. soundPart n v (partOf n off (pad t (parts l n)) v)) n (good o))
 
 -- ---- both ways
 module _ (n s t s′ t′ : ℕ) (l : List Arc) (h : All (Fine n) l) (f : n < s) (g : length l ≤ t) (f′ : n < s′) (g′ : length l ≤ t′) where
-  pub mirror-built : mirrored n (partOf n (pad s (offsets l n)) (pad t (parts l n))) (partOf n (pad s′ (offsets (backward l) n)) (pad t′ (parts (backward l) n))) ≡ true
+  pub mirror-built : mirrored n (partOf n (pad s (offsets l n)) (pad t (parts l n)))
+      (partOf n (pad s′ (offsets (backward l) n)) (pad t′ (parts (backward l) n))) ≡ true
   unfolding mirrored
   mirror-built =
       every-of
-      (λ u. each (λ w. mem u (partOf n (pad s′ (offsets (backward l) n)) (pad t′ (parts (backward l) n)) w)) (partOf n (pad s (offsets l n)) (pad t (parts l n)) u)) n
+      (λ u. each (λ w. mem u (partOf n (pad s′ (offsets (backward l) n)) (pad t′ (parts (backward l) n)) w))
+      (partOf n (pad s (offsets l n)) (pad t (parts l n)) u)) n
       (λ u k. rw (part-stored n s t l h f g u k)
       (each-member (λ w. mem u (partOf n (pad s′ (offsets (backward l) n)) (pad t′ (parts (backward l) n)) w)) (targetsOf l u)
       (λ w m. let j = fine-of n l u w h (sym (mem-targets l u w) ∙ m) in

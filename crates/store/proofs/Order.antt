@@ -1,4 +1,5 @@
--- The edges that a load accepts: both ends are vertices, no edge joins a vertex to itself, an undirected one names the smaller first, and all rise.
+-- The edges that a load accepts: both ends are vertices, no edge joins a vertex to itself, an undirected one names the smaller first,
+-- and all rise.
 -- Their arcs' parts strictly rise, outward and inward. Assumes nothing.
 use mathlib.Core.Path.{_≡_, refl, sym, subst}
 use mathlib.Core.Bool.{Bool, true, false}
@@ -146,7 +147,8 @@ arcs-backward b [] = refl
 arcs-backward b (e ∷ es) = rw (edge-backward b e, arcs-backward b es, backward-append (edgeArcs b e) (arcs b es))
 
 pub ordered-out : (b : Bool) (n : ℕ) (l : List Arc) → Valid b n l → Ordered (arcs b l)
-ordered-out b n l v = ordered-arcs b l (pairs-map (cross-out b) l (near-pairs b l (v .small) (v .pairs))) (all-map (λ e f. f .apart) l (v .fine))
+ordered-out b n l v =
+    ordered-arcs b l (pairs-map (cross-out b) l (near-pairs b l (v .small) (v .pairs))) (all-map (λ e f. f .apart) l (v .fine))
 
 pub ordered-in : (b : Bool) (n : ℕ) (l : List Arc) → Valid b n l → Ordered (backward (arcs b l))
 ordered-in b n l v =
@@ -164,4 +166,5 @@ arcs-join true n (e ∷ l) h =
 
 pub join-backward : (n : ℕ) (l : List Arc) → All (Fine n) l → All (Fine n) (backward l)
 join-backward n [] h = tt
-join-backward n (a ∷ l) h = (record { source = h .0 .target; target = h .0 .source; apart = λ q. h .0 .apart (sym q) }, join-backward n l (h .1))
+join-backward n (a ∷ l) h =
+    (record { source = h .0 .target; target = h .0 .source; apart = λ q. h .0 .apart (sym q) }, join-backward n l (h .1))

@@ -35,7 +35,8 @@ within-is lo hi b e = (leb-true lo b (and-first (leb lo b) (leb b hi) e), leb-tr
 -- a byte that is no digit begins no number
 pub no-first : (c : ℕ) → isDigit c ≡ false → within 49 57 c ≡ false
 no-first c d =
-    bool-cases (within 49 57 c) (within 49 57 c ≡ false) (λ e. let h = within-is 49 57 c e in clash (within-yes {lo = 48} {hi = 57} {b = c} (omega arith) (omega arith)) d)
+    bool-cases (within 49 57 c) (within 49 57 c ≡ false)
+    (λ e. let h = within-is 49 57 c e in clash (within-yes {lo = 48} {hi = 57} {b = c} (omega arith) (omega arith)) d)
     (λ e. e)
 
 pub no-zero : (c : ℕ) → isDigit c ≡ false → eqb c 48 ≡ false
@@ -91,7 +92,8 @@ unfolding mem
 cut-at c [] h = clash h refl
 cut-at c (b ∷ l) h = by (eqb c b) refl h (cut-at c l)
   where
-    by : (t : Bool) → eqb c b ≡ t → (t || mem c l) ≡ true → (mem c l ≡ true → l ≡ upTo c l ++ c ∷ past c l) → b ∷ l ≡ upTo c (b ∷ l) ++ c ∷ past c (b ∷ l)
+    by : (t : Bool) → eqb c b ≡ t → (t || mem c l) ≡ true → (mem c l ≡ true → l ≡ upTo c l ++ c ∷ past c l)
+        → b ∷ l ≡ upTo c (b ∷ l) ++ c ∷ past c (b ∷ l)
     by true e k f = rw (upTo-stop c b l e, past-stop c b l e) (ap (λ (x : ℕ). x ∷ l) (sym (eqb-true c b e)))
     by false e k f = rw (upTo-more c b l e, past-more c b l e) (ap (λ (t : List ℕ). b ∷ t) (f k))
 
@@ -153,9 +155,18 @@ module _ (c : ℕ) (s : List ℕ) (i t : ℕ) (inv : i + length (upTo c (drop i 
   end-out h = omega (arith, ap (λ (l : List ℕ). length (upTo c l)) (drop-of-length-le s h))
 
   pub end-here : i < length s → getD s i 0 ≡ c → i ≡ t
-  end-here h e = omega (arith, ap (λ (l : List ℕ). length (upTo c l)) (drop-cons s i 0 h) ∙ ap length (upTo-stop c (getD s i 0) (drop (suc i) s) (eq-eqb c (getD s i 0) (sym e))))
+  end-here h e =
+      omega (
+        arith,
+        ap (λ (l : List ℕ). length (upTo c l)) (drop-cons s i 0 h)
+            ∙ ap length (upTo-stop c (getD s i 0) (drop (suc i) s) (eq-eqb c (getD s i 0) (sym e))),
+      )
 
   pub end-on : i < length s → (getD s i 0 ≡ c → ⊥) → (i + 1) + length (upTo c (drop (i + 1) s)) ≡ t
   end-on h e =
       let d : drop i s ≡ getD s i 0 ∷ drop (i + 1) s = rw add-one (drop-cons s i 0 h) in
-      omega (arith, ap (λ (l : List ℕ). length (upTo c l)) d ∙ ap length (upTo-more c (getD s i 0) (drop (i + 1) s) (ne-eqb c (getD s i 0) (λ q. e (sym q)))))
+      omega (
+        arith,
+        ap (λ (l : List ℕ). length (upTo c l)) d
+            ∙ ap length (upTo-more c (getD s i 0) (drop (i + 1) s) (ne-eqb c (getD s i 0) (λ q. e (sym q)))),
+      )

@@ -29,7 +29,8 @@ number-most a [] h = omega arith
 number-most a (b ∷ l) h =
     let k = within-is 48 57 b (and-first (isDigit b) (each isDigit l) h) in
     let m : suc (stepped a b) ≤ suc a * 10 = omega arith in
-    rw (pow-succ', ← mul-assoc) (le-trans (number-most (stepped a b) l (and-second (isDigit b) (each isDigit l) h)) (mul-le-mul-right (10 ^ length l) m))
+    rw (pow-succ', ← mul-assoc) (le-trans (number-most (stepped a b) l (and-second (isDigit b) (each isDigit l) h))
+    (mul-le-mul-right (10 ^ length l) m))
 
 fewer : (j k n : ℕ) → 10 ^ j ≤ n → n < 10 ^ suc k → j ≤ k
 fewer j k n h g =
@@ -37,7 +38,8 @@ fewer j k n h g =
     (λ e. let q : 10 ^ suc k ≤ 10 ^ j = pow-le-pow-right (omega arith) (leb-false j k e) in absurd (omega arith))
 
 -- as many digits that make the same number are the same
-digits-same : (a b : ℕ) (l m : List ℕ) → length l ≡ length m → each isDigit l ≡ true → each isDigit m ≡ true → numberOf a l ≡ numberOf b m → (a ≡ b) × (l ≡ m)
+digits-same : (a b : ℕ) (l m : List ℕ) → length l ≡ length m → each isDigit l ≡ true → each isDigit m ≡ true → numberOf a l ≡ numberOf b m
+    → (a ≡ b) × (l ≡ m)
 unfolding each
 digits-same a b [] [] e h k q = (q, refl)
 digits-same a b [] (y ∷ m) e h k q = absurd (omega arith)
@@ -45,7 +47,8 @@ digits-same a b (x ∷ l) [] e h k q = absurd (omega arith)
 digits-same a b (x ∷ l) (y ∷ m) e h k q =
     let i = within-is 48 57 x (and-first (isDigit x) (each isDigit l) h) in
     let j = within-is 48 57 y (and-first (isDigit y) (each isDigit m) k) in
-    let r = digits-same (stepped a x) (stepped b y) l m (omega arith) (and-second (isDigit x) (each isDigit l) h) (and-second (isDigit y) (each isDigit m) k) q in
+    let r = digits-same (stepped a x) (stepped b y) l m (omega arith) (and-second (isDigit x) (each isDigit l) h)
+    (and-second (isDigit y) (each isDigit m) k) q in
     let s : stepped a x ≡ stepped b y = r .0 in
     let o : x ≡ y = omega arith in
     let t : l ≡ m = r .1 in
@@ -69,14 +72,22 @@ count-form (b ∷ bs) n e = by (eqb b 48) refl (within 49 57 b && each isDigit b
     zero-by [] q h = (ap (λ (x : ℕ). x ∷ []) q, cc)
     zero-by (x ∷ xs) q h = no-case cc
 
-    by : (t : Bool) → eqb b 48 ≡ t → (u : Bool) → (within 49 57 b && each isDigit bs) ≡ u → cond t (zeroOf bs) (cond u (value (runVal 0 (b ∷ bs))) malformed) ≡ value n
+    by : (t : Bool) → eqb b 48 ≡ t → (u : Bool) → (within 49 57 b && each isDigit bs) ≡ u
+        → cond t (zeroOf bs) (cond u (value (runVal 0 (b ∷ bs))) malformed) ≡ value n
         → ((b ∷ bs ≡ 48 ∷ []) × (n ≡ 0)) ⊎ Leads n (b ∷ bs)
     by true q u r h = inl (zero-by bs (eqb-true b 48 q) h)
     by false q true r h =
         let f : within 49 57 b ≡ true = and-first (within 49 57 b) (each isDigit bs) r in
         let d : each isDigit bs ≡ true = and-second (within 49 57 b) (each isDigit bs) r in
         let v : runVal 0 (b ∷ bs) ≡ n = cc in
-        inr (record { first = b; more = bs; is = refl; lead = f; digits = d; val = sym (all-val 0 (b ∷ bs) (and-both (first-digit b f) d)) ∙ v })
+        inr (record {
+          first = b;
+          more = bs;
+          is = refl;
+          lead = f;
+          digits = d;
+          val = sym (all-val 0 (b ∷ bs) (and-both (first-digit b f) d)) ∙ v;
+        })
     by false q false r h = no-case cc
 
 module _ (n : ℕ) (l : List ℕ) (x : Leads n l) where
@@ -90,7 +101,8 @@ module _ (n : ℕ) (l : List ℕ) (x : Leads n l) where
   leads-most =
       let k = within-is 49 57 (x .first) (x .lead) in
       let m : suc (stepped 0 (x .first)) ≤ 10 = omega arith in
-      rw pow-succ' (le-trans (rw (x .val) at (number-most (stepped 0 (x .first)) (x .more) (x .digits))) (mul-le-mul-right (10 ^ length (x .more)) m))
+      rw pow-succ' (le-trans (rw (x .val) at (number-most (stepped 0 (x .first)) (x .more) (x .digits)))
+      (mul-le-mul-right (10 ^ length (x .more)) m))
 
   leads-some : 1 ≤ n
   leads-some = omega (arith, leads-least, pow-le-pow-right {n = 10} (omega arith) {i = 0} {j = length (x .more)} (omega arith))
@@ -108,7 +120,8 @@ counts-one v w n e f = by (count-form v n e) (count-form w n f)
         let k = fewer (length (y .more)) (length (x .more)) n (leads-least n w y) (leads-most n v x) in
         let h = within-is 49 57 (x .first) (x .lead) in
         let i = within-is 49 57 (y .first) (y .lead) in
-        let d = digits-same (stepped 0 (x .first)) (stepped 0 (y .first)) (x .more) (y .more) (omega arith) (x .digits) (y .digits) (x .val ∙ sym (y .val)) in
+        let d = digits-same (stepped 0 (x .first)) (stepped 0 (y .first)) (x .more) (y .more) (omega arith) (x .digits) (y .digits)
+        (x .val ∙ sym (y .val)) in
         let s : stepped 0 (x .first) ≡ stepped 0 (y .first) = d .0 in
         let q : x .first ≡ y .first = omega arith in
         x .is ∙ ap (λ (b : ℕ). b ∷ x .more) q ∙ ap (λ (l : List ℕ). y .first ∷ l) (d .1) ∙ sym (y .is)

@@ -33,7 +33,8 @@ module _ {A : Type 0} (word : List ℕ → Word A) (s : List ℕ) (place : ℕ) 
   line-cut v next e = go (leb (length s) place) (mem lf (drop place s)) refl e
     where
       go : (t u : Bool) → mem lf (drop place s) ≡ u
-          → cond t (none place) (cond u (lineSays place (place + length (upTo lf (drop place s)) + 1) (word (upTo lf (drop place s)))) (fault badForm place)) ≡ line v next → Cut v next
+          → cond t (none place) (cond u (lineSays place (place + length (upTo lf (drop place s)) + 1) (word (upTo lf (drop place s))))
+          (fault badForm place)) ≡ line v next → Cut v next
       go true u q h = no-case cc
       go false false q h = no-case cc
       go false true q h =
@@ -48,7 +49,8 @@ module _ {A : Type 0} (word : List ℕ → Word A) (s : List ℕ) (place : ℕ) 
             on = sym (n .1);
           }
 
-  pub cut-line : (w r : List ℕ) (v : A) → drop place s ≡ w ++ lf ∷ r → mem lf w ≡ false → word w ≡ value v → lineBy word s place ≡ line v (place + length w + 1)
+  pub cut-line : (w r : List ℕ) (v : A) → drop place s ≡ w ++ lf ∷ r → mem lf w ≡ false → word w ≡ value v
+      → lineBy word s place ≡ line v (place + length w + 1)
   unfolding lineBy
   cut-line w r v e h g =
       let a = ap length e ∙ length-append w (lf ∷ r) in

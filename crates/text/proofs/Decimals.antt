@@ -12,7 +12,8 @@ use lib.ListN.{length, getD, drop, length-drop, List·getD-eq-default}
 use lib.Pow.{pow-add}
 use Rattle.basis.proofs.Tests.{clash, false-of, bool-cases, and-first, and-second, and-off, failed, held}
 use Rattle.text.specs.Word.{malformed, isDigit, stepped, runLen, runVal}
-use Rattle.text.specs.Decimal.{digitLimit, decimal, digitOf, up, down, wrong, pastPoint, wholeIsGood, signedPower, powerAt, partsOf, fractionOf, decimalOf}
+use Rattle.text.specs.Decimal.{digitLimit, decimal, digitOf, up, down, wrong, pastPoint}
+use Rattle.text.specs.Decimal.{wholeIsGood, signedPower, powerAt, partsOf, fractionOf, decimalOf}
 use Rattle.text.specs.Stop.{isSign, digitsStop, digitsPower, powerStop, partsStop, fractionStop, decimalStop, powerWord, scaledWord}
 use Rattle.text.specs.Scan.{scanned, capped, runAt, decimalSays}
 use Rattle.text.specs.declared.count.Run.{Run}
@@ -119,7 +120,8 @@ module _ (s : List ℕ) (at g x : ℕ) (X : x ≡ getD s at 0) (t : Bool) (T : t
       unfolding digitsPower digitsStop
       digits-long n = rw (← X, held t (isDigit x) T q, ← Y, held u (isDigit y) U p, ne-eqb (length s) (at + 2) n)
 
-      digits-good : length s ≡ at + 2 → powerWord (signedPower g (digitOf x * 10 + digitOf y)) (at + 2) ≡ powerWord (digitsPower s at g) (digitsStop s at)
+      digits-good : length s ≡ at + 2 → powerWord (signedPower g (digitOf x * 10 + digitOf y)) (at + 2)
+          ≡ powerWord (digitsPower s at g) (digitsStop s at)
       unfolding digitsPower digitsStop
       digits-good l = rw (← X, held t (isDigit x) T q, ← Y, held u (isDigit y) U p, eq-eqb (length s) (at + 2) l)
 
@@ -152,9 +154,18 @@ module _ (s : List ℕ) (at : ℕ) where
       unfolding powerAt powerStop
       power-sign q =
           let w = failed t (isSign g) T q in
-          rw (ne-eqb (length s) at n, ← B, eq-eqb b 101 k, ← G, no-sign g (digitOf (getD s (at + 2) 0) * 10 + digitOf (getD s (at + 3) 0)) w, w, either-way)
+          rw (
+            ne-eqb (length s) at n,
+            ← B,
+            eq-eqb b 101 k,
+            ← G,
+            no-sign g (digitOf (getD s (at + 2) 0) * 10 + digitOf (getD s (at + 3) 0)) w,
+            w,
+            either-way,
+          )
 
-      pub power-signed : not t ≡ false → (r : Power) → r ≡ powerWord (digitsPower s (at + 2) g) (digitsStop s (at + 2)) → r ≡ powerWord (powerAt s at) (powerStop s at)
+      pub power-signed : not t ≡ false → (r : Power) → r ≡ powerWord (digitsPower s (at + 2) g) (digitsStop s (at + 2))
+          → r ≡ powerWord (powerAt s at) (powerStop s at)
       unfolding powerAt powerStop digitsPower
       power-signed q r h =
           let three : at + 2 + 1 ≡ at + 3 = omega arith in
@@ -204,14 +215,23 @@ module _ (s : List ℕ) (w p f n : ℕ) where
           pub parts-limit : digitLimit < w + f → scanned malformed (p + (digitLimit - w)) ≡ scanned (partsOf s w p f n) (partsStop s w p f)
           unfolding partsOf partsStop
           parts-limit m =
-              rw (ne-eqb w 0 z, held t (wholeIsGood s w) h e, le-ltb digitLimit p l, le-ltb (w + f) p k, lt-ltb digitLimit (w + f) m, le-leb p (w + f) k, lt-leb (w + f) digitLimit m)
+              rw (
+                ne-eqb w 0 z,
+                held t (wholeIsGood s w) h e,
+                le-ltb digitLimit p l,
+                le-ltb (w + f) p k,
+                lt-ltb digitLimit (w + f) m,
+                le-leb p (w + f) k,
+                lt-leb (w + f) digitLimit m,
+              )
 
 -- ---- digits so few are never cut down
 pub run-small : (a : ℕ) (l : List ℕ) → suc (runVal a l) ≤ suc a * 10 ^ runLen l
 run-small a [] = omega arith
 run-small a (b ∷ l) = by (isDigit b) refl (λ k. run-small k l)
   where
-    by : (t : Bool) → isDigit b ≡ t → ((k : ℕ) → suc (runVal k l) ≤ suc k * 10 ^ runLen l) → suc (runVal a (b ∷ l)) ≤ suc a * 10 ^ runLen (b ∷ l)
+    by : (t : Bool) → isDigit b ≡ t → ((k : ℕ) → suc (runVal k l) ≤ suc k * 10 ^ runLen l)
+        → suc (runVal a (b ∷ l)) ≤ suc a * 10 ^ runLen (b ∷ l)
     by true e f =
         let h = within-is 48 57 b e in
         let m : suc (stepped a b) ≤ suc a * 10 = omega arith in
@@ -226,11 +246,13 @@ few-digits s p h =
     let t : 10 ^ (runLen s + runLen (drop p s)) ≤ 10 ^ digitLimit = pow-le-pow-right (omega arith) h in
     le-trans b (le-trans (mul-le-mul-right (10 ^ runLen (drop p s)) a) (rw pow-add at t))
 
-parts-cut : (s : List ℕ) (p : ℕ) → partsOf s (runLen s) p (runLen (drop p s)) (capped (runVal (runVal 0 s) (drop p s))) ≡ fractionOf s (runLen s) p
+parts-cut : (s : List ℕ) (p : ℕ) → partsOf s (runLen s) p (runLen (drop p s)) (capped (runVal (runVal 0 s) (drop p s)))
+    ≡ fractionOf s (runLen s) p
 unfolding partsOf fractionOf
 parts-cut s p =
     bool-cases (leb (runLen s + runLen (drop p s)) digitLimit) _
-    (λ e. let h : runVal (runVal 0 s) (drop p s) < 10 ^ digitLimit = few-digits s p (leb-true (runLen s + runLen (drop p s)) digitLimit e) in
+    (λ e. let h : runVal (runVal 0 s) (drop p s) < 10 ^ digitLimit = few-digits s p
+    (leb-true (runLen s + runLen (drop p s)) digitLimit e) in
     let c : capped (runVal (runVal 0 s) (drop p s)) ≡ runVal (runVal 0 s) (drop p s) = omega arith in
     rw c)
     (λ e. rw (e, and-off (leb p (runLen s + runLen (drop p s))) false refl, and-off (wholeIsGood s (runLen s)) false refl))
@@ -251,10 +273,12 @@ point-within s w h = by (eqb (getD s w 0) 46) refl
     by : (t : Bool) → eqb (getD s w 0) 46 ≡ t → cond t (w + 1) w ≤ length s
     by false e = h
     by true e =
-        ⊎-elim (λ q. absurd (let z : getD s w 0 ≡ 0 = List·getD-eq-default s 0 (omega (arith, q)) in omega (arith, eqb-true (getD s w 0) 46 e)))
+        ⊎-elim (λ q. absurd (let z : getD s w 0 ≡ 0 = List·getD-eq-default s 0 (omega (arith, q)) in
+        omega (arith, eqb-true (getD s w 0) 46 e)))
         (λ q. omega (arith, q)) (eq-or-lt-of-le h)
 
-module _ (s : List ℕ) (whole : Run) (p : ℕ) (all : Run) (a : whole ≡ runAt s 0 0) (b : p ≡ pastPoint s (whole .next)) (c : all ≡ runAt s p (whole .n)) where
+module _ (s : List ℕ) (whole : Run) (p : ℕ) (all : Run) (a : whole ≡ runAt s 0 0) (b : p ≡ pastPoint s (whole .next))
+    (c : all ≡ runAt s p (whole .n)) where
   whole-next : whole .next ≡ runLen s
   unfolding runAt
   whole-next = ap (λ (r : Run). r .next) a ∙ zero-add (runLen s)
@@ -281,7 +305,8 @@ module _ (s : List ℕ) (whole : Run) (p : ℕ) (all : Run) (a : whole ≡ runAt
       let h : p ≤ length s = omega (arith, b, point-within s (whole .next) (omega (arith, whole-next, len-le s))) in
       omega (arith, all-next, len-le (drop p s), length-drop p s)
 
-  pub decimal-is : (r : DecimalWord) → decimalSays (length s) r ≡ scanned (partsOf s (whole .next) p (all .next - p) (all .n)) (partsStop s (whole .next) p (all .next - p))
+  pub decimal-is : (r : DecimalWord) → decimalSays (length s) r
+      ≡ scanned (partsOf s (whole .next) p (all .next - p) (all .n)) (partsStop s (whole .next) p (all .next - p))
       → decimalSays (length s) r ≡ scanned (decimalOf s) (decimalStop s)
   unfolding decimalOf decimalStop fractionStop
   decimal-is r h =

@@ -15,15 +15,18 @@ use Rattle.text.specs.Scan.{scanned, hasAt, decimalAt, restAt}
 -- vertex lines, P1 to P3 among them
 pub record VertexLines : Type 0 where
   -- '-9223372036854775808\n' (P1)
-  pub p1 : vertexLine (45 ∷ 57 ∷ 50 ∷ 50 ∷ 51 ∷ 51 ∷ 55 ∷ 50 ∷ 48 ∷ 51 ∷ 54 ∷ 56 ∷ 53 ∷ 52 ∷ 55 ∷ 55 ∷ 53 ∷ 56 ∷ 48 ∷ 56 ∷ 10 ∷ []) 0 ≡ line (negsuc 9223372036854775807) 21
+  pub p1 : vertexLine (45 ∷ 57 ∷ 50 ∷ 50 ∷ 51 ∷ 51 ∷ 55 ∷ 50 ∷ 48 ∷ 51 ∷ 54 ∷ 56 ∷ 53 ∷ 52 ∷ 55 ∷ 55 ∷ 53 ∷ 56 ∷ 48 ∷ 56 ∷ 10 ∷ []) 0
+      ≡ line (negsuc 9223372036854775807) 21
   -- '9223372036854775808\n' (P2)
   pub p2 : vertexLine (57 ∷ 50 ∷ 50 ∷ 51 ∷ 51 ∷ 55 ∷ 50 ∷ 48 ∷ 51 ∷ 54 ∷ 56 ∷ 53 ∷ 52 ∷ 55 ∷ 55 ∷ 53 ∷ 56 ∷ 48 ∷ 56 ∷ 10 ∷ []) 0 ≡ fault 3 0
   -- '-0\n' (P3)
   pub p3 : vertexLine (45 ∷ 48 ∷ 10 ∷ []) 0 ≡ fault 2 0
   -- '9223372036854775807\n'
-  pub largest : vertexLine (57 ∷ 50 ∷ 50 ∷ 51 ∷ 51 ∷ 55 ∷ 50 ∷ 48 ∷ 51 ∷ 54 ∷ 56 ∷ 53 ∷ 52 ∷ 55 ∷ 55 ∷ 53 ∷ 56 ∷ 48 ∷ 55 ∷ 10 ∷ []) 0 ≡ line (pos 9223372036854775807) 20
+  pub largest : vertexLine (57 ∷ 50 ∷ 50 ∷ 51 ∷ 51 ∷ 55 ∷ 50 ∷ 48 ∷ 51 ∷ 54 ∷ 56 ∷ 53 ∷ 52 ∷ 55 ∷ 55 ∷ 53 ∷ 56 ∷ 48 ∷ 55 ∷ 10 ∷ []) 0
+      ≡ line (pos 9223372036854775807) 20
   -- '-9223372036854775809\n'
-  pub too-small : vertexLine (45 ∷ 57 ∷ 50 ∷ 50 ∷ 51 ∷ 51 ∷ 55 ∷ 50 ∷ 48 ∷ 51 ∷ 54 ∷ 56 ∷ 53 ∷ 52 ∷ 55 ∷ 55 ∷ 53 ∷ 56 ∷ 48 ∷ 57 ∷ 10 ∷ []) 0 ≡ fault 3 0
+  pub too-small : vertexLine (45 ∷ 57 ∷ 50 ∷ 50 ∷ 51 ∷ 51 ∷ 55 ∷ 50 ∷ 48 ∷ 51 ∷ 54 ∷ 56 ∷ 53 ∷ 52 ∷ 55 ∷ 55 ∷ 53 ∷ 56 ∷ 48 ∷ 57 ∷ 10 ∷ []) 0
+      ≡ fault 3 0
   -- '+1\n'
   pub plus : vertexLine (43 ∷ 49 ∷ 10 ∷ []) 0 ≡ fault 2 0
   -- '007\n'
@@ -45,18 +48,37 @@ pub record VertexLines : Type 0 where
 
 pub vertex-lines : VertexLines
 unfolding each mem within lineBy
-vertex-lines = record { p1 = refl; p2 = refl; p3 = refl; largest = refl; too-small = refl; plus = refl; zeros = refl; just-zero = refl; unended = refl; empty-line = refl; empty-file = refl; second-line = refl; at-the-end = refl; past-the-end = refl }
+vertex-lines =
+    record {
+      p1 = refl;
+      p2 = refl;
+      p3 = refl;
+      largest = refl;
+      too-small = refl;
+      plus = refl;
+      zeros = refl;
+      just-zero = refl;
+      unended = refl;
+      empty-line = refl;
+      empty-file = refl;
+      second-line = refl;
+      at-the-end = refl;
+      past-the-end = refl;
+    }
 
 -- edge lines, and a claim line of their form
 pub record EdgeLines : Type 0 where
   -- '-3 20\n'
   pub edge : edgeLine (45 ∷ 51 ∷ 32 ∷ 50 ∷ 48 ∷ 10 ∷ []) 0 ≡ line (negsuc 2, pos 20) 6
   -- '9223372036854775808 07\n'
-  pub form-first : edgeLine (57 ∷ 50 ∷ 50 ∷ 51 ∷ 51 ∷ 55 ∷ 50 ∷ 48 ∷ 51 ∷ 54 ∷ 56 ∷ 53 ∷ 52 ∷ 55 ∷ 55 ∷ 53 ∷ 56 ∷ 48 ∷ 56 ∷ 32 ∷ 48 ∷ 55 ∷ 10 ∷ []) 0 ≡ fault 2 0
+  pub form-first : edgeLine (57 ∷ 50 ∷ 50 ∷ 51 ∷ 51 ∷ 55 ∷ 50 ∷ 48 ∷ 51 ∷ 54 ∷ 56 ∷ 53 ∷ 52 ∷ 55 ∷ 55 ∷ 53 ∷ 56 ∷ 48 ∷ 56 ∷ 32 ∷ 48 ∷ 55
+      ∷ 10 ∷ []) 0 ≡ fault 2 0
   -- '9223372036854775808 7\n'
-  pub range : edgeLine (57 ∷ 50 ∷ 50 ∷ 51 ∷ 51 ∷ 55 ∷ 50 ∷ 48 ∷ 51 ∷ 54 ∷ 56 ∷ 53 ∷ 52 ∷ 55 ∷ 55 ∷ 53 ∷ 56 ∷ 48 ∷ 56 ∷ 32 ∷ 55 ∷ 10 ∷ []) 0 ≡ fault 3 0
+  pub range : edgeLine (57 ∷ 50 ∷ 50 ∷ 51 ∷ 51 ∷ 55 ∷ 50 ∷ 48 ∷ 51 ∷ 54 ∷ 56 ∷ 53 ∷ 52 ∷ 55 ∷ 55 ∷ 53 ∷ 56 ∷ 48 ∷ 56 ∷ 32 ∷ 55 ∷ 10 ∷ []) 0
+      ≡ fault 3 0
   -- '7 9223372036854775808\n'
-  pub second-range : edgeLine (55 ∷ 32 ∷ 57 ∷ 50 ∷ 50 ∷ 51 ∷ 51 ∷ 55 ∷ 50 ∷ 48 ∷ 51 ∷ 54 ∷ 56 ∷ 53 ∷ 52 ∷ 55 ∷ 55 ∷ 53 ∷ 56 ∷ 48 ∷ 56 ∷ 10 ∷ []) 0 ≡ fault 3 0
+  pub second-range : edgeLine (55 ∷ 32 ∷ 57 ∷ 50 ∷ 50 ∷ 51 ∷ 51 ∷ 55 ∷ 50 ∷ 48 ∷ 51 ∷ 54 ∷ 56 ∷ 53 ∷ 52 ∷ 55 ∷ 55 ∷ 53 ∷ 56 ∷ 48 ∷ 56 ∷ 10
+      ∷ []) 0 ≡ fault 3 0
   -- '1  2\n'
   pub two-spaces : edgeLine (49 ∷ 32 ∷ 32 ∷ 50 ∷ 10 ∷ []) 0 ≡ fault 2 0
   -- '1\t2\n'
@@ -68,11 +90,24 @@ pub record EdgeLines : Type 0 where
   -- '1 2'
   pub edge-unended : edgeLine (49 ∷ 32 ∷ 50 ∷ []) 0 ≡ fault 2 0
   -- '-3 9223372036854775807\n'
-  pub unreachable : claimLine (45 ∷ 51 ∷ 32 ∷ 57 ∷ 50 ∷ 50 ∷ 51 ∷ 51 ∷ 55 ∷ 50 ∷ 48 ∷ 51 ∷ 54 ∷ 56 ∷ 53 ∷ 52 ∷ 55 ∷ 55 ∷ 53 ∷ 56 ∷ 48 ∷ 55 ∷ 10 ∷ []) 0 ≡ line (negsuc 2, pos 9223372036854775807) 23
+  pub unreachable : claimLine (45 ∷ 51 ∷ 32 ∷ 57 ∷ 50 ∷ 50 ∷ 51 ∷ 51 ∷ 55 ∷ 50 ∷ 48 ∷ 51 ∷ 54 ∷ 56 ∷ 53 ∷ 52 ∷ 55 ∷ 55 ∷ 53 ∷ 56 ∷ 48 ∷ 55
+      ∷ 10 ∷ []) 0 ≡ line (negsuc 2, pos 9223372036854775807) 23
 
 pub edge-lines : EdgeLines
 unfolding each mem within lineBy twoOf
-edge-lines = record { edge = refl; form-first = refl; range = refl; second-range = refl; two-spaces = refl; tab = refl; three = refl; next-line = refl; edge-unended = refl; unreachable = refl }
+edge-lines =
+    record {
+      edge = refl;
+      form-first = refl;
+      range = refl;
+      second-range = refl;
+      two-spaces = refl;
+      tab = refl;
+      three = refl;
+      next-line = refl;
+      edge-unended = refl;
+      unreachable = refl;
+    }
 
 -- lines of an LCC claim
 pub record CoefficientLines : Type 0 where
@@ -85,9 +120,11 @@ pub record CoefficientLines : Type 0 where
   -- '7 1e+02\n'
   pub large : coefficientLine (55 ∷ 32 ∷ 49 ∷ 101 ∷ 43 ∷ 48 ∷ 50 ∷ 10 ∷ []) 0 ≡ line (pos 7, decimal 1 2 0) 8
   -- '7 0.12345678901234\n'
-  pub fifteen : coefficientLine (55 ∷ 32 ∷ 48 ∷ 46 ∷ 49 ∷ 50 ∷ 51 ∷ 52 ∷ 53 ∷ 54 ∷ 55 ∷ 56 ∷ 57 ∷ 48 ∷ 49 ∷ 50 ∷ 51 ∷ 52 ∷ 10 ∷ []) 0 ≡ line (pos 7, decimal 12345678901234 0 14) 19
+  pub fifteen : coefficientLine (55 ∷ 32 ∷ 48 ∷ 46 ∷ 49 ∷ 50 ∷ 51 ∷ 52 ∷ 53 ∷ 54 ∷ 55 ∷ 56 ∷ 57 ∷ 48 ∷ 49 ∷ 50 ∷ 51 ∷ 52 ∷ 10 ∷ []) 0
+      ≡ line (pos 7, decimal 12345678901234 0 14) 19
   -- '7 0.123456789012345\n'
-  pub sixteen : coefficientLine (55 ∷ 32 ∷ 48 ∷ 46 ∷ 49 ∷ 50 ∷ 51 ∷ 52 ∷ 53 ∷ 54 ∷ 55 ∷ 56 ∷ 57 ∷ 48 ∷ 49 ∷ 50 ∷ 51 ∷ 52 ∷ 53 ∷ 10 ∷ []) 0 ≡ fault 2 0
+  pub sixteen : coefficientLine (55 ∷ 32 ∷ 48 ∷ 46 ∷ 49 ∷ 50 ∷ 51 ∷ 52 ∷ 53 ∷ 54 ∷ 55 ∷ 56 ∷ 57 ∷ 48 ∷ 49 ∷ 50 ∷ 51 ∷ 52 ∷ 53 ∷ 10 ∷ []) 0
+      ≡ fault 2 0
   -- '7 00.5\n'
   pub leading-zero : coefficientLine (55 ∷ 32 ∷ 48 ∷ 48 ∷ 46 ∷ 53 ∷ 10 ∷ []) 0 ≡ fault 2 0
   -- '7 .5\n'
@@ -103,13 +140,33 @@ pub record CoefficientLines : Type 0 where
   -- '7 1e+2\n'
   pub one-digit : coefficientLine (55 ∷ 32 ∷ 49 ∷ 101 ∷ 43 ∷ 50 ∷ 10 ∷ []) 0 ≡ fault 2 0
   -- '9223372036854775808 0.5\n'
-  pub range-of-first : coefficientLine (57 ∷ 50 ∷ 50 ∷ 51 ∷ 51 ∷ 55 ∷ 50 ∷ 48 ∷ 51 ∷ 54 ∷ 56 ∷ 53 ∷ 52 ∷ 55 ∷ 55 ∷ 53 ∷ 56 ∷ 48 ∷ 56 ∷ 32 ∷ 48 ∷ 46 ∷ 53 ∷ 10 ∷ []) 0 ≡ fault 3 0
+  pub range-of-first : coefficientLine (57 ∷ 50 ∷ 50 ∷ 51 ∷ 51 ∷ 55 ∷ 50 ∷ 48 ∷ 51 ∷ 54 ∷ 56 ∷ 53 ∷ 52 ∷ 55 ∷ 55 ∷ 53 ∷ 56 ∷ 48 ∷ 56 ∷ 32
+      ∷ 48 ∷ 46 ∷ 53 ∷ 10 ∷ []) 0 ≡ fault 3 0
   -- '9223372036854775808 x\n'
-  pub form-of-second : coefficientLine (57 ∷ 50 ∷ 50 ∷ 51 ∷ 51 ∷ 55 ∷ 50 ∷ 48 ∷ 51 ∷ 54 ∷ 56 ∷ 53 ∷ 52 ∷ 55 ∷ 55 ∷ 53 ∷ 56 ∷ 48 ∷ 56 ∷ 32 ∷ 120 ∷ 10 ∷ []) 0 ≡ fault 2 0
+  pub form-of-second : coefficientLine (57 ∷ 50 ∷ 50 ∷ 51 ∷ 51 ∷ 55 ∷ 50 ∷ 48 ∷ 51 ∷ 54 ∷ 56 ∷ 53 ∷ 52 ∷ 55 ∷ 55 ∷ 53 ∷ 56 ∷ 48 ∷ 56 ∷ 32
+      ∷ 120 ∷ 10 ∷ []) 0 ≡ fault 2 0
 
 pub coefficient-lines : CoefficientLines
 unfolding each mem within lineBy twoOf digitOf pastPoint wholeIsGood signedPower powerAt partsOf fractionOf decimalOf
-coefficient-lines = record { half = refl; whole = refl; scientific = refl; large = refl; fifteen = refl; sixteen = refl; leading-zero = refl; no-whole = refl; no-fraction = refl; minus = refl; capital = refl; no-sign = refl; one-digit = refl; range-of-first = refl; form-of-second = refl }
+coefficient-lines =
+    record {
+      half = refl;
+      whole = refl;
+      scientific = refl;
+      large = refl;
+      fifteen = refl;
+      sixteen = refl;
+      leading-zero = refl;
+      no-whole = refl;
+      no-fraction = refl;
+      minus = refl;
+      capital = refl;
+      no-sign = refl;
+      one-digit = refl;
+      range-of-first =
+          refl;
+      form-of-second = refl;
+    }
 
 -- words by the decimal's grammar
 pub record Forms : Type 0 where
@@ -124,9 +181,26 @@ pub forms : Forms
 unfolding each within
 forms =
     record {
-      quarter = record { parts = record { whole = nought; fraction = point 50 (53 ∷ []); power = noPower }; good = record { leading = refl; wholes = refl; fractions = refl; powers = refl; few = omega arith }; bytes = refl; says = refl };
-      small = record { parts = record { whole = number 50 []; fraction = point 53 []; power = minus 48 56 }; good = record { leading = refl; wholes = refl; fractions = refl; powers = refl; few = omega arith }; bytes = refl; says = refl };
-      thousand = record { parts = record { whole = number 49 (48 ∷ []); fraction = noPoint; power = plus 48 50 }; good = record { leading = refl; wholes = refl; fractions = refl; powers = refl; few = omega arith }; bytes = refl; says = refl };
+      quarter =
+          record {
+            parts = record { whole = nought; fraction = point 50 (53 ∷ []); power = noPower };
+            good = record { leading = refl; wholes = refl; fractions = refl; powers = refl; few = omega arith };
+            bytes = refl;
+            says = refl;
+          };
+      small = record {
+        parts = record { whole = number 50 []; fraction = point 53 []; power = minus 48 56 };
+        good = record { leading = refl; wholes = refl; fractions = refl; powers = refl; few = omega arith };
+        bytes = refl;
+        says = refl;
+      };
+      thousand =
+          record {
+            parts = record { whole = number 49 (48 ∷ []); fraction = noPoint; power = plus 48 50 };
+            good = record { leading = refl; wholes = refl; fractions = refl; powers = refl; few = omega arith };
+            bytes = refl;
+            says = refl;
+          };
     }
 
 -- where a decimal breaks off
@@ -148,7 +222,8 @@ pub record Stops : Type 0 where
   -- '123456789012345.'
   pub stop-point-after-fifteen : decimalStop (49 ∷ 50 ∷ 51 ∷ 52 ∷ 53 ∷ 54 ∷ 55 ∷ 56 ∷ 57 ∷ 48 ∷ 49 ∷ 50 ∷ 51 ∷ 52 ∷ 53 ∷ 46 ∷ []) ≡ 15
   -- '0.123456789012345'
-  pub stop-sixteenth-after-point : decimalStop (48 ∷ 46 ∷ 49 ∷ 50 ∷ 51 ∷ 52 ∷ 53 ∷ 54 ∷ 55 ∷ 56 ∷ 57 ∷ 48 ∷ 49 ∷ 50 ∷ 51 ∷ 52 ∷ 53 ∷ []) ≡ 16
+  pub stop-sixteenth-after-point : decimalStop (48 ∷ 46 ∷ 49 ∷ 50 ∷ 51 ∷ 52 ∷ 53 ∷ 54 ∷ 55 ∷ 56 ∷ 57 ∷ 48 ∷ 49 ∷ 50 ∷ 51 ∷ 52 ∷ 53 ∷ [])
+      ≡ 16
   -- '1.'
   pub stop-point-last : decimalStop (49 ∷ 46 ∷ []) ≡ 2
   -- '1.x'
@@ -172,7 +247,29 @@ pub record Stops : Type 0 where
 
 pub stops : Stops
 unfolding within pastPoint wholeIsGood isSign digitsStop powerStop partsStop fractionStop decimalStop
-stops = record { stop-empty = refl; stop-none = refl; stop-point-first = refl; stop-zeros = refl; stop-zero-seven = refl; stop-stray = refl; stop-sixteenth = refl; stop-point-after-fifteen = refl; stop-sixteenth-after-point = refl; stop-point-last = refl; stop-after-point = refl; stop-second-point = refl; stop-space = refl; stop-no-sign = refl; stop-no-digit = refl; stop-one-digit = refl; stop-third-digit = refl; stop-power-after-fifteen = refl; stop-good = refl }
+stops = record {
+  stop-empty = refl;
+  stop-none = refl;
+  stop-point-first = refl;
+  stop-zeros = refl;
+  stop-zero-seven = refl;
+  stop-stray = refl;
+  stop-sixteenth = refl;
+  stop-point-after-fifteen = refl;
+  stop-sixteenth-after-point = refl;
+  stop-point-last = refl;
+  stop-after-point =
+      refl;
+  stop-second-point = refl;
+  stop-space = refl;
+  stop-no-sign = refl;
+  stop-no-digit = refl;
+  stop-one-digit = refl;
+  stop-third-digit =
+      refl;
+  stop-power-after-fifteen = refl;
+  stop-good = refl;
+}
 
 -- the rest of a line of an LCC claim, from a place on
 pub record Rests : Type 0 where
@@ -192,8 +289,17 @@ pub record Rests : Type 0 where
   pub rest-good : restAt (55 ∷ 32 ∷ 49 ∷ 46 ∷ 53 ∷ 10 ∷ []) 2 ≡ scanned (value (decimal 15 0 1)) 6
 
 pub rests : Rests
-unfolding within digitOf pastPoint wholeIsGood signedPower powerAt partsOf fractionOf decimalOf isSign digitsStop powerStop partsStop fractionStop decimalStop hasAt decimalAt restAt
-rests = record { rest-point-last = refl; rest-one-digit = refl; rest-space = refl; rest-file-ends = refl; rest-file-breaks-off = refl; rest-stray = refl; rest-good = refl }
+unfolding within digitOf pastPoint wholeIsGood signedPower powerAt partsOf fractionOf decimalOf isSign digitsStop powerStop partsStop
+    fractionStop decimalStop hasAt decimalAt restAt
+rests = record {
+  rest-point-last = refl;
+  rest-one-digit = refl;
+  rest-space = refl;
+  rest-file-ends = refl;
+  rest-file-breaks-off = refl;
+  rest-stray = refl;
+  rest-good = refl;
+}
 
 -- a vertex line of n nines
 abbrev pub nines : ℕ → List ℕ

@@ -1,4 +1,5 @@
--- Laws of a file line by line: what a line does to what is left of the file, and which files are accepted or refused, said of their bytes. Assumes nothing.
+-- Laws of a file line by line: what a line does to what is left of the file, and which files are accepted or refused, said of their bytes.
+-- Assumes nothing.
 use Prim.Native.Nat.{ℕ, zero, suc, _+_, _-_, _≤_, _<_}
 use mathlib.Core.Path.{_≡_, refl, sym, ap, subst, _∙_}
 use mathlib.Core.Logic.{_↔_, _⊎_, inl, inr}
@@ -16,7 +17,8 @@ use Rattle.basis.proofs.Tests.{no-case}
 use Rattle.basis.proofs.Saids.{refused-given, given-one, Either, Any}
 use Rattle.text.specs.Word.{Word, malformed, outside, value}
 use Rattle.text.specs.Line.{LineSaid, line, none, fault, lf, upTo, past, lineSays, lineBy}
-use Rattle.text.specs.File.{Line, good, bad, linesFrom, linesOf, Before, first, after, unless, faultOf, valuesFrom, valuesOf, noTest, joined, Says, Passes, lastOf, GoodFile, Fails, over, unended, wrong, beyond, tested, FirstFault}
+use Rattle.text.specs.File.{Line, good, bad, linesFrom, linesOf, Before, first, after, unless, faultOf, valuesFrom, valuesOf}
+use Rattle.text.specs.File.{noTest, joined, Says, Passes, lastOf, GoodFile, Fails, over, unended, wrong, beyond, tested, FirstFault}
 use Rattle.text.proofs.Bytes.{cut-at, upTo-none, drop-past}
 use Rattle.text.proofs.Cuts.{cut-line}
 use Rattle.text.proofs.Places.{line-moves, none-stays}
@@ -51,12 +53,14 @@ module _ {A : Type 0} (word : List ℕ → Word A) (file most : ℕ) (test : Bef
     unfolding left linesFrom valuesFrom
     left-none p e = rw (e, linesFrom)
 
-    pub left-bad : (n p : ℕ) → lineBy word s place ≡ fault n p → left k before place ≡ refuses (at (faultOf file most test k before (bad n)) file (k + 1))
+    pub left-bad : (n p : ℕ) → lineBy word s place ≡ fault n p
+        → left k before place ≡ refuses (at (faultOf file most test k before (bad n)) file (k + 1))
     unfolding left linesFrom valuesFrom
     left-bad n p e = rw (e, linesFrom)
 
     pub left-good : (v : A) (next : ℕ) → lineBy word s place ≡ line v next → k ≤ place
-        → left k before place ≡ unless (faultOf file most test k before (good v)) file (k + 1) (said (λ vs. v ∷ vs) (left (k + 1) (after v) next))
+        → left k before place ≡ unless (faultOf file most test k before (good v)) file (k + 1)
+        (said (λ vs. v ∷ vs) (left (k + 1) (after v) next))
     unfolding left linesFrom valuesFrom
     left-good v next e low =
         let m = line-moves word s place (line v next) (sym e) v next refl in
@@ -102,7 +106,8 @@ last-more before [] v = refl
 last-more before (d ∷ done) v = last-more (after d) done v
 
 -- a file of which k lines are done, up to a place: what a reading loop keeps
-pub record Passed {A : Type 0} (word : List ℕ → Word A) (file most : ℕ) (test : Before A → A → ℕ) (s : List ℕ) (done : List A) (place k : ℕ) : Type 0 where
+pub record Passed {A : Type 0} (word : List ℕ → Word A) (file most : ℕ) (test : Before A → A → ℕ) (s : List ℕ) (done : List A)
+    (place k : ℕ) : Type 0 where
   pub forward : k ≤ place
   pub rest : valuesOf file most test (linesOf (lineBy word) s) ≡ onto done (left word file most test s k (lastOf first done) place)
 
@@ -121,18 +126,24 @@ module _ {A : Type 0} (word : List ℕ → Word A) (file most : ℕ) (test : Bef
     passed-over l e = h .rest ∙ rw (left-over word file most test s k (lastOf first done) place l e)
 
     module _ (l : k < most) where
-      pub passed-fault : (n p : ℕ) → lineBy word s place ≡ fault n p → valuesOf file most test (linesOf (lineBy word) s) ≡ refuses (at n file (k + 1))
+      pub passed-fault : (n p : ℕ) → lineBy word s place ≡ fault n p
+          → valuesOf file most test (linesOf (lineBy word) s) ≡ refuses (at n file (k + 1))
       passed-fault n p e = h .rest ∙ rw (left-fault word file most test s k (lastOf first done) place l n p e)
 
       pub passed-tested : (v : A) (next : ℕ) → lineBy word s place ≡ line v next → (n : ℕ) → test (lastOf first done) v ≡ n → (n ≡ 0 → ⊥)
           → valuesOf file most test (linesOf (lineBy word) s) ≡ refuses (at n file (k + 1))
-      passed-tested v next e n t d = h .rest ∙ rw (left-tested word file most test s k (lastOf first done) place l (h .forward) v next e n t d)
+      passed-tested v next e n t d =
+          h .rest ∙ rw (left-tested word file most test s k (lastOf first done) place l (h .forward) v next e n t d)
 
-      pub passed-next : (v : A) (next : ℕ) → lineBy word s place ≡ line v next → test (lastOf first done) v ≡ 0 → Passed word file most test s (done ++ (v ∷ [])) next (k + 1)
+      pub passed-next : (v : A) (next : ℕ) → lineBy word s place ≡ line v next → test (lastOf first done) v ≡ 0
+          → Passed word file most test s (done ++ (v ∷ [])) next (k + 1)
       passed-next v next e t =
           record {
             forward = omega (arith, h .forward, line-moves word s place (line v next) (sym e) v next refl .forward);
-            rest = h .rest ∙ rw (left-line word file most test s k (lastOf first done) place l (h .forward) v next e t, last-more first done v)
+            rest = h .rest ∙ rw (
+              left-line word file most test s k (lastOf first done) place l (h .forward) v next e t,
+              last-more first done v,
+            )
                 (onto-last done v (left word file most test s (k + 1) (after v) next));
           }
 
@@ -140,16 +151,19 @@ module _ {A : Type 0} (word : List ℕ → Word A) (file most : ℕ) (test : Bef
 joined-more : (ws : List (List ℕ)) (w rest : List ℕ) → joined (ws ++ (w ∷ [])) ++ rest ≡ joined ws ++ (w ++ lf ∷ rest)
 joined-more [] w rest = append-assoc w (lf ∷ []) rest
 joined-more (x ∷ ws) w rest =
-    append-assoc x (lf ∷ joined (ws ++ (w ∷ []))) rest ∙ ap (λ (l : List ℕ). x ++ lf ∷ l) (joined-more ws w rest) ∙ sym (append-assoc x (lf ∷ joined ws) (w ++ lf ∷ rest))
+    append-assoc x (lf ∷ joined (ws ++ (w ∷ []))) rest ∙ ap (λ (l : List ℕ). x ++ lf ∷ l) (joined-more ws w rest)
+    ∙ sym (append-assoc x (lf ∷ joined ws) (w ++ lf ∷ rest))
 
-says-more : {A : Type 0} (word : List ℕ → Word A) (ws : List (List ℕ)) (vs : List A) (w : List ℕ) (v : A) → Says word ws vs → mem lf w ≡ false → word w ≡ value v
+says-more : {A : Type 0} (word : List ℕ → Word A) (ws : List (List ℕ)) (vs : List A) (w : List ℕ) (v : A) → Says word ws vs
+    → mem lf w ≡ false → word w ≡ value v
     → Says word (ws ++ (w ∷ [])) (vs ++ (v ∷ []))
 says-more word [] [] w v h m e = (m, e, tt)
 says-more word [] (u ∷ vs) w v h m e = absurd h
 says-more word (x ∷ ws) [] w v h m e = absurd h
 says-more word (x ∷ ws) (u ∷ vs) w v h m e = (h .0, h .1, says-more word ws vs w v (h .2) m e)
 
-passes-more : {A : Type 0} (test : Before A → A → ℕ) (before : Before A) (vs : List A) (v : A) → Passes test before vs → test (lastOf before vs) v ≡ 0 → Passes test before (vs ++ (v ∷ []))
+passes-more : {A : Type 0} (test : Before A → A → ℕ) (before : Before A) (vs : List A) (v : A) → Passes test before vs
+    → test (lastOf before vs) v ≡ 0 → Passes test before (vs ++ (v ∷ []))
 passes-more test before [] v p e = (e, tt)
 passes-more test before (u ∷ vs) v p e = (p .0, passes-more test (after u) vs v (p .1) e)
 
@@ -169,7 +183,8 @@ module _ {A : Type 0} (word : List ℕ → Word A) (file most : ℕ) (test : Bef
   abbrev Ends : Type 0
   Ends = ((vs : List A) × GoodFile word most test s vs) ⊎ ((r : Refusal) × FirstFault word file most test s r)
 
-  stops : {words : List (List ℕ)} {passed : List A} {rest : List ℕ} → Front words passed rest → (rest ≡ [] → ⊥) → (n : ℕ) → Fails word most (test (lastOf first passed)) (length passed) rest n → Ends
+  stops : {words : List (List ℕ)} {passed : List A} {rest : List ℕ} → Front words passed rest → (rest ≡ [] → ⊥) → (n : ℕ)
+      → Fails word most (test (lastOf first passed)) (length passed) rest n → Ends
   stops {words} {passed} {rest} f d n w =
       inr (
         at n file (length passed + 1),
@@ -189,7 +204,8 @@ module _ {A : Type 0} (word : List ℕ → Word A) (file most : ℕ) (test : Bef
       )
 
   -- a rest that is not empty, with m turns left for what stands after its first line
-  module _ {words : List (List ℕ)} {passed : List A} (b : ℕ) (t : List ℕ) (f : Front words passed (b ∷ t)) (m : ℕ) (l : length (b ∷ t) < suc m)
+  module _ {words : List (List ℕ)} {passed : List A} (b : ℕ) (t : List ℕ) (f : Front words passed (b ∷ t)) (m : ℕ)
+      (l : length (b ∷ t) < suc m)
       (onward : (ws : List (List ℕ)) (vs : List A) (rest : List ℕ) → length rest < m → Front ws vs rest → Ends) where
     abbrev rest : List ℕ
     rest = b ∷ t
@@ -197,7 +213,8 @@ module _ {A : Type 0} (word : List ℕ → Word A) (file most : ℕ) (test : Bef
     fails : (n : ℕ) → Fails word most (test (lastOf first passed)) (length passed) rest n → Ends
     fails n w = stops f (λ e. no-case cc) n w
 
-    by-test : length passed < most → mem lf rest ≡ true → (v : A) → word (upTo lf rest) ≡ value v → (n : ℕ) → test (lastOf first passed) v ≡ n → Ends
+    by-test : length passed < most → mem lf rest ≡ true → (v : A) → word (upTo lf rest) ≡ value v → (n : ℕ)
+        → test (lastOf first passed) v ≡ n → Ends
     by-test h e v w (suc n) q = fails (suc n) (tested v h e w q (λ z. omega arith))
     by-test h e v w zero q =
         let c = cut-at lf rest e in
@@ -230,7 +247,11 @@ module _ {A : Type 0} (word : List ℕ → Word A) (file most : ℕ) (test : Bef
   decide (suc m) words passed [] l f =
       inl (
         passed,
-        record { lines = record { words = words; whole = f .whole ∙ append-nil (joined words); values = f .values }; few = f .few; pass = f .pass },
+        record {
+          lines = record { words = words; whole = f .whole ∙ append-nil (joined words); values = f .values };
+          few = f .few;
+          pass = f .pass;
+        },
       )
   decide (suc m) words passed (b ∷ t) l f = by-limit b t f m l (decide m) (leb most (length passed)) refl
 
@@ -243,8 +264,10 @@ module _ {A : Type 0} (word : List ℕ → Word A) (file most : ℕ) (test : Bef
     here : drop place s ≡ rest
     done : Passed word file most test s passed place (length passed)
 
-  come : (done : List A) (place k : ℕ) → length done ≡ k → Passed word file most test s done place k → (words : List (List ℕ)) (vs : List A) (rest : List ℕ)
-      → drop place s ≡ joined words ++ rest → Says word words vs → length (done ++ vs) ≤ most → Passes test (lastOf first done) vs → Come (done ++ vs) rest
+  come : (done : List A) (place k : ℕ) → length done ≡ k → Passed word file most test s done place k
+      → (words : List (List ℕ)) (vs : List A) (rest : List ℕ)
+      → drop place s ≡ joined words ++ rest → Says word words vs → length (done ++ vs) ≤ most → Passes test (lastOf first done) vs
+      → Come (done ++ vs) rest
   come done place k q p [] [] rest e h l t = rw (append-nil done) (record { place = place; here = e; done = rw q p })
   come done place k q p [] (v ∷ vs) rest e h l t = absurd h
   come done place k q p (w ∷ ws) [] rest e h l t = absurd h
@@ -255,12 +278,14 @@ module _ {A : Type 0} (word : List ℕ → Word A) (file most : ℕ) (test : Bef
       let m = append-assoc done (v ∷ []) vs in
       rw (← m)
       (come (done ++ (v ∷ [])) (place + length w + 1) (k + 1) (omega arith)
-      (passed-next word file most test s p (omega arith) v (place + length w + 1) (cut-line word s place w (joined ws ++ rest) v c (h .0) (h .1)) (t .0))
+      (passed-next word file most test s p (omega arith) v (place + length w + 1)
+      (cut-line word s place w (joined ws ++ rest) v c (h .0) (h .1)) (t .0))
       ws vs rest (drop-past s w (joined ws ++ rest) place lf c) (h .2) (rw m l) (rw (last-more first done v) (t .1)))
 
   good-gives : (vs : List A) → GoodFile word most test s vs → valuesOf file most test (linesOf (lineBy word) s) ≡ gives vs
   good-gives vs g =
-      let c = come [] 0 0 refl (passed-none word file most test s) (g .lines .words) vs [] (g .lines .whole ∙ sym (append-nil (joined (g .lines .words)))) (g .lines .values) (g .few) (g .pass) in
+      let c = come [] 0 0 refl (passed-none word file most test s) (g .lines .words) vs []
+      (g .lines .whole ∙ sym (append-nil (joined (g .lines .words)))) (g .lines .values) (g .few) (g .pass) in
       let n = ap length (c .here) in
       let d = length-drop (c .place) s in
       passed-full word file most test s (c .done) (omega arith)
@@ -282,12 +307,16 @@ module _ {A : Type 0} (word : List ℕ → Word A) (file most : ℕ) (test : Bef
           → lineBy word s (c .place) ≡ lineSays (c .place) (c .place + length (upTo lf (drop (c .place) s)) + 1) x
       ended m x e = line-ended word s (c .place) within (rw (c .here) m) ∙ rw (c .here, e)
 
-      by : Fails word most (test (lastOf first (f .passed))) (length (f .passed)) (f .rest) (f .number) → valuesOf file most test (linesOf (lineBy word) s) ≡ refuses (at (f .number) file (length (f .passed) + 1))
+      by : Fails word most (test (lastOf first (f .passed))) (length (f .passed)) (f .rest) (f .number)
+          → valuesOf file most test (linesOf (lineBy word) s) ≡ refuses (at (f .number) file (length (f .passed) + 1))
       by (over h e) = passed-over word file most test s (c .done) (omega arith) within ∙ rw e
-      by (unended h m e) = passed-fault word file most test s (c .done) h badForm (c .place) (line-open word s (c .place) within (rw (c .here) m)) ∙ rw e
+      by (unended h m e) =
+          passed-fault word file most test s (c .done) h badForm (c .place) (line-open word s (c .place) within (rw (c .here) m)) ∙ rw e
       by (wrong h m w e) = passed-fault word file most test s (c .done) h badForm (c .place) (ended m malformed w) ∙ rw e
       by (beyond h m w e) = passed-fault word file most test s (c .done) h outOfRange (c .place) (ended m outside w) ∙ rw e
-      by (tested v h m w e d) = passed-tested word file most test s (c .done) h v (c .place + length (upTo lf (drop (c .place) s)) + 1) (ended m (value v) w) (f .number) e d
+      by (tested v h m w e d) =
+          passed-tested word file most test s (c .done) h v (c .place + length (upTo lf (drop (c .place) s)) + 1) (ended m (value v) w)
+          (f .number) e d
 
   -- a file is accepted with some values exactly where it is a good file of them
   pub file-accepted : (vs : List A) → (valuesOf file most test (linesOf (lineBy word) s) ≡ gives vs) ↔ GoodFile word most test s vs
@@ -312,11 +341,13 @@ pub record Met (file most : ℕ) (r : Refusal) : Type 0 where
   pub inFile : r .file ≡ file
   pub inLines : r .line ≤ most + 1
 
-module _ {A : Type 0} (word : List ℕ → Word A) (file most : ℕ) (test : Before A → A → ℕ) (small : (before : Before A) (v : A) → test before v ≤ 7) (s : List ℕ) where
+module _ {A : Type 0} (word : List ℕ → Word A) (file most : ℕ) (test : Before A → A → ℕ)
+    (small : (before : Before A) (v : A) → test before v ≤ 7) (s : List ℕ) where
   fault-met : (r : Refusal) → FirstFault word file most test s r → Met file most r
   fault-met r f = rw (f .refusal) (by (f .fails))
     where
-      by : Fails word most (test (lastOf first (f .passed))) (length (f .passed)) (f .rest) (f .number) → Met file most (at (f .number) file (length (f .passed) + 1))
+      by : Fails word most (test (lastOf first (f .passed))) (length (f .passed)) (f .rest) (f .number)
+          → Met file most (at (f .number) file (length (f .passed) + 1))
       by (over h e) = record { some = omega arith; low = omega arith; inFile = refl; inLines = omega arith }
       by (unended h m e) = record { some = omega arith; low = omega arith; inFile = refl; inLines = omega arith }
       by (wrong h m w e) = record { some = omega arith; low = omega arith; inFile = refl; inLines = omega arith }

@@ -29,7 +29,8 @@ pub run-before : (l : List ℕ) (j : ℕ) → j < runLen l → isDigit (getD l j
 run-before [] j h = absurd (omega arith)
 run-before (b ∷ l) j h = by (isDigit b) refl j h (run-before l)
   where
-    by : (t : Bool) → isDigit b ≡ t → (j : ℕ) → j < runLen (b ∷ l) → ((i : ℕ) → i < runLen l → isDigit (getD l i 0) ≡ true) → isDigit (getD (b ∷ l) j 0) ≡ true
+    by : (t : Bool) → isDigit b ≡ t → (j : ℕ) → j < runLen (b ∷ l) → ((i : ℕ) → i < runLen l → isDigit (getD l i 0) ≡ true)
+        → isDigit (getD (b ∷ l) j 0) ≡ true
     by true e zero h f = e
     by true e (suc j) h f = f j (omega (arith, len-digit b l e))
     by false e j h f = absurd (omega (arith, len-stop b l e))
@@ -40,21 +41,25 @@ run-here [] = refl
 run-here (b ∷ l) = by (isDigit b) refl (run-here l)
   where
     by : (t : Bool) → isDigit b ≡ t → isDigit (getD l (runLen l) 0) ≡ false → isDigit (getD (b ∷ l) (runLen (b ∷ l)) 0) ≡ false
-    by true e f = let q : runLen (b ∷ l) ≡ suc (runLen l) = omega (arith, len-digit b l e) in ap (λ (k : ℕ). isDigit (getD (b ∷ l) k 0)) q ∙ f
+    by true e f =
+        let q : runLen (b ∷ l) ≡ suc (runLen l) = omega (arith, len-digit b l e) in ap (λ (k : ℕ). isDigit (getD (b ∷ l) k 0)) q ∙ f
     by false e f = ap (λ (k : ℕ). isDigit (getD (b ∷ l) k 0)) (len-stop b l e) ∙ e
 
 -- n digits at the front of one word stand at the front of the other
 run-more : (l m : List ℕ) (n : ℕ) → n ≤ runLen l → ((j : ℕ) → j < n → getD l j 0 ≡ getD m j 0) → n ≤ runLen m
 run-more l m n h e =
     bool-cases (ltb (runLen m) n) (n ≤ runLen m)
-    (λ t. let k : runLen m < n = ltb-true (runLen m) n t in clash (ap isDigit (sym (e (runLen m) k)) ∙ run-before l (runLen m) (omega arith)) (run-here m))
+    (λ t. let k : runLen m < n = ltb-true (runLen m) n t in
+    clash (ap isDigit (sym (e (runLen m) k)) ∙ run-before l (runLen m) (omega arith)) (run-here m))
     (λ t. ltb-false (runLen m) n t)
 
 -- and are all, if no digit follows
-pub run-by : (l m : List ℕ) (n : ℕ) → n ≤ runLen l → ((j : ℕ) → j < n → getD l j 0 ≡ getD m j 0) → isDigit (getD m n 0) ≡ false → runLen m ≡ n
+pub run-by : (l m : List ℕ) (n : ℕ) → n ≤ runLen l → ((j : ℕ) → j < n → getD l j 0 ≡ getD m j 0) → isDigit (getD m n 0) ≡ false
+    → runLen m ≡ n
 run-by l m n h e d =
     let k : n ≤ runLen m = run-more l m n h e in
-    bool-cases (ltb n (runLen m)) (runLen m ≡ n) (λ t. clash (run-before m n (ltb-true n (runLen m) t)) d) (λ t. omega (arith, ltb-false n (runLen m) t))
+    bool-cases (ltb n (runLen m)) (runLen m ≡ n) (λ t. clash (run-before m n (ltb-true n (runLen m) t)) d)
+    (λ t. omega (arith, ltb-false n (runLen m) t))
 
 run-same : (l m : List ℕ) → Same (runLen l) l m → runLen m ≡ runLen l
 run-same l m e = run-by l m (runLen l) (omega arith) (λ j k. e j (omega arith)) (ap isDigit (sym (e (runLen l) (omega arith))) ∙ run-here l)
@@ -63,7 +68,8 @@ run-same l m e = run-by l m (runLen l) (omega arith) (λ j k. e j (omega arith))
 digits-from : (s : List ℕ) (at : ℕ) → at ≤ digitsStop s at
 unfolding digitsStop
 digits-from s at =
-    bool-cases (isDigit (getD s at 0)) _ (λ a. bool-cases (isDigit (getD s (at + 1) 0)) _ (λ b. rw (a, b) (omega arith)) (λ b. rw (a, b) (omega arith))) (λ a. rw a (omega arith))
+    bool-cases (isDigit (getD s at 0)) _ (λ a. bool-cases (isDigit (getD s (at + 1) 0)) _ (λ b. rw (a, b) (omega arith))
+    (λ b. rw (a, b) (omega arith))) (λ a. rw a (omega arith))
 
 power-from : (s : List ℕ) (at : ℕ) → at ≤ powerStop s at
 unfolding powerStop
@@ -87,7 +93,8 @@ module _ (s r : List ℕ) where
   power-local at =
       bool-cases (eqb (getD s at 0) 101) _
       (λ a. bool-cases (isSign (getD s (at + 1) 0)) _
-      (λ b. rw (a, b) (λ e. rw (← e at (omega (arith, digits-from s (at + 2))), ← e (at + 1) (omega (arith, digits-from s (at + 2))), a, b) (digits-local (at + 2) e)))
+      (λ b. rw (a, b) (λ e. rw (← e at (omega (arith, digits-from s (at + 2))), ← e (at + 1) (omega (arith, digits-from s (at + 2))), a, b)
+      (digits-local (at + 2) e)))
       (λ b. rw (a, b) (λ e. rw (← e at (omega arith), ← e (at + 1) (omega arith), a, b))))
       (λ a. rw a (λ e. rw (← e at (omega arith), a)))
 
@@ -97,14 +104,16 @@ module _ (s : List ℕ) (w : ℕ) where
   pub whole-two : (w ≡ 0 → ⊥) → wholeIsGood s w ≡ false → 2 ≤ w
   whole-two z e =
       bool-cases (ltb 1 w) (2 ≤ w) (λ t. ltb-true 1 w t)
-      (λ t. let q : w ≤ 1 = ltb-false 1 w t in bool-cases (eqb w 0) (2 ≤ w) (λ k. absurd (z (eqb-true w 0 k))) (λ k. clash (sym (whole-one s w (one (eqb-false w 0 k) q))) e))
+      (λ t. let q : w ≤ 1 = ltb-false 1 w t in bool-cases (eqb w 0) (2 ≤ w) (λ k. absurd (z (eqb-true w 0 k)))
+      (λ k. clash (sym (whole-one s w (one (eqb-false w 0 k) q))) e))
     where
       one : (w ≡ 0 → ⊥) → w ≤ 1 → w ≡ 1
       one n h = bool-cases (ltb 0 w) (w ≡ 1) (λ t. omega (arith, ltb-true 0 w t)) (λ t. absurd (n (omega (arith, ltb-false 0 w t))))
 
   pub whole-low : 2 ≤ w → wholeIsGood s w ≡ false → getD s 0 0 ≤ 48
   whole-low h e =
-      bool-cases (ltb 48 (getD s 0 0)) (getD s 0 0 ≤ 48) (λ t. clash (sym (whole-more s w (λ q. omega arith) h (ltb-true 48 (getD s 0 0) t))) e) (λ t. ltb-false 48 (getD s 0 0) t)
+      bool-cases (ltb 48 (getD s 0 0)) (getD s 0 0 ≤ 48)
+      (λ t. clash (sym (whole-more s w (λ q. omega arith) h (ltb-true 48 (getD s 0 0) t))) e) (λ t. ltb-false 48 (getD s 0 0) t)
 
   pub whole-high : 2 ≤ w → wholeIsGood s w ≡ true → 48 < getD s 0 0
   whole-high h e =
@@ -193,16 +202,31 @@ module _ (s r : List ℕ) where
       unfolding partsStop
       local-limit h e =
           let n : ℕ = runLen (drop p r) in
-          let m : digitLimit - w + 1 ≤ n = run-more (drop p s) (drop p r) (digitLimit - w + 1) (omega (arith, point-from s w)) (λ j i. same-drop p (digitLimit - w) s r e j (omega arith)) in
+          let m : digitLimit - w + 1 ≤ n = run-more (drop p s) (drop p r) (digitLimit - w + 1) (omega (arith, point-from s w))
+          (λ j i. same-drop p (digitLimit - w) s r e j (omega arith)) in
           same-parts (p + (digitLimit - w)) (omega arith) e n refl
-          ∙ (rw (whole-some s w b, whole-same (same-whole (p + (digitLimit - w)) (omega arith) e), b, le-ltb digitLimit p c, le-ltb (w + n) p (omega (arith, m, point-most s w)), lt-ltb digitLimit (w + n) (omega (arith, m, point-from s w))))
+          ∙ (rw (
+            whole-some s w b,
+            whole-same (same-whole (p + (digitLimit - w)) (omega arith) e),
+            b,
+            le-ltb digitLimit p c,
+            le-ltb (w + n) p (omega (arith, m, point-most s w)),
+            lt-ltb digitLimit (w + n) (omega (arith, m, point-from s w)),
+          ))
 
       local-power : w + f ≤ digitLimit → Same (powerStop s (p + f)) s r → decimalStop r ≡ powerStop s (p + f)
       unfolding partsStop
       local-power h e =
           let k : p + f ≤ powerStop s (p + f) = power-from s (p + f) in
           same-parts (powerStop s (p + f)) (omega arith) e f (same-fraction (powerStop s (p + f)) (omega arith) e k)
-          ∙ (rw (whole-some s w b, whole-same (same-whole (powerStop s (p + f)) (omega arith) e), b, le-ltb digitLimit p c, le-ltb (w + f) p d, le-ltb digitLimit (w + f) h))
+          ∙ (rw (
+            whole-some s w b,
+            whole-same (same-whole (powerStop s (p + f)) (omega arith) e),
+            b,
+            le-ltb digitLimit p c,
+            le-ltb (w + f) p d,
+            le-ltb digitLimit (w + f) h,
+          ))
           ∙ power-local s r (p + f) e
 
   parts-local : Same (partsStop s w p f) s r → decimalStop r ≡ partsStop s w p f

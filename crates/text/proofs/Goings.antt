@@ -12,7 +12,8 @@ use lib.ListN.{length, getD, take, drop, length-append, List·getD-append}
 use lib.Seq.{length-take-le, getD-take, getD-drop, getD-append-add}
 use Rattle.basis.proofs.Tests.{clash, bool-cases}
 use Rattle.text.specs.Word.{within, isDigit, runLen, runVal}
-use Rattle.text.specs.Decimal.{up, down, wrong, digitLimit, digitOf, pastPoint, wholeIsGood, signedPower, powerAt, scaled, partsOf, fractionOf, decimalOf}
+use Rattle.text.specs.Decimal.{up, down, wrong, digitLimit, digitOf, pastPoint, wholeIsGood}
+use Rattle.text.specs.Decimal.{signedPower, powerAt, scaled, partsOf, fractionOf, decimalOf}
 use Rattle.text.specs.Stop.{isSign, digitsStop, powerStop, partsStop, fractionStop, decimalStop}
 use Rattle.text.specs.Scan.{wellFormed}
 use Rattle.text.proofs.Bytes.{within-is}
@@ -40,12 +41,21 @@ module _ (u : List ℕ) (w p f : ℕ) (a : runLen u ≡ w) (b : pastPoint u w �
   unfolding powerAt
   good-plain e = rw (decimal-parts, eq-eqb (length u) (p + f) e)
 
-  good-power : length u ≡ p + f + 4 → getD u (p + f) 0 ≡ 101 → isSign (getD u (p + f + 1) 0) ≡ true → isDigit (getD u (p + f + 2) 0) ≡ true → isDigit (getD u (p + f + 3) 0) ≡ true
+  good-power : length u ≡ p + f + 4 → getD u (p + f) 0 ≡ 101 → isSign (getD u (p + f + 1) 0) ≡ true → isDigit (getD u (p + f + 2) 0) ≡ true
+      → isDigit (getD u (p + f + 3) 0) ≡ true
       → wellFormed (decimalOf u) ≡ true
   unfolding powerAt
   good-power e i j m o =
-      rw (decimal-parts, ne-eqb (length u) (p + f) (λ q. omega arith), eq-eqb (length u) (p + f + 4) e, eq-eqb (getD u (p + f) 0) 101 i, m, o)
-      (sign-good (runVal (runVal 0 u) (drop p u)) f (getD u (p + f + 1) 0) (digitOf (getD u (p + f + 2) 0) * 10 + digitOf (getD u (p + f + 3) 0)) j)
+      rw (
+        decimal-parts,
+        ne-eqb (length u) (p + f) (λ q. omega arith),
+        eq-eqb (length u) (p + f + 4) e,
+        eq-eqb (getD u (p + f) 0) 101 i,
+        m,
+        o,
+      )
+      (sign-good (runVal (runVal 0 u) (drop p u)) f (getD u (p + f + 1) 0)
+      (digitOf (getD u (p + f + 2) 0) * 10 + digitOf (getD u (p + f + 3) 0)) j)
 
 -- ---- what a good decimal goes on with
 pub record GoesOn (u : List ℕ) : Type 0 where
@@ -92,13 +102,16 @@ module _ (s : List ℕ) where
     -- the digits before the point and the point, if the place is past them
     module _ (g : wholeIsGood s w ≡ true) (h : p ≤ k) (z : w ≡ k → getD t 0 0 ≡ 0) where
       whole-on : 0 < k
-      whole-on = bool-cases (ltb 0 w) (0 < k) (λ e. omega (arith, ltb-true 0 w e, point-from s w)) (λ e. absurd (eqb-false w 0 (whole-some s w g) (omega (arith, ltb-false 0 w e))))
+      whole-on =
+          bool-cases (ltb 0 w) (0 < k) (λ e. omega (arith, ltb-true 0 w e, point-from s w))
+          (λ e. absurd (eqb-false w 0 (whole-some s w g) (omega (arith, ltb-false 0 w e))))
 
       digits-on : runLen u ≡ w
       unfolding within
       digits-on =
           run-by s u w (omega arith) (λ j e. front j (omega (arith, point-from s w)))
-          (⊎-elim (λ e. ap isDigit (ap (λ (n : ℕ). getD u n 0) e ∙ here ∙ z e)) (λ e. ap isDigit (sym (front w e)) ∙ run-here s) (eq-or-lt-of-le (omega (arith, point-from s w))))
+          (⊎-elim (λ e. ap isDigit (ap (λ (n : ℕ). getD u n 0) e ∙ here ∙ z e)) (λ e. ap isDigit (sym (front w e)) ∙ run-here s)
+          (eq-or-lt-of-le (omega (arith, point-from s w))))
 
       point-on : pastPoint u w ≡ p
       unfolding pastPoint
@@ -128,17 +141,23 @@ module _ (s : List ℕ) where
       on-stop : isDigit (getD u (p + f) 0) ≡ false
       unfolding within
       on-stop =
-          ⊎-elim (λ e. ap isDigit (ap (λ (n : ℕ). getD u n 0) e ∙ here ∙ z e)) (λ e. ap isDigit (sym (front (p + f) e) ∙ sym (getD-drop p s f 0)) ∙ run-here (drop p s)) (eq-or-lt-of-le h)
+          ⊎-elim (λ e. ap isDigit (ap (λ (n : ℕ). getD u n 0) e ∙ here ∙ z e))
+          (λ e. ap isDigit (sym (front (p + f) e) ∙ sym (getD-drop p s f 0)) ∙ run-here (drop p s)) (eq-or-lt-of-le h)
 
       on-fraction : runLen (drop p u) ≡ f
       on-fraction = fraction-on g (omega arith) on-past f (omega arith) h on-stop
 
       on-plain : length u ≡ p + f → wellFormed (decimalOf u) ≡ true
-      on-plain = good-plain u w p f (digits-on g (omega arith) on-past) (point-on g (omega arith) on-past) on-fraction (good-on g (omega arith) on-past) d l
+      on-plain =
+          good-plain u w p f (digits-on g (omega arith) on-past) (point-on g (omega arith) on-past) on-fraction
+          (good-on g (omega arith) on-past) d l
 
-      on-power : length u ≡ p + f + 4 → getD u (p + f) 0 ≡ 101 → isSign (getD u (p + f + 1) 0) ≡ true → isDigit (getD u (p + f + 2) 0) ≡ true → isDigit (getD u (p + f + 3) 0) ≡ true
+      on-power : length u ≡ p + f + 4 → getD u (p + f) 0 ≡ 101 → isSign (getD u (p + f + 1) 0) ≡ true
+          → isDigit (getD u (p + f + 2) 0) ≡ true → isDigit (getD u (p + f + 3) 0) ≡ true
           → wellFormed (decimalOf u) ≡ true
-      on-power = good-power u w p f (digits-on g (omega arith) on-past) (point-on g (omega arith) on-past) on-fraction (good-on g (omega arith) on-past) d l
+      on-power =
+          good-power u w p f (digits-on g (omega arith) on-past) (point-on g (omega arith) on-past) on-fraction
+          (good-on g (omega arith) on-past) d l
 
   module _ (g : wholeIsGood s w ≡ true) where
     -- the digits before the point, as many as may be
@@ -150,8 +169,11 @@ module _ (s : List ℕ) where
         let e : getD v digitLimit 0 ≡ 0 = here digitLimit [] i in
         let a : runLen v ≡ digitLimit = run-by s v digitLimit m (λ j o. front digitLimit [] i j o) (ap isDigit e) in
         let b : pastPoint v digitLimit ≡ digitLimit = sym (point-no v digitLimit (λ o. omega arith)) in
-        let c : runLen (drop digitLimit v) ≡ 0 = run-by [] (drop digitLimit v) 0 (omega arith) (λ j o. absurd (omega arith)) (ap isDigit (getD-drop digitLimit v 0 0 ∙ e)) in
-        let n : wholeIsGood v digitLimit ≡ true = sym (whole-more v digitLimit (λ o. omega arith) (omega arith) (omega (arith, front digitLimit [] i 0 (omega arith), whole-high s w (omega arith) g))) in
+        let c : runLen (drop digitLimit v) ≡ 0 = run-by [] (drop digitLimit v) 0 (omega arith) (λ j o. absurd (omega arith))
+        (ap isDigit (getD-drop digitLimit v 0 0 ∙ e)) in
+        let n : wholeIsGood v digitLimit ≡ true = sym
+        (whole-more v digitLimit (λ o. omega arith) (omega arith)
+        (omega (arith, front digitLimit [] i 0 (omega arith), whole-high s w (omega arith) g))) in
         record { rest = []; good = good-plain v digitLimit digitLimit 0 a b c n (omega arith) (omega arith) (long digitLimit [] i) }
 
     module _ (c : p ≤ digitLimit) where
@@ -162,8 +184,13 @@ module _ (s : List ℕ) where
           let t : List ℕ = 48 ∷ [] in
           let v : List ℕ = take p s ++ t in
           let z : w ≡ p → getD t 0 0 ≡ 0 = λ e. absurd (omega arith) in
-          let n : runLen (drop p v) ≡ 1 = run-by t (drop p v) 1 (omega arith) (λ j o. sym (getD-drop p v j 0 ∙ back p t i j)) (ap isDigit (getD-drop p v 1 0 ∙ back p t i 1)) in
-          record { rest = t; good = good-plain v w p 1 (digits-on p t i g (omega arith) z) (point-on p t i g (omega arith) z) n (good-on p t i g (omega arith) z) (point-most s w) (omega arith) (long p t i) }
+          let n : runLen (drop p v) ≡ 1 = run-by t (drop p v) 1 (omega arith) (λ j o. sym (getD-drop p v j 0 ∙ back p t i j))
+          (ap isDigit (getD-drop p v 1 0 ∙ back p t i 1)) in
+          record {
+            rest = t;
+            good = good-plain v w p 1 (digits-on p t i g (omega arith) z) (point-on p t i g (omega arith) z) n
+                (good-on p t i g (omega arith) z) (point-most s w) (omega arith) (long p t i);
+          }
 
       module _ (d : p ≤ w + f) where
         -- the digits before and after the point, as many as may be
@@ -172,10 +199,13 @@ module _ (s : List ℕ) where
         goes-limit h i =
             let k : ℕ = p + (digitLimit - w) in
             let v : List ℕ = take k s ++ [] in
-            let n : runLen (drop p v) ≡ digitLimit - w = fraction-on k [] i g (omega arith) (λ _. refl) (digitLimit - w) (omega arith) (omega arith) (ap isDigit (here k [] i)) in
+            let n : runLen (drop p v) ≡ digitLimit
+            - w = fraction-on k [] i g (omega arith) (λ _. refl) (digitLimit - w) (omega arith) (omega arith)
+            (ap isDigit (here k [] i)) in
             record {
               rest = [];
-              good = good-plain v w p (digitLimit - w) (digits-on k [] i g (omega arith) (λ _. refl)) (point-on k [] i g (omega arith) (λ _. refl)) n (good-on k [] i g (omega arith) (λ _. refl))
+              good = good-plain v w p (digitLimit - w) (digits-on k [] i g (omega arith) (λ _. refl))
+                  (point-on k [] i g (omega arith) (λ _. refl)) n (good-on k [] i g (omega arith) (λ _. refl))
                   (omega (arith, point-from s w)) (omega (arith, point-from s w)) (long k [] i ∙ omega arith);
             }
 
@@ -202,22 +232,28 @@ module _ (s : List ℕ) where
             (λ i. let k : ℕ = q + 2 + 1 in let t : List ℕ = 48 ∷ [] in
             record {
               rest = t;
-              good = on-power k t i g d l (omega arith) (λ e. absurd (omega arith)) (long k t i ∙ omega arith) (sym (front k t i q (omega arith)) ∙ A)
-                  (ap isSign (sym (front k t i (q + 1) (omega arith))) ∙ b) (ap isDigit (sym (front k t i (q + 2) (omega arith))) ∙ m) (ap isDigit (at-back k t i (q + 3) 0 (omega arith)));
+              good = on-power k t i g d l (omega arith) (λ e. absurd (omega arith)) (long k t i ∙ omega arith)
+                  (sym (front k t i q (omega arith)) ∙ A)
+                  (ap isSign (sym (front k t i (q + 1) (omega arith))) ∙ b) (ap isDigit (sym (front k t i (q + 2) (omega arith))) ∙ m)
+                  (ap isDigit (at-back k t i (q + 3) 0 (omega arith)));
             })))
             (λ m. rw (a, b, m)
             (λ i. let k : ℕ = q + 2 in let t : List ℕ = 48 ∷ 48 ∷ [] in
             record {
               rest = t;
-              good = on-power k t i g d l (omega arith) (λ e. absurd (omega arith)) (long k t i ∙ omega arith) (sym (front k t i q (omega arith)) ∙ A)
-                  (ap isSign (sym (front k t i (q + 1) (omega arith))) ∙ b) (ap isDigit (at-back k t i (q + 2) 0 (omega arith))) (ap isDigit (at-back k t i (q + 3) 1 (omega arith)));
+              good = on-power k t i g d l (omega arith) (λ e. absurd (omega arith)) (long k t i ∙ omega arith)
+                  (sym (front k t i q (omega arith)) ∙ A)
+                  (ap isSign (sym (front k t i (q + 1) (omega arith))) ∙ b) (ap isDigit (at-back k t i (q + 2) 0 (omega arith)))
+                  (ap isDigit (at-back k t i (q + 3) 1 (omega arith)));
             })))
             (λ b. rw (a, b)
             (λ i. let k : ℕ = q + 1 in let t : List ℕ = 43 ∷ 48 ∷ 48 ∷ [] in
             record {
               rest = t;
-              good = on-power k t i g d l (omega arith) (λ e. absurd (omega arith)) (long k t i ∙ omega arith) (sym (front k t i q (omega arith)) ∙ A)
-                  (ap isSign (at-back k t i (q + 1) 0 (omega arith))) (ap isDigit (at-back k t i (q + 2) 1 (omega arith))) (ap isDigit (at-back k t i (q + 3) 2 (omega arith)));
+              good = on-power k t i g d l (omega arith) (λ e. absurd (omega arith)) (long k t i ∙ omega arith)
+                  (sym (front k t i q (omega arith)) ∙ A)
+                  (ap isSign (at-back k t i (q + 1) 0 (omega arith))) (ap isDigit (at-back k t i (q + 2) 1 (omega arith)))
+                  (ap isDigit (at-back k t i (q + 3) 2 (omega arith)));
             })))
             (λ a. rw a (λ i. record { rest = []; good = on-plain q [] i g d l (omega arith) (λ _. refl) (long q [] i ∙ omega arith) }))
 

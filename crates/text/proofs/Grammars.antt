@@ -16,8 +16,11 @@ use Rattle.basis.specs.Scan.{each}
 use Rattle.basis.proofs.Tests.{clash, no-case, bool-cases, same-test, and-first, and-second}
 use Rattle.basis.proofs.Scans.{each-of}
 use Rattle.text.specs.Word.{Word, malformed, outside, value, within, isDigit, stepped, runLen, runVal}
-use Rattle.text.specs.Decimal.{Exponent, up, down, wrong, digitLimit, decimal, digitOf, pastPoint, wholeIsGood, signedPower, powerAt, scaled, partsOf, fractionOf, decimalOf}
-use Rattle.text.specs.Grammar.{WholePart, nought, number, FractionPart, noPoint, point, PowerPart, noPower, plus, minus, Parts, wholeDigits, fractionDigits, fractionBytes, powerDigits, powerBytes, partBytes, leadsWell, GoodParts, numberOf, upBy, downBy, partsSay, DecimalForm}
+use Rattle.text.specs.Decimal.{Exponent, up, down, wrong, digitLimit, decimal, digitOf, pastPoint}
+use Rattle.text.specs.Decimal.{wholeIsGood, signedPower, powerAt, scaled, partsOf, fractionOf, decimalOf}
+use Rattle.text.specs.Grammar.{WholePart, nought, number, FractionPart, noPoint, point, PowerPart, noPower, plus}
+use Rattle.text.specs.Grammar.{minus, Parts, wholeDigits, fractionDigits, fractionBytes, powerDigits, powerBytes}
+use Rattle.text.specs.Grammar.{partBytes, leadsWell, GoodParts, numberOf, upBy, downBy, partsSay, DecimalForm}
 use Rattle.text.specs.declared.decimal.Decimal.{Decimal}
 use Rattle.text.proofs.Bytes.{within-yes, within-is, nothing-past}
 use Rattle.text.proofs.Runs.{front-len, front-val, len-le}
@@ -115,14 +118,16 @@ pointed-length : (f : FractionPart) → length (fractionBytes f) ≡ pointed f +
 pointed-length noPoint = refl
 pointed-length (point b bs) = omega arith
 
-point-taken : (a : List ℕ) (f : FractionPart) (t : PowerPart) → pastPoint (a ++ (fractionBytes f ++ powerBytes t)) (length a) ≡ length a + pointed f
+point-taken : (a : List ℕ) (f : FractionPart) (t : PowerPart)
+    → pastPoint (a ++ (fractionBytes f ++ powerBytes t)) (length a) ≡ length a + pointed f
 unfolding pastPoint
 point-taken a noPoint noPower = rw (seam a [], add-zero)
 point-taken a noPoint (plus x y) = rw (seam a (101 ∷ 43 ∷ x ∷ y ∷ []), add-zero)
 point-taken a noPoint (minus x y) = rw (seam a (101 ∷ 45 ∷ x ∷ y ∷ []), add-zero)
 point-taken a (point b bs) t = rw (seam a (46 ∷ b ∷ (bs ++ powerBytes t)))
 
-fraction-taken : (a : List ℕ) (f : FractionPart) (t : PowerPart) → drop (length a + pointed f) (a ++ (fractionBytes f ++ powerBytes t)) ≡ fractionDigits f ++ powerBytes t
+fraction-taken : (a : List ℕ) (f : FractionPart) (t : PowerPart)
+    → drop (length a + pointed f) (a ++ (fractionBytes f ++ powerBytes t)) ≡ fractionDigits f ++ powerBytes t
 fraction-taken a f t = drop-append-add a (fractionBytes f ++ powerBytes t) (pointed f) ∙ by f
   where
     by : (f : FractionPart) → drop (pointed f) (fractionBytes f ++ powerBytes t) ≡ fractionDigits f ++ powerBytes t
@@ -141,10 +146,12 @@ form-taken p g =
     let d : drop k s ≡ f ++ t = fraction-taken w (p .fraction) (p .power) in
     let v : runVal 0 s ≡ numberOf 0 w = front-val 0 w (fractionBytes (p .fraction) ++ t) (g .wholes) (rest-ends (p .fraction) (p .power)) in
     let n : runVal (runVal 0 s) (drop k s) ≡ numberOf 0 (w ++ f) =
-    ap (runVal (runVal 0 s)) d ∙ front-val (runVal 0 s) f t (g .fractions) (power-ends (p .power)) ∙ ap (λ (m : ℕ). numberOf m f) v ∙ sym (number-append 0 w f) in
+    ap (runVal (runVal 0 s)) d ∙ front-val (runVal 0 s) f t (g .fractions) (power-ends (p .power)) ∙ ap (λ (m : ℕ). numberOf m f) v
+    ∙ sym (number-append 0 w f) in
     let e : k + length f ≡ length u = omega (arith, length-append w (fractionBytes (p .fraction)), pointed-length (p .fraction)) in
     let x : powerAt s (k + length f) ≡ exponentOf (p .power) =
-    ap (powerAt s) e ∙ ap (λ (l : List ℕ). powerAt l (length u)) (sym (append-assoc w (fractionBytes (p .fraction)) t)) ∙ behind u t ∙ power-taken (p .power) (g .powers) in
+    ap (powerAt s) e ∙ ap (λ (l : List ℕ). powerAt l (length u)) (sym (append-assoc w (fractionBytes (p .fraction)) t)) ∙ behind u t
+    ∙ power-taken (p .power) (g .powers) in
     decimal-parts s (length w) k (length f)
     (front-len w (fractionBytes (p .fraction) ++ t) (g .wholes) (rest-ends (p .fraction) (p .power)))
     (point-taken w (p .fraction) (p .power))
@@ -209,7 +216,8 @@ point-of (b ∷ l) h = record { part = point b l; bytes = refl; is = refl }
 -- the digits at the front from a place on, and what stands behind them
 split-at : (s : List ℕ) (p : ℕ) → drop p s ≡ take (runLen (drop p s)) (drop p s) ++ drop (p + runLen (drop p s)) s
 split-at s p =
-    sym (take-append-drop (runLen (drop p s)) (drop p s)) ∙ ap (λ (l : List ℕ). take (runLen (drop p s)) (drop p s) ++ l) (drop-drop (runLen (drop p s)) p s)
+    sym (take-append-drop (runLen (drop p s)) (drop p s))
+    ∙ ap (λ (l : List ℕ). take (runLen (drop p s)) (drop p s) ++ l) (drop-drop (runLen (drop p s)) p s)
 
 fraction-of : (s : List ℕ) → pastPoint s (runLen s) ≤ runLen s + runLen (drop (pastPoint s (runLen s)) s) → FractionOf s
 unfolding pastPoint each
@@ -218,11 +226,17 @@ fraction-of s =
     (λ e. rw e
     (λ h. let w : ℕ = runLen s in
     let b : getD s w 0 ≡ 46 = eqb-true (getD s w 0) 46 e in
-    let i : w < length s = bool-cases (ltb w (length s)) (w < length s) (λ t. ltb-true w (length s) t) (λ t. absurd (omega (arith, b, nothing-past s w (ltb-false w (length s) t)))) in
+    let i : w < length s = bool-cases (ltb w (length s)) (w < length s) (λ t. ltb-true w (length s) t)
+    (λ t. absurd (omega (arith, b, nothing-past s w (ltb-false w (length s) t)))) in
     let c : drop w s ≡ 46 ∷ drop (w + 1) s = (rw add-one (drop-cons s w 0 i)) ∙ ap (λ (x : ℕ). x ∷ drop (w + 1) s) b in
     let l : List ℕ = take (runLen (drop (w + 1) s)) (drop (w + 1) s) in
     let x = point-of l (omega (arith, length-take-le (runLen (drop (w + 1) s)) (drop (w + 1) s) (len-le (drop (w + 1) s)))) in
-    record { part = x .part; cut = rw e (c ∙ ap (λ (r : List ℕ). 46 ∷ r) (split-at s (w + 1)) ∙ ap (λ (r : List ℕ). r ++ drop (w + 1 + runLen (drop (w + 1) s)) s) (sym (x .bytes))); is = rw e (x .is) }))
+    record {
+      part = x .part;
+      cut = rw e (c ∙ ap (λ (r : List ℕ). 46 ∷ r) (split-at s (w + 1))
+          ∙ ap (λ (r : List ℕ). r ++ drop (w + 1 + runLen (drop (w + 1) s)) s) (sym (x .bytes)));
+      is = rw e (x .is);
+    }))
     (λ e. rw e
     (λ h. let w : ℕ = runLen s in
     let z : runLen (drop w s) ≡ 0 = front-len [] (drop w s) refl (here-ends s) in
@@ -237,7 +251,8 @@ record PowerOf (n f : ℕ) (l : List ℕ) (d : Decimal) : Type 0 where
 
 module _ (n f : ℕ) (d : Decimal) where
   power-four : (a b x y : ℕ) → (t u : Bool) → eqb b 43 ≡ t → eqb b 45 ≡ u → a ≡ 101 → isDigit x ≡ true → isDigit y ≡ true
-      → scaled n f (cond t (up (digitOf x * 10 + digitOf y)) (cond u (down (digitOf x * 10 + digitOf y)) wrong)) ≡ value d → PowerOf n f (a ∷ b ∷ x ∷ y ∷ []) d
+      → scaled n f (cond t (up (digitOf x * 10 + digitOf y)) (cond u (down (digitOf x * 10 + digitOf y)) wrong)) ≡ value d
+      → PowerOf n f (a ∷ b ∷ x ∷ y ∷ []) d
   unfolding each
   power-four a b x y true u p q e h k g =
       let c : b ≡ 43 = eqb-true b 43 p in
@@ -251,7 +266,12 @@ module _ (n f : ℕ) (d : Decimal) where
   power-four a b x y false true p q e h k g =
       let c : b ≡ 45 = eqb-true b 45 q in
       let z : decimal n 0 (f + (digitOf x * 10 + digitOf y)) ≡ d = cc in
-      record { part = minus x y; is = rw (e, c); digits = rw (h, k); says = sym z ∙ ap (λ (m : ℕ). decimal n 0 (f + m)) (two-digits x y h k) }
+      record {
+        part = minus x y;
+        is = rw (e, c);
+        digits = rw (h, k);
+        says = sym z ∙ ap (λ (m : ℕ). decimal n 0 (f + m)) (two-digits x y h k);
+      }
   power-four a b x y false false p q e h k g = no-case cc
 
   power-of : (l : List ℕ) → scaled n f (powerAt l 0) ≡ value d → PowerOf n f l d
@@ -264,7 +284,8 @@ module _ (n f : ℕ) (d : Decimal) where
   power-of (a ∷ b ∷ x ∷ []) g = no-case cc
   power-of (a ∷ b ∷ x ∷ y ∷ []) g =
       let t : Bool = eqb a 101 && (isDigit x && isDigit y) in
-      let r = scaled-some t (cond (eqb b 43) (up (digitOf x * 10 + digitOf y)) (cond (eqb b 45) (down (digitOf x * 10 + digitOf y)) wrong)) g in
+      let r = scaled-some t (cond (eqb b 43) (up (digitOf x * 10 + digitOf y)) (cond (eqb b 45) (down (digitOf x * 10 + digitOf y)) wrong))
+      g in
       let h = and-second (eqb a 101) (isDigit x && isDigit y) (r .0) in
       power-four a b x y (eqb b 43) (eqb b 45) refl refl (eqb-true a 101 (and-first (eqb a 101) (isDigit x && isDigit y) (r .0)))
       (and-first (isDigit x) (isDigit y) h) (and-second (isDigit x) (isDigit y) h) (r .1)
@@ -273,7 +294,10 @@ module _ (n f : ℕ) (d : Decimal) where
       scaled-some true e k = (refl, k)
       scaled-some false e k = no-case cc
   power-of (a ∷ b ∷ x ∷ y ∷ z ∷ l) g =
-      no-case (let h = rw (ne-eqb (length (a ∷ b ∷ x ∷ y ∷ z ∷ l)) 0 (λ q. omega arith), ne-eqb (length (a ∷ b ∷ x ∷ y ∷ z ∷ l)) 4 (λ q. omega arith)) at g in cc)
+      no-case (let h = rw (
+        ne-eqb (length (a ∷ b ∷ x ∷ y ∷ z ∷ l)) 0 (λ q. omega arith),
+        ne-eqb (length (a ∷ b ∷ x ∷ y ∷ z ∷ l)) 4 (λ q. omega arith),
+      ) at g in cc)
 
 -- ---- the parts of a word that the scanner takes
 module _ (s : List ℕ) (d : Decimal) where
@@ -303,7 +327,8 @@ module _ (s : List ℕ) (d : Decimal) where
         let u : List ℕ = take (p + f) s in
         let r : List ℕ = drop (p + f) s in
         let q : powerAt s (p + f) ≡ powerAt r 0 =
-        ap (λ (l : List ℕ). powerAt l (p + f)) (sym (take-append-drop (p + f) s)) ∙ ap (powerAt (u ++ r)) (sym (length-take-le (p + f) s k)) ∙ behind u r in
+        ap (λ (l : List ℕ). powerAt l (p + f)) (sym (take-append-drop (p + f) s)) ∙ ap (powerAt (u ++ r)) (sym (length-take-le (p + f) s k))
+        ∙ behind u r in
         power-of n f d r (ap (scaled n f) (sym q) ∙ e)
 
     form-by : DecimalForm s d
@@ -317,7 +342,8 @@ module _ (s : List ℕ) (d : Decimal) where
         let m : length a ≡ w = ap length (x .is) ∙ length-take-le w s (len-le s) in
         let v : n ≡ numberOf 0 (a ++ b) =
         front-number (runVal 0 s) (drop p s) ∙ ap (λ (k : ℕ). numberOf k (take f (drop p s))) (front-number 0 s)
-        ∙ ap (λ (c : List ℕ). numberOf (numberOf 0 c) (take f (drop p s))) (sym (x .is)) ∙ ap (numberOf (numberOf 0 a)) (sym (y .is)) ∙ sym (number-append 0 a b) in
+        ∙ ap (λ (c : List ℕ). numberOf (numberOf 0 c) (take f (drop p s))) (sym (x .is)) ∙ ap (numberOf (numberOf 0 a)) (sym (y .is))
+        ∙ sym (number-append 0 a b) in
         record {
           parts = record { whole = x .part; fraction = y .part; power = z .part };
           good = record {
@@ -343,7 +369,8 @@ passed false x d e = no-case cc
 pub form-of : (s : List ℕ) (d : Decimal) → decimalOf s ≡ value d → DecimalForm s d
 unfolding decimalOf fractionOf partsOf
 form-of s d e =
-    let a = passed (wholeIsGood s (w s d) && (leb (p s d) (w s d + f s d) && leb (w s d + f s d) digitLimit)) (scaled (n s d) (f s d) (powerAt s (p s d + f s d))) d e in
+    let a = passed (wholeIsGood s (w s d) && (leb (p s d) (w s d + f s d) && leb (w s d + f s d) digitLimit))
+    (scaled (n s d) (f s d) (powerAt s (p s d + f s d))) d e in
     let b = and-second (wholeIsGood s (w s d)) (leb (p s d) (w s d + f s d) && leb (w s d + f s d) digitLimit) (a .0) in
     form-by s d
     (and-first (wholeIsGood s (w s d)) (leb (p s d) (w s d + f s d) && leb (w s d + f s d) digitLimit) (a .0))
@@ -368,7 +395,8 @@ decimal-else s h = by (decimalOf s) refl (decimal-inside s)
 digits-one : (a b r t : List ℕ) → each isDigit a ≡ true → each isDigit b ≡ true → Ends r → Ends t → a ++ r ≡ b ++ t → (a ≡ b) × (r ≡ t)
 unfolding each
 digits-one [] [] r t h k i j e = (refl, e)
-digits-one [] (y ∷ b) r t h k i j e = clash (and-first (isDigit y) (each isDigit b) k) (ap (λ (l : List ℕ). isDigit (getD l 0 0)) (sym e) ∙ i)
+digits-one [] (y ∷ b) r t h k i j e =
+    clash (and-first (isDigit y) (each isDigit b) k) (ap (λ (l : List ℕ). isDigit (getD l 0 0)) (sym e) ∙ i)
 digits-one (x ∷ a) [] r t h k i j e = clash (and-first (isDigit x) (each isDigit a) h) (ap (λ (l : List ℕ). isDigit (getD l 0 0)) e ∙ j)
 digits-one (x ∷ a) (y ∷ b) r t h k i j e =
     let p : x ≡ y = cc in
@@ -415,7 +443,8 @@ rest-one (point b bs) (point c cs) t u h k e =
 pub parts-one : (p q : Parts) → GoodParts p → GoodParts q → partBytes p ≡ partBytes q → p ≡ q
 parts-one p q g h e =
     let a =
-    digits-one (wholeDigits (p .whole)) (wholeDigits (q .whole)) (fractionBytes (p .fraction) ++ powerBytes (p .power)) (fractionBytes (q .fraction) ++ powerBytes (q .power))
+    digits-one (wholeDigits (p .whole)) (wholeDigits (q .whole)) (fractionBytes (p .fraction) ++ powerBytes (p .power))
+    (fractionBytes (q .fraction) ++ powerBytes (q .power))
     (g .wholes) (h .wholes) (rest-ends (p .fraction) (p .power)) (rest-ends (q .fraction) (q .power)) e in
     let w : p .whole ≡ q .whole = whole-one-of (p .whole) (q .whole) (g .leading) (h .leading) (a .0) in
     let r = rest-one (p .fraction) (q .fraction) (p .power) (q .power) (g .fractions) (h .fractions) (a .1) in

@@ -15,8 +15,10 @@ use Rattle.basis.proofs.Tests.{clash, bool-cases}
 use Rattle.text.specs.Word.{Word, malformed, outside, value, within, identOf}
 use Rattle.text.specs.Decimal.{decimalOf}
 use Rattle.text.specs.Stop.{decimalStop}
-use Rattle.text.specs.Line.{LineSaid, line, none, fault, lf, space, upTo, past, lineSays, lineBy, both, twoOf, vertexLine, edgeLine, coefficientLine, edgeSays, coefficientSays}
-use Rattle.text.specs.Scan.{Scanned, scanned, wellFormed, hasAt, closed, fieldAt, scanSays, decimalSays, lineFrom, decimalAt, restAt, restSays, beside, faultBeside, lineOf}
+use Rattle.text.specs.Line.{LineSaid, line, none, fault, lf, space, upTo, past, lineSays, lineBy, both}
+use Rattle.text.specs.Line.{twoOf, vertexLine, edgeLine, coefficientLine, edgeSays, coefficientSays}
+use Rattle.text.specs.Scan.{Scanned, scanned, wellFormed, hasAt, closed, fieldAt, scanSays, decimalSays}
+use Rattle.text.specs.Scan.{lineFrom, decimalAt, restAt, restSays, beside, faultBeside, lineOf}
 use Rattle.text.specs.declared.decimal.Decimal.{Decimal}
 use Rattle.text.specs.declared.decimal.DecimalWord.{DecimalWord}
 use Rattle.text.specs.declared.decimal.DecimalWord.the-variants as DW
@@ -43,7 +45,8 @@ pub line-end : {A : Type 0} (word : List ℕ → Word A) (s : List ℕ) (at : �
 unfolding lineBy
 line-end word s at h = rw (le-leb (length s) at h)
 
-pub line-reads : {A : Type 0} (word : List ℕ → Word A) (s : List ℕ) (at : ℕ) (x : Scanned A) → at < length s → Reads lf word s at x → lineOf at x ≡ lineBy word s at
+pub line-reads : {A : Type 0} (word : List ℕ → Word A) (s : List ℕ) (at : ℕ) (x : Scanned A) → at < length s → Reads lf word s at x
+    → lineOf at x ≡ lineBy word s at
 unfolding lineBy
 line-reads word s at x h r =
     rw (lt-leb (length s) at h)
@@ -75,7 +78,8 @@ module _ {A : Type 0} (word : List ℕ → Word A) (s : List ℕ) (at : ℕ) (x 
   bad-first h = rw h
 
   -- the space stands in the line: bs is b1, a space, and b2
-  split : (b1 b2 r : List ℕ) → drop at s ≡ b1 ++ space ∷ (b2 ++ lf ∷ r) → mem space b1 ≡ false → mem lf b2 ≡ false → (t : Bool) → wellFormed (identOf b1) ≡ t
+  split : (b1 b2 r : List ℕ) → drop at s ≡ b1 ++ space ∷ (b2 ++ lf ∷ r) → mem space b1 ≡ false → mem lf b2 ≡ false → (t : Bool)
+      → wellFormed (identOf b1) ≡ t
       → Ends (at + length b1 + 1 + length b2 + 1) (both (identOf b1) (word b2)) (beside (x .said) y)
   split b1 b2 r e n m false h =
       let q : identOf b1 ≡ malformed = not-well (identOf b1) h in
@@ -86,19 +90,24 @@ module _ {A : Type 0} (word : List ℕ → Word A) (s : List ℕ) (at : ℕ) (x 
       let q : x .next ≡ at + length b1 + 1 = z .next h in
       let d : drop (x .next) s ≡ b2 ++ lf ∷ r = ap (λ (k : ℕ). drop k s) q ∙ drop-past s b1 (b2 ++ lf ∷ r) at space e in
       let f = Y (ap wellFormed (z .said) ∙ h) .ended b2 r d m in
-      record { said = ap (λ (w : Word ℤ). both w (y .said)) (z .said) ∙ ap (both (identOf b1)) (f .said); next = λ k. f .next (both-well (identOf b1) (word b2) k) ∙ omega arith }
+      record {
+        said = ap (λ (w : Word ℤ). both w (y .said)) (z .said) ∙ ap (both (identOf b1)) (f .said);
+        next = λ k. f .next (both-well (identOf b1) (word b2) k) ∙ omega arith;
+      }
 
   -- no space stands in the line, though one may stand in a later line
   no-space : (bs r : List ℕ) → drop at s ≡ bs ++ lf ∷ r → mem space bs ≡ false → x .said ≡ malformed
   unfolding mem within
   no-space bs r e n =
       bool-cases (mem space r) (x .said ≡ malformed)
-      (λ k. let d : drop at s ≡ (bs ++ lf ∷ upTo space r) ++ space ∷ past space r = e ∙ ap (λ (l : List ℕ). bs ++ lf ∷ l) (cut-at space r k) ∙ sym (append-assoc bs (lf ∷ upTo space r) (space ∷ past space r)) in
+      (λ k. let d : drop at s ≡ (bs ++ lf ∷ upTo space r) ++ space ∷ past space r = e ∙ ap (λ (l : List ℕ). bs ++ lf ∷ l) (cut-at space r k)
+      ∙ sym (append-assoc bs (lf ∷ upTo space r) (space ∷ past space r)) in
       X .ended (bs ++ lf ∷ upTo space r) (past space r) d (mem-join space bs (lf ∷ upTo space r) n (upTo-none space r)) .said
       ∙ ident-stray lf refl refl (bs ++ lf ∷ upTo space r) (mem-cut lf bs (upTo space r)))
       (λ k. X .unended (ap (mem space) e ∙ mem-join space bs (lf ∷ r) n k))
 
-  pair-ended : (bs r : List ℕ) → drop at s ≡ bs ++ lf ∷ r → mem lf bs ≡ false → Ends (at + length bs + 1) (twoOf identOf word bs) (beside (x .said) y)
+  pair-ended : (bs r : List ℕ) → drop at s ≡ bs ++ lf ∷ r → mem lf bs ≡ false
+      → Ends (at + length bs + 1) (twoOf identOf word bs) (beside (x .said) y)
   unfolding twoOf
   pair-ended bs r e n =
       bool-cases (mem space bs) _
@@ -120,7 +129,8 @@ module _ {A : Type 0} (word : List ℕ → Word A) (s : List ℕ) (at : ℕ) (x 
       let z = X .ended b1 b2 q (upTo-none space (drop at s)) in
       let m : mem lf b2 ≡ false = mem-right lf (space ∷ []) b2 (mem-right lf b1 (space ∷ b2) (rw q at n)) in
       bool-cases (wellFormed (identOf b1)) _
-      (λ h. let f : y .said ≡ malformed = Y (ap wellFormed (z .said) ∙ h) .unended (ap (λ (k : ℕ). mem lf (drop k s)) (z .next h) ∙ ap (mem lf) (drop-past s b1 b2 at space q) ∙ m) in
+      (λ h. let f : y .said ≡ malformed = Y (ap wellFormed (z .said) ∙ h) .unended
+      (ap (λ (k : ℕ). mem lf (drop k s)) (z .next h) ∙ ap (mem lf) (drop-past s b1 b2 at space q) ∙ m) in
       ap (both (x .said)) f ∙ both-off (x .said))
       (λ h. bad-first (z .said ∙ not-well (identOf b1) h)))
       (λ k. bad-first (X .unended k))
@@ -136,7 +146,8 @@ rest-reads s at = record { ended = ended; unended = unended }
     ended : (bs r : List ℕ) → drop at s ≡ bs ++ lf ∷ r → mem lf bs ≡ false → Ends (at + length bs + 1) (decimalOf bs) (restAt s at)
     ended bs r e n =
         let u : lineFrom s at ≡ bs = ap (upTo lf) e ∙ upTo-cut lf bs r n in
-        let h : hasAt s (at + length bs) lf ≡ true = word-has s bs r at lf e (length bs) lf (omega arith) ∙ ap (λ (k : ℕ). eqb k lf) (getD-append-seam bs lf r 0) in
+        let h : hasAt s (at + length bs) lf ≡ true = word-has s bs r at lf e (length bs) lf (omega arith)
+        ∙ ap (λ (k : ℕ). eqb k lf) (getD-append-seam bs lf r 0) in
         rw u
         (bool-cases (wellFormed (decimalOf bs)) _
         (λ k. rw (stop-good bs k) (closed-yes s lf (at + length bs) (decimalOf bs) h))
@@ -152,18 +163,21 @@ pub rest-end : (s : List ℕ) (at end : ℕ) → end ≡ at + length (upTo lf (d
 rest-end s at end e h = omega (arith, upTo-le lf (drop at s), length-drop at s)
 
 module _ (s : List ℕ) (at end : ℕ) (e : end ≡ at + length (upTo lf (drop at s)))
-    (x : DecimalWord) (f : decimalSays (length (take (end - at) (drop at s))) x ≡ scanned (decimalOf (take (end - at) (drop at s))) (decimalStop (take (end - at) (drop at s)))) where
+    (x : DecimalWord) (f : decimalSays (length (take (end - at) (drop at s))) x
+    ≡ scanned (decimalOf (take (end - at) (drop at s))) (decimalStop (take (end - at) (drop at s)))) where
   rest-word : decimalSays (length (lineFrom s at)) x ≡ scanned (decimalOf (lineFrom s at)) (decimalStop (lineFrom s at))
   rest-word =
       let q : end - at ≡ length (upTo lf (drop at s)) = omega arith in
       let l : take (end - at) (drop at s) ≡ lineFrom s at = ap (λ (n : ℕ). take n (drop at s)) q ∙ upTo-take lf (drop at s) in
       rw l at f
 
-  rest-by : (y : DecimalWord) → x ≡ y → decimalSays (length (lineFrom s at)) y ≡ scanned (decimalOf (lineFrom s at)) (decimalStop (lineFrom s at))
+  rest-by : (y : DecimalWord) → x ≡ y → decimalSays (length (lineFrom s at)) y
+      ≡ scanned (decimalOf (lineFrom s at)) (decimalStop (lineFrom s at))
   rest-by y q = ap (decimalSays (length (lineFrom s at))) (sym q) ∙ rest-word
 
   pub rest-inside : at ≤ length s → (p : ℕ) → x ≡ DW.Bad p → at + p ≤ length s
-  rest-inside h p q = omega (arith, ap (λ (y : Scanned Decimal). y .next) (rest-by (DW.Bad p) q), stop-le (lineFrom s at), rest-end s at end e h)
+  rest-inside h p q =
+      omega (arith, ap (λ (y : Scanned Decimal). y .next) (rest-by (DW.Bad p) q), stop-le (lineFrom s at), rest-end s at end e h)
 
   pub rest-bad : (p : ℕ) → x ≡ DW.Bad p → scanned malformed (at + p) ≡ restAt s at
   unfolding restAt decimalAt
@@ -186,7 +200,9 @@ module _ (s : List ℕ) (at end : ℕ) (e : end ≡ at + length (upTo lf (drop a
 module _ (s : List ℕ) (at : ℕ) (l : at < length s) (x : Scan) (e : scanSays x ≡ fieldAt s at lf) where
   vertex-is : (y : Scan) → x ≡ y → lineOf at (scanSays y) ≡ vertexLine s at
   unfolding within
-  vertex-is y q = ap (λ (k : Scan). lineOf at (scanSays k)) (sym q) ∙ ap (lineOf at) e ∙ line-reads identOf s at (fieldAt s at lf) l (field-reads s at lf refl refl)
+  vertex-is y q =
+      ap (λ (k : Scan). lineOf at (scanSays k)) (sym q) ∙ ap (lineOf at) e
+      ∙ line-reads identOf s at (fieldAt s at lf) l (field-reads s at lf refl refl)
 
   pub vertex-bad : (p : ℕ) → x ≡ S.Bad p → fault badForm at ≡ vertexLine s at
   vertex-bad p q = vertex-is (S.Bad p) q
@@ -198,13 +214,15 @@ module _ (s : List ℕ) (at : ℕ) (l : at < length s) (x : Scan) (e : scanSays 
   vertex-value z y p q k = ap (λ (v : ℤ). line v p) k ∙ vertex-is (S.Value z p) q
 
 -- ---- a line of an identifier and a second word
-module _ {A : Type 0} (word : List ℕ → Word A) (second : List ℕ → ℕ → Scanned A) (R : (s : List ℕ) (at : ℕ) → Reads lf word s at (second s at))
+module _ {A : Type 0} (word : List ℕ → Word A) (second : List ℕ → ℕ → Scanned A)
+    (R : (s : List ℕ) (at : ℕ) → Reads lf word s at (second s at))
     (s : List ℕ) (at : ℕ) (l : at < length s) (x : Scan) (e : scanSays x ≡ fieldAt s at space) where
   two-line : lineOf at (beside (fieldAt s at space .said) (second s (fieldAt s at space .next))) ≡ lineBy (twoOf identOf word) s at
   unfolding within
   two-line =
       line-reads (twoOf identOf word) s at (beside (fieldAt s at space .said) (second s (fieldAt s at space .next))) l
-      (pair-reads word s at (fieldAt s at space) (second s (fieldAt s at space .next)) (field-reads s at space refl refl) (λ _. R s (fieldAt s at space .next)))
+      (pair-reads word s at (fieldAt s at space) (second s (fieldAt s at space .next)) (field-reads s at space refl refl)
+      (λ _. R s (fieldAt s at space .next)))
 
   two-is : (y : Scan) → x ≡ y → lineOf at (beside (scanSays y .said) (second s (scanSays y .next))) ≡ lineBy (twoOf identOf word) s at
   two-is y q = ap (λ (k : Scanned ℤ). lineOf at (beside (k .said) (second s (k .next)))) (ap scanSays (sym q) ∙ e) ∙ two-line
@@ -212,11 +230,14 @@ module _ {A : Type 0} (word : List ℕ → Word A) (second : List ℕ → ℕ �
   pub two-bad : (p : ℕ) → x ≡ S.Bad p → fault badForm at ≡ lineBy (twoOf identOf word) s at
   two-bad p q = two-is (S.Bad p) q
 
-  pub two-outside : (p : ℕ) (y : Scanned A) → x ≡ S.Outside p → y ≡ second s p → lineOf at (beside outside y) ≡ lineBy (twoOf identOf word) s at
+  pub two-outside : (p : ℕ) (y : Scanned A) → x ≡ S.Outside p → y ≡ second s p
+      → lineOf at (beside outside y) ≡ lineBy (twoOf identOf word) s at
   two-outside p y q f = ap (λ (k : Scanned A). lineOf at (beside outside k)) f ∙ two-is (S.Outside p) q
 
-  pub two-value : (z u : ℤ) (p : ℕ) (y : Scanned A) → x ≡ S.Value z p → u ≡ z → y ≡ second s p → lineOf at (beside (value u) y) ≡ lineBy (twoOf identOf word) s at
-  two-value z u p y q k f = ap (λ (v : ℤ). lineOf at (beside (value v) y)) k ∙ ap (λ (k : Scanned A). lineOf at (beside (value z) k)) f ∙ two-is (S.Value z p) q
+  pub two-value : (z u : ℤ) (p : ℕ) (y : Scanned A) → x ≡ S.Value z p → u ≡ z → y ≡ second s p
+      → lineOf at (beside (value u) y) ≡ lineBy (twoOf identOf word) s at
+  two-value z u p y q k f =
+      ap (λ (v : ℤ). lineOf at (beside (value v) y)) k ∙ ap (λ (k : Scanned A). lineOf at (beside (value z) k)) f ∙ two-is (S.Value z p) q
 
 abbrev lastField : List ℕ → ℕ → Scanned ℤ
 lastField s at = fieldAt s at lf
@@ -256,7 +277,8 @@ module _ (s : List ℕ) (at : ℕ) (l : at < length s) (x : Scan) (e : scanSays 
   pub edge-bad : (p : ℕ) → x ≡ S.Bad p → fault badForm at ≡ edgeLine s at
   edge-bad p q = two-bad identOf lastField last-reads s at l x e p q
 
-  pub edge-outside : (p n : ℕ) (y : Scan) → x ≡ S.Outside p → scanSays y ≡ fieldAt s p lf → n ≡ faultBeside (scanSays y .said) → fault n at ≡ edgeLine s at
+  pub edge-outside : (p n : ℕ) (y : Scan) → x ≡ S.Outside p → scanSays y ≡ fieldAt s p lf → n ≡ faultBeside (scanSays y .said)
+      → fault n at ≡ edgeLine s at
   edge-outside p n y q f g =
       ap (λ (k : ℕ). fault k at) g ∙ fault-outside at (scanSays y) ∙ two-outside identOf lastField last-reads s at l x e p (scanSays y) q f
 
@@ -269,7 +291,8 @@ module _ (s : List ℕ) (at : ℕ) (l : at < length s) (x : Scan) (e : scanSays 
   pub coefficient-bad : (p : ℕ) → x ≡ S.Bad p → fault badForm at ≡ coefficientLine s at
   coefficient-bad p q = two-bad decimalOf restAt rest-reads s at l x e p q
 
-  pub coefficient-outside : (p n : ℕ) (y : Rest) → x ≡ S.Outside p → restSays y ≡ restAt s p → n ≡ faultBeside (restSays y .said) → fault n at ≡ coefficientLine s at
+  pub coefficient-outside : (p n : ℕ) (y : Rest) → x ≡ S.Outside p → restSays y ≡ restAt s p → n ≡ faultBeside (restSays y .said)
+      → fault n at ≡ coefficientLine s at
   coefficient-outside p n y q f g =
       ap (λ (k : ℕ). fault k at) g ∙ fault-outside at (restSays y) ∙ two-outside decimalOf restAt rest-reads s at l x e p (restSays y) q f
 

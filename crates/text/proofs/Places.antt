@@ -16,7 +16,8 @@ use Rattle.basis.proofs.Tests.{clash, bool-cases}
 use Rattle.basis.proofs.Saids.{Any}
 use Rattle.text.specs.Word.{Word, malformed, outside, value, rangedOf, countOf, signedOf, afterMinus, identOf}
 use Rattle.text.specs.Decimal.{decimalOf}
-use Rattle.text.specs.Line.{LineSaid, line, none, fault, lf, space, upTo, past, lineSays, lineBy, both, twoOf, edgeLine, coefficientLine}
+use Rattle.text.specs.Line.{LineSaid, line, none, fault, lf, space, upTo, past}
+use Rattle.text.specs.Line.{lineSays, lineBy, both, twoOf, edgeLine, coefficientLine}
 use Rattle.text.specs.Scan.{Scanned, wellFormed, hasAt, identAt, closed, fieldAt, scanSays}
 use Rattle.text.specs.declared.decimal.Decimal.{Decimal}
 use Rattle.text.specs.declared.ident.Scan.{Scan}
@@ -50,7 +51,11 @@ places word s at =
     (bool-cases (mem lf (drop at s)) _
     (λ m. rw m
     (line-placed s at (at + length (upTo lf (drop at s)) + 1) (word (upTo lf (drop at s))) h
-    (record { forward = omega arith; inside = omega (arith, length-drop at s, ap length (cut-at lf (drop at s) m) ∙ length-append (upTo lf (drop at s)) (lf ∷ past lf (drop at s))) })))
+    (record {
+      forward = omega arith;
+      inside = omega
+          (arith, length-drop at s, ap length (cut-at lf (drop at s) m) ∙ length-append (upTo lf (drop at s)) (lf ∷ past lf (drop at s)));
+    })))
     (λ m. rw m (refl, h))))
 
 module _ {A : Type 0} (word : List ℕ → Word A) (s : List ℕ) (at : ℕ) (x : LineSaid A) (e : x ≡ lineBy word s at) where
@@ -141,11 +146,14 @@ says-has P at q malformed h = (omega arith, omega arith)
 says-has P at q outside h = (omega arith, omega arith)
 says-has P at q (value v) h = h
 
-line-has : {A : Type 0} (P : A → Type 0) (word : List ℕ → Word A) (s : List ℕ) (at : ℕ) → ((bs : List ℕ) → Has P (word bs)) → LineHas P (lineBy word s at)
+line-has : {A : Type 0} (P : A → Type 0) (word : List ℕ → Word A) (s : List ℕ) (at : ℕ) → ((bs : List ℕ) → Has P (word bs))
+    → LineHas P (lineBy word s at)
 unfolding lineBy
 line-has {A} P word s at h = by (leb (length s) at) (mem lf (drop at s))
   where
-    by : (t u : Bool) → LineHas P (cond t (none at) (cond u (lineSays at (at + length (upTo lf (drop at s)) + 1) (word (upTo lf (drop at s)))) (fault badForm at)))
+    by : (t u : Bool)
+        → LineHas P
+        (cond t (none at) (cond u (lineSays at (at + length (upTo lf (drop at s)) + 1) (word (upTo lf (drop at s)))) (fault badForm at)))
     by true u = tt
     by false true = says-has P at (at + length (upTo lf (drop at s)) + 1) (word (upTo lf (drop at s))) (h (upTo lf (drop at s)))
     by false false = (omega arith, omega arith)
@@ -162,7 +170,8 @@ both-has P Q (value a) malformed h k = tt
 both-has P Q (value a) outside h k = tt
 both-has P Q (value a) (value b) h k = (h, k)
 
-two-has : {A : Type 0} (Q : A → Type 0) (word : List ℕ → Word A) → ((bs : List ℕ) → Has Q (word bs)) → (bs : List ℕ) → Has (Pairs Small Q) (twoOf identOf word bs)
+two-has : {A : Type 0} (Q : A → Type 0) (word : List ℕ → Word A) → ((bs : List ℕ) → Has Q (word bs)) → (bs : List ℕ)
+    → Has (Pairs Small Q) (twoOf identOf word bs)
 unfolding twoOf
 two-has Q word h bs = by (mem space bs)
   where
@@ -184,5 +193,7 @@ module _ (s : List ℕ) (at : ℕ) where
 
   pub coefficient-range : (u : ℤ) (d : Decimal) (q : ℕ) → coefficientLine s at ≡ line (u, d) q → mag u < 2 ^ 63
   coefficient-range u d q e =
-      let h : mag u < 2 ^ 63 × Unit {0} = rw e at (line-has (Pairs Small Any) (twoOf identOf decimalOf) s at (two-has Any decimalOf (λ bs. any-has (decimalOf bs)))) in
+      let h : mag u < 2 ^ 63
+      × Unit {0} =
+      rw e at (line-has (Pairs Small Any) (twoOf identOf decimalOf) s at (two-has Any decimalOf (λ bs. any-has (decimalOf bs)))) in
       h .0

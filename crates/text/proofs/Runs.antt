@@ -42,14 +42,16 @@ unfolding each
 front-len [] [] h k = refl
 front-len [] (c ∷ r) h k = len-stop c r k
 front-len (b ∷ bs) r h k =
-    len-digit b (bs ++ r) (and-first (isDigit b) (each isDigit bs) h) ∙ omega (arith, front-len bs r (and-second (isDigit b) (each isDigit bs) h) k)
+    len-digit b (bs ++ r) (and-first (isDigit b) (each isDigit bs) h)
+    ∙ omega (arith, front-len bs r (and-second (isDigit b) (each isDigit bs) h) k)
 
 pub front-val : (n : ℕ) (bs r : List ℕ) → each isDigit bs ≡ true → isDigit (getD r 0 0) ≡ false → runVal n (bs ++ r) ≡ numberOf n bs
 unfolding each
 front-val n [] [] h k = refl
 front-val n [] (c ∷ r) h k = val-stop n c r k
 front-val n (b ∷ bs) r h k =
-    val-digit n b (bs ++ r) (and-first (isDigit b) (each isDigit bs) h) ∙ front-val (stepped n b) bs r (and-second (isDigit b) (each isDigit bs) h) k
+    val-digit n b (bs ++ r) (and-first (isDigit b) (each isDigit bs) h)
+    ∙ front-val (stepped n b) bs r (and-second (isDigit b) (each isDigit bs) h) k
 
 pub all-val : (n : ℕ) (bs : List ℕ) → each isDigit bs ≡ true → runVal n bs ≡ numberOf n bs
 unfolding within
@@ -71,7 +73,8 @@ pub cap-run : (n : ℕ) (l : List ℕ) → capped (runVal (capped n) l) ≡ capp
 cap-run n [] = omega arith
 cap-run n (b ∷ bs) = cap-run-by n b bs (isDigit b) refl (λ k. cap-run k bs)
 
--- ---- what the loop over a run of digits keeps: the number so far, n, is cut down, and the run from i, after n, is the run from `from`, after `start`
+-- ---- what the loop over a run of digits keeps: the number so far, n, is cut down, and the run from i, after n, is the run from `from`,
+-- after `start`
 pub record Running (s : List ℕ) (from start n i : ℕ) : Type 0 where
   pub small : n ≤ 9223372036854775809
   pub val : capped (runVal n (drop i s)) ≡ capped (runVal start (drop from s))
@@ -79,7 +82,8 @@ pub record Running (s : List ℕ) (from start n i : ℕ) : Type 0 where
 
 module _ (s : List ℕ) (from start : ℕ) where
   pub running-start : (n : ℕ) → n ≡ capped start → Running s from start n from
-  running-start n e = record { small = omega arith; val = ap (λ (k : ℕ). capped (runVal k (drop from s))) e ∙ cap-run start (drop from s); len = refl }
+  running-start n e =
+      record { small = omega arith; val = ap (λ (k : ℕ). capped (runVal k (drop from s))) e ∙ cap-run start (drop from s); len = refl }
 
   pub running-more : (n m i : ℕ) → Running s from start n i → i < length s → 48 ≤ getD s i 0 → getD s i 0 ≤ 57
       → m ≡ capped (stepped n (getD s i 0)) → Running s from start m (i + 1)
@@ -110,13 +114,16 @@ module _ (s : List ℕ) (from start : ℕ) where
       → _≡_ {A = Run} (record { n = n; next = i }) (runAt s from start)
   running-stop n i r h e =
       let d : drop i s ≡ getD s i 0 ∷ drop (suc i) s = drop-cons s i 0 h in
-      running-end n i r (ap (runVal n) d ∙ val-stop n (getD s i 0) (drop (suc i) s) e) (ap runLen d ∙ len-stop (getD s i 0) (drop (suc i) s) e)
+      running-end n i r (ap (runVal n) d ∙ val-stop n (getD s i 0) (drop (suc i) s) e)
+      (ap runLen d ∙ len-stop (getD s i 0) (drop (suc i) s) e)
 
   -- at a byte below the digits, above them, and at the end
-  pub running-low : (n i : ℕ) → Running s from start n i → i < length s → getD s i 0 < 48 → _≡_ {A = Run} (record { n = n; next = i }) (runAt s from start)
+  pub running-low : (n i : ℕ) → Running s from start n i → i < length s → getD s i 0 < 48
+      → _≡_ {A = Run} (record { n = n; next = i }) (runAt s from start)
   running-low n i r h e = running-stop n i r h (within-low 57 e)
 
-  pub running-high : (n i : ℕ) → Running s from start n i → i < length s → 57 < getD s i 0 → _≡_ {A = Run} (record { n = n; next = i }) (runAt s from start)
+  pub running-high : (n i : ℕ) → Running s from start n i → i < length s → 57 < getD s i 0
+      → _≡_ {A = Run} (record { n = n; next = i }) (runAt s from start)
   running-high n i r h e = running-stop n i r h (within-high 48 e)
 
   pub running-out : (n i : ℕ) → Running s from start n i → length s ≤ i → _≡_ {A = Run} (record { n = n; next = i }) (runAt s from start)

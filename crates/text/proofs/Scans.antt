@@ -13,7 +13,8 @@ use mir.Syntax.{w64}
 use mir.Val.{toZ}
 use mir.ValLaws.{toZ-pos}
 use Rattle.text.specs.Word.{Word, malformed, outside, value, within, minusOf, rangedOf, signedOf}
-use Rattle.text.specs.Scan.{Scanned, scanned, hasAt, capped, runAt, countAt, cutWord, saturated, countSays, rangedAt, signedAt, identAt, closed, fieldAt, scanSays}
+use Rattle.text.specs.Scan.{Scanned, scanned, hasAt, capped, runAt, countAt, cutWord, saturated}
+use Rattle.text.specs.Scan.{countSays, rangedAt, signedAt, identAt, closed, fieldAt, scanSays}
 use Rattle.text.specs.declared.count.Run.{Run}
 use Rattle.text.specs.declared.count.Counted.{Counted}
 use Rattle.text.specs.declared.count.Counted.the-variants as C
@@ -43,9 +44,11 @@ module _ (s : List ℕ) (at : ℕ) where
     pub count-high : 57 < getD s at 0 → scanned malformed at ≡ saturated (countAt s at)
     count-high h = count-none n (within-high 49 h)
 
-    pub count-run : (r : Run) → 49 ≤ getD s at 0 → getD s at 0 ≤ 57 → r ≡ runAt s at 0 → scanned (value (r .n)) (r .next) ≡ saturated (countAt s at)
+    pub count-run : (r : Run) → 49 ≤ getD s at 0 → getD s at 0 ≤ 57 → r ≡ runAt s at 0
+        → scanned (value (r .n)) (r .next) ≡ saturated (countAt s at)
     unfolding countAt runAt
-    count-run r h k e = rw (has-no s at 48 n, within-yes {lo = 49} {hi = 57} {b = getD s at 0} h k) (ap (λ (x : Run). scanned (value (x .n)) (x .next)) e)
+    count-run r h k e =
+        rw (has-no s at 48 n, within-yes {lo = 49} {hi = 57} {b = getD s at 0} h k) (ap (λ (x : Run). scanned (value (x .n)) (x .next)) e)
 
 -- ---- signed numbers
 pub zero-minus : (n : ℕ) → pos 0 -ℤ pos n ≡ negℤ (pos n)
@@ -103,7 +106,8 @@ module _ (s : List ℕ) (at : ℕ) (t : Bool) (e : t ≡ hasAt s at 45) where
   unfolding identAt
   ident-zero h u f g = rw (← e, h, ← f, g)
 
-  pub ident-minus : t ≡ true → (u : Bool) → u ≡ hasAt s (at + 1) 48 → u ≡ false → (r : Scan) → scanSays r ≡ signedAt true (countAt s (at + 1)) → scanSays r ≡ identAt s at
+  pub ident-minus : t ≡ true → (u : Bool) → u ≡ hasAt s (at + 1) 48 → u ≡ false → (r : Scan)
+      → scanSays r ≡ signedAt true (countAt s (at + 1)) → scanSays r ≡ identAt s at
   unfolding identAt
   ident-minus h u f g r q = rw (← e, h, ← f, g) q
 

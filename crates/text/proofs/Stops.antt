@@ -9,7 +9,8 @@ use lib.Dec.{leb, ltb, eqb}
 use lib.ListN.{length, getD, drop, length-drop}
 use Rattle.basis.proofs.Tests.{clash, bool-cases, and-first, and-second, held}
 use Rattle.text.specs.Word.{Word, malformed, outside, value, isDigit, runLen, runVal}
-use Rattle.text.specs.Decimal.{Exponent, up, down, wrong, digitLimit, decimal, digitOf, pastPoint, wholeIsGood, signedPower, powerAt, scaled, partsOf, fractionOf, decimalOf}
+use Rattle.text.specs.Decimal.{Exponent, up, down, wrong, digitLimit, decimal, digitOf, pastPoint}
+use Rattle.text.specs.Decimal.{wholeIsGood, signedPower, powerAt, scaled, partsOf, fractionOf, decimalOf}
 use Rattle.text.specs.Stop.{isSign, digitsStop, powerStop, partsStop, fractionStop, decimalStop, powerWord, scaledWord}
 use Rattle.text.specs.Scan.{scanned, wellFormed, decimalSays}
 use Rattle.text.specs.declared.decimal.Decimal.{Decimal}
@@ -21,7 +22,9 @@ use Rattle.text.proofs.Decimals.{no-sign, whole-none, point-from, point
 
 -- ---- a place at which a byte stands
 byte-in : (s : List ℕ) (at : ℕ) → 0 < getD s at 0 → at < length s
-byte-in s at h = bool-cases (ltb at (length s)) (at < length s) (λ e. ltb-true at (length s) e) (λ e. absurd (omega (arith, nothing-past s at (ltb-false at (length s) e))))
+byte-in s at h =
+    bool-cases (ltb at (length s)) (at < length s) (λ e. ltb-true at (length s) e)
+    (λ e. absurd (omega (arith, nothing-past s at (ltb-false at (length s) e))))
 
 letter-in : (s : List ℕ) (at : ℕ) → eqb (getD s at 0) 101 ≡ true → at < length s
 letter-in s at e = byte-in s at (omega (arith, eqb-true (getD s at 0) 101 e))
@@ -31,7 +34,9 @@ digit-in s at e = let h = within-is 48 57 (getD s at 0) e in byte-in s at (omega
 
 sign-in : (s : List ℕ) (at : ℕ) → isSign (getD s at 0) ≡ true → at < length s
 unfolding isSign
-sign-in s at e = bool-cases (ltb at (length s)) (at < length s) (λ h. ltb-true at (length s) h) (λ h. clash e (ap isSign (nothing-past s at (ltb-false at (length s) h))))
+sign-in s at e =
+    bool-cases (ltb at (length s)) (at < length s) (λ h. ltb-true at (length s) h)
+    (λ h. clash e (ap isSign (nothing-past s at (ltb-false at (length s) h))))
 
 -- past a sign g
 pub sign-on : (s : List ℕ) (at g : ℕ) (t : Bool) → g ≡ getD s (at + 1) 0 → t ≡ isSign g → not t ≡ false → at + 2 ≤ length s
@@ -46,7 +51,8 @@ digits-stop-le : (s : List ℕ) (at : ℕ) → at ≤ length s → digitsStop s 
 unfolding digitsStop
 digits-stop-le s at h =
     cond-le (isDigit (getD s at 0)) _ at (length s)
-    (λ a. cond-le (isDigit (getD s (at + 1) 0)) (at + 2) (at + 1) (length s) (λ b. omega (arith, digit-in s (at + 1) b)) (λ _. omega (arith, digit-in s at a)))
+    (λ a. cond-le (isDigit (getD s (at + 1) 0)) (at + 2) (at + 1) (length s) (λ b. omega (arith, digit-in s (at + 1) b))
+    (λ _. omega (arith, digit-in s at a)))
     (λ _. h)
 
 power-stop-le : (s : List ℕ) (at : ℕ) → at ≤ length s → powerStop s at ≤ length s
@@ -69,7 +75,8 @@ parts-stop-le s w p f h k =
     (λ b. one a))
   where
     one : eqb w 0 ≡ false → 1 ≤ length s
-    one a = bool-cases (ltb 0 w) (1 ≤ length s) (λ e. omega (arith, ltb-true 0 w e)) (λ e. absurd (eqb-false w 0 a (omega (arith, ltb-false 0 w e))))
+    one a = bool-cases (ltb 0 w) (1 ≤ length s) (λ e. omega (arith, ltb-true 0 w e))
+        (λ e. absurd (eqb-false w 0 a (omega (arith, ltb-false 0 w e))))
 
 pub stop-le : (s : List ℕ) → decimalStop s ≤ length s
 unfolding decimalStop fractionStop
@@ -82,7 +89,8 @@ stop-le s =
 -- ---- the end of a good decimal
 module _ (s : List ℕ) (n f : ℕ) where
   good-sign : (g k : ℕ) → wellFormed (scaled n f (signedPower g k)) ≡ true → isSign g ≡ true
-  good-sign g k h = bool-cases (isSign g) (isSign g ≡ true) (λ e. e) (λ e. clash h (ap (λ (x : Exponent). wellFormed (scaled n f x)) (no-sign g k e)))
+  good-sign g k h =
+      bool-cases (isSign g) (isSign g ≡ true) (λ e. e) (λ e. clash h (ap (λ (x : Exponent). wellFormed (scaled n f x)) (no-sign g k e)))
 
   digits-whole : (at : ℕ) → isDigit (getD s at 0) ≡ true → isDigit (getD s (at + 1) 0) ≡ true → digitsStop s at ≡ at + 2
   unfolding digitsStop
@@ -99,26 +107,43 @@ module _ (s : List ℕ) (n f : ℕ) where
       let z : getD s at 0 ≡ 0 = nothing-past s at (omega arith) in
       λ _. rw z (sym q))
       (λ a. bool-cases (eqb (length s) (at + 4) && (eqb (getD s at 0) 101 && (isDigit x && isDigit y))) _
-      (λ b. let l : length s ≡ at + 4 = eqb-true (length s) (at + 4) (and-first (eqb (length s) (at + 4)) (eqb (getD s at 0) 101 && (isDigit x && isDigit y)) b) in
+      (λ b. let l : length s ≡ at + 4 = eqb-true (length s) (at + 4)
+      (and-first (eqb (length s) (at + 4)) (eqb (getD s at 0) 101 && (isDigit x && isDigit y)) b) in
       let m = and-second (eqb (length s) (at + 4)) (eqb (getD s at 0) 101 && (isDigit x && isDigit y)) b in
       let o = and-second (eqb (getD s at 0) 101) (isDigit x && isDigit y) m in
-      let d = digits-whole (at + 2) (and-first (isDigit x) (isDigit y) o) (ap (λ (k : ℕ). isDigit (getD s k 0)) three ∙ and-second (isDigit x) (isDigit y) o) in
-      rw (a, b) (λ h. rw (and-first (eqb (getD s at 0) 101) (isDigit x && isDigit y) m, good-sign (getD s (at + 1) 0) (digitOf x * 10 + digitOf y) h) (omega (arith, d))))
+      let d = digits-whole (at + 2) (and-first (isDigit x) (isDigit y) o)
+      (ap (λ (k : ℕ). isDigit (getD s k 0)) three ∙ and-second (isDigit x) (isDigit y) o) in
+      rw (a, b)
+      (λ h. rw (
+        and-first (eqb (getD s at 0) 101) (isDigit x && isDigit y) m,
+        good-sign (getD s (at + 1) 0) (digitOf x * 10 + digitOf y) h,
+      ) (omega (arith, d))))
       (λ b. rw (a, b) (λ h. clash h refl)))
 
-  scaled-says : (stop k : ℕ) (e : Exponent) → (wellFormed (scaled n f e) ≡ true → stop ≡ k) → decimalSays k (scaledWord n f (powerWord e stop)) ≡ scanned (scaled n f e) stop
+  scaled-says : (stop k : ℕ) (e : Exponent) → (wellFormed (scaled n f e) ≡ true → stop ≡ k)
+      → decimalSays k (scaledWord n f (powerWord e stop)) ≡ scanned (scaled n f e) stop
   scaled-says stop k (up u) h = ap (scanned (value (decimal n u f))) (sym (h refl))
   scaled-says stop k (down u) h = ap (scanned (value (decimal n 0 (f + u)))) (sym (h refl))
   scaled-says stop k wrong h = refl
 
   -- the last way out of the parts: with their power
-  module _ (w p : ℕ) (z : w ≡ 0 → ⊥) (t : Bool) (h : t ≡ wholeIsGood s w) (e : not t ≡ false) (l : p ≤ digitLimit) (k : p ≤ w + f) (m : w + f ≤ digitLimit) where
+  module _ (w p : ℕ) (z : w ≡ 0 → ⊥) (t : Bool) (h : t ≡ wholeIsGood s w) (e : not t ≡ false) (l : p ≤ digitLimit) (k : p ≤ w + f)
+      (m : w + f ≤ digitLimit) where
     pub parts-good : (y : Power) → y ≡ powerWord (powerAt s (p + f)) (powerStop s (p + f)) → (r : DecimalWord) → r ≡ scaledWord n f y
         → decimalSays (length s) r ≡ scanned (partsOf s w p f n) (partsStop s w p f)
     unfolding partsOf partsStop
     parts-good y j r g =
-        rw (ne-eqb w 0 z, held t (wholeIsGood s w) h e, le-ltb digitLimit p l, le-ltb (w + f) p k, le-ltb digitLimit (w + f) m, le-leb p (w + f) k, le-leb (w + f) digitLimit m)
-        (ap (decimalSays (length s)) (g ∙ ap (scaledWord n f) j) ∙ scaled-says (powerStop s (p + f)) (length s) (powerAt s (p + f)) (power-stop-good (p + f)))
+        rw (
+          ne-eqb w 0 z,
+          held t (wholeIsGood s w) h e,
+          le-ltb digitLimit p l,
+          le-ltb (w + f) p k,
+          le-ltb digitLimit (w + f) m,
+          le-leb p (w + f) k,
+          le-leb (w + f) digitLimit m,
+        )
+        (ap (decimalSays (length s)) (g ∙ ap (scaledWord n f) j)
+        ∙ scaled-says (powerStop s (p + f)) (length s) (powerAt s (p + f)) (power-stop-good (p + f)))
 
   parts-stop-good : (w p : ℕ) → wellFormed (partsOf s w p f n) ≡ true → partsStop s w p f ≡ length s
   unfolding partsOf partsStop
@@ -152,8 +177,12 @@ scaled-inside n f wrong = tt
 
 parts-inside : (s : List ℕ) (w p f n : ℕ) → Inside (partsOf s w p f n)
 unfolding partsOf
-parts-inside s w p f n = bool-cases (wholeIsGood s w && (leb p (w + f) && leb (w + f) digitLimit)) _ (λ e. rw e (scaled-inside n f (powerAt s (p + f)))) (λ e. rw e tt)
+parts-inside s w p f n =
+    bool-cases (wholeIsGood s w && (leb p (w + f) && leb (w + f) digitLimit)) _ (λ e. rw e (scaled-inside n f (powerAt s (p + f))))
+    (λ e. rw e tt)
 
 pub decimal-inside : (s : List ℕ) → Inside (decimalOf s)
 unfolding decimalOf fractionOf
-decimal-inside s = parts-inside s (runLen s) (pastPoint s (runLen s)) (runLen (drop (pastPoint s (runLen s)) s)) (runVal (runVal 0 s) (drop (pastPoint s (runLen s)) s))
+decimal-inside s =
+    parts-inside s (runLen s) (pastPoint s (runLen s)) (runLen (drop (pastPoint s (runLen s)) s))
+    (runVal (runVal 0 s) (drop (pastPoint s (runLen s)) s))

@@ -1,4 +1,5 @@
--- The scanner's rule is the paper's: a field that the byte c ends means what its bytes mean as a whole word, and stops past that c. Assumes nothing.
+-- The scanner's rule is the paper's: a field that the byte c ends means what its bytes mean as a whole word, and stops past that c.
+-- Assumes nothing.
 use Prim.Native.Nat.{ℕ, zero, suc, _+_, _-_, _^_, _≤_, _<_}
 use mathlib.Core.Path.{_≡_, refl, sym, ap, _∙_}
 use mathlib.Core.List.{List, [], _∷_, _++_}
@@ -13,7 +14,8 @@ use lib.IntN.{ℤ}
 use Rattle.basis.specs.Scan.{each, mem}
 use Rattle.basis.proofs.Tests.{clash, false-of, bool-cases, and-both, and-off}
 use Rattle.basis.proofs.Scans.{each-mem}
-use Rattle.text.specs.Word.{Word, malformed, outside, value, within, isDigit, runLen, runVal, zeroOf, countOf, rangedOf, signedOf, afterMinus, identOf}
+use Rattle.text.specs.Word.{Word, malformed, outside, value, within, isDigit, runLen, runVal}
+use Rattle.text.specs.Word.{zeroOf, countOf, rangedOf, signedOf, afterMinus, identOf}
 use Rattle.text.specs.Scan.{Scanned, scanned, wellFormed, hasAt, countAt, signedAt, identAt, closed, fieldAt}
 use Rattle.text.proofs.Bytes.{no-first, no-zero, first-digit, has-yes, has-below, not-head, not-tail}
 use Rattle.text.proofs.Runs.{len-digit, len-stop, front-len, front-val, all-val}
@@ -81,7 +83,8 @@ module _ (s bs r : List ℕ) (at c : ℕ) (e : drop at s ≡ bs ++ c ∷ r) wher
 
 -- a count by its first byte
 count-by : (s : List ℕ) (at b : ℕ) → at < length s → getD s at 0 ≡ b
-    → countAt s at ≡ cond (eqb b 48) (scanned (value 0) (at + 1)) (cond (within 49 57 b) (scanned (value (runVal 0 (drop at s))) (at + runLen (drop at s))) (scanned malformed at))
+    → countAt s at ≡ cond (eqb b 48) (scanned (value 0) (at + 1))
+    (cond (within 49 57 b) (scanned (value (runVal 0 (drop at s))) (at + runLen (drop at s))) (scanned malformed at))
 unfolding countAt
 count-by s at b l q = rw (← has-yes s at 48 l, q)
 
@@ -95,16 +98,20 @@ module _ (s r : List ℕ) (at c : ℕ) (d : isDigit c ≡ false) where
       closed-no s c (at + 1) (at + length (b ∷ x ∷ xs) + 1) (value 0)
       (word-has s (b ∷ x ∷ xs) r at c e 1 c (omega arith) ∙ not-head c x xs (not-tail c b (x ∷ xs) n))
 
-  run-word : (b : ℕ) (bs : List ℕ) (t : Bool) → each isDigit bs ≡ t → within 49 57 b ≡ true → drop at s ≡ (b ∷ bs) ++ c ∷ r → mem c (b ∷ bs) ≡ false
-      → Ends (at + length (b ∷ bs) + 1) (cond t (value (runVal 0 (b ∷ bs))) malformed) (closed s c (scanned (value (runVal 0 (drop at s))) (at + runLen (drop at s))))
+  run-word : (b : ℕ) (bs : List ℕ) (t : Bool) → each isDigit bs ≡ t → within 49 57 b ≡ true → drop at s ≡ (b ∷ bs) ++ c ∷ r
+      → mem c (b ∷ bs) ≡ false
+      → Ends (at + length (b ∷ bs) + 1) (cond t (value (runVal 0 (b ∷ bs))) malformed)
+      (closed s c (scanned (value (runVal 0 (drop at s))) (at + runLen (drop at s))))
   unfolding each
   run-word b bs true a w e n =
       let al : each isDigit (b ∷ bs) ≡ true = and-both (first-digit b w) a in
       let q : runLen (drop at s) ≡ length (b ∷ bs) = ap runLen e ∙ front-len (b ∷ bs) (c ∷ r) al d in
-      let v : runVal 0 (drop at s) ≡ runVal 0 (b ∷ bs) = ap (runVal 0) e ∙ front-val 0 (b ∷ bs) (c ∷ r) al d ∙ sym (all-val 0 (b ∷ bs) al) in
+      let v : runVal 0 (drop at s) ≡ runVal 0 (b ∷ bs) = ap (runVal 0) e ∙ front-val 0 (b ∷ bs) (c ∷ r) al d
+      ∙ sym (all-val 0 (b ∷ bs) al) in
       rw (q, v)
       (closed-yes s c (at + length (b ∷ bs)) (value (runVal 0 (b ∷ bs)))
-      (word-has s (b ∷ bs) r at c e (length (b ∷ bs)) c (omega arith) ∙ ap (λ (k : ℕ). eqb k c) (getD-append-seam (b ∷ bs) c r 0) ∙ eq-eqb c c refl))
+      (word-has s (b ∷ bs) r at c e (length (b ∷ bs)) c (omega arith) ∙ ap (λ (k : ℕ). eqb k c) (getD-append-seam (b ∷ bs) c r 0)
+      ∙ eq-eqb c c refl))
   run-word b bs false a w e n =
       let al : each isDigit (b ∷ bs) ≡ false = rw (first-digit b w) a in
       let x = breaks c (b ∷ bs) r al n in
@@ -119,12 +126,15 @@ module _ (s r : List ℕ) (at c : ℕ) (d : isDigit c ≡ false) where
   by-within b bs false w e n = bad-ends (at + length (b ∷ bs) + 1) at
 
   by-zero : (b : ℕ) (bs : List ℕ) (t : Bool) → drop at s ≡ (b ∷ bs) ++ c ∷ r → mem c (b ∷ bs) ≡ false
-      → Ends (at + length (b ∷ bs) + 1) (cond t (zeroOf bs) (cond (within 49 57 b && each isDigit bs) (value (runVal 0 (b ∷ bs))) malformed))
-      (closed s c (cond t (scanned (value 0) (at + 1)) (cond (within 49 57 b) (scanned (value (runVal 0 (drop at s))) (at + runLen (drop at s))) (scanned malformed at))))
+      → Ends (at + length (b ∷ bs) + 1) (cond t (zeroOf bs)
+      (cond (within 49 57 b && each isDigit bs) (value (runVal 0 (b ∷ bs))) malformed))
+      (closed s c (cond t (scanned (value 0) (at + 1))
+      (cond (within 49 57 b) (scanned (value (runVal 0 (drop at s))) (at + runLen (drop at s))) (scanned malformed at))))
   by-zero b bs true e n = zero-word b bs e n
   by-zero b bs false e n = by-within b bs (within 49 57 b) refl e n
 
-  count-word : (bs : List ℕ) → drop at s ≡ bs ++ c ∷ r → mem c bs ≡ false → Ends (at + length bs + 1) (countOf bs) (closed s c (countAt s at))
+  count-word : (bs : List ℕ) → drop at s ≡ bs ++ c ∷ r → mem c bs ≡ false
+      → Ends (at + length bs + 1) (countOf bs) (closed s c (countAt s at))
   count-word [] e n =
       rw (count-by s at c (omega (arith, word-in s [] r at c e 0 (omega arith))) (first-byte s [] r at c e), no-zero c d, no-first c d)
       (bad-ends (at + 0 + 1) at)
@@ -137,7 +147,8 @@ ranged-well : (neg : Bool) (n : ℕ) → wellFormed (rangedOf neg n) ≡ true
 ranged-well true n = bool-cases (leb n (2 ^ 63)) _ (λ e. rw e) (λ e. rw e)
 ranged-well false n = bool-cases (leb n (2 ^ 63 - 1)) _ (λ e. rw e) (λ e. rw e)
 
-closed-signed : (neg : Bool) (s : List ℕ) (c q : ℕ) (w : Word ℕ) → closed s c (signedAt neg (scanned w q)) ≡ signedAt neg (closed s c (scanned w q))
+closed-signed : (neg : Bool) (s : List ℕ) (c q : ℕ) (w : Word ℕ)
+    → closed s c (signedAt neg (scanned w q)) ≡ signedAt neg (closed s c (scanned w q))
 closed-signed neg s c q malformed = refl
 closed-signed neg s c q outside = bool-cases (hasAt s q c) _ (λ e. rw e) (λ e. rw e)
 closed-signed neg s c q (value n) = rw (ranged-well neg n) (bool-cases (hasAt s q c) _ (λ e. rw e) (λ e. rw e))
@@ -167,7 +178,8 @@ one-on at n w x h = let q : at + 1 + n + 1 ≡ at + suc n + 1 = omega arith in r
 module _ (s r : List ℕ) (at c : ℕ) (d : isDigit c ≡ false) (m : eqb c 45 ≡ false) where
   -- after `-`, which stands at `at`
   minus-word : (bs : List ℕ) → drop (at + 1) s ≡ bs ++ c ∷ r → mem c bs ≡ false
-      → Ends (at + 1 + length bs + 1) (afterMinus bs) (closed s c (cond (hasAt s (at + 1) 48) (scanned malformed (at + 1)) (signedAt true (countAt s (at + 1)))))
+      → Ends (at + 1 + length bs + 1) (afterMinus bs)
+      (closed s c (cond (hasAt s (at + 1) 48) (scanned malformed (at + 1)) (signedAt true (countAt s (at + 1)))))
   minus-word [] e n = rw (first-has s [] r (at + 1) c e 48, no-zero c d) (signed-word true s r (at + 1) c d [] e n)
   minus-word (x ∷ xs) e n = rw (first-has s (x ∷ xs) r (at + 1) c e 48) (by (eqb x 48))
     where
@@ -182,9 +194,11 @@ module _ (s r : List ℕ) (at c : ℕ) (d : isDigit c ≡ false) (m : eqb c 45 �
   ident-word (b ∷ bs) e n = rw (first-has s (b ∷ bs) r at c e 45) (by (eqb b 45))
     where
       by : (t : Bool) → Ends (at + length (b ∷ bs) + 1) (cond t (afterMinus bs) (signedOf false (countOf (b ∷ bs))))
-          (closed s c (cond t (cond (hasAt s (at + 1) 48) (scanned malformed (at + 1)) (signedAt true (countAt s (at + 1)))) (signedAt false (countAt s at))))
+          (closed s c (cond t (cond (hasAt s (at + 1) 48) (scanned malformed (at + 1)) (signedAt true (countAt s (at + 1))))
+          (signedAt false (countAt s at))))
       by true =
-          one-on at (length bs) (afterMinus bs) (closed s c (cond (hasAt s (at + 1) 48) (scanned malformed (at + 1)) (signedAt true (countAt s (at + 1)))))
+          one-on at (length bs) (afterMinus bs) (closed s c
+          (cond (hasAt s (at + 1) 48) (scanned malformed (at + 1)) (signedAt true (countAt s (at + 1)))))
           (minus-word bs (word-next s bs r at c b e) (not-tail c b bs n))
       by false = signed-word false s r at c d (b ∷ bs) e n
 
@@ -196,15 +210,18 @@ by-test P false a b p q = q refl
 pub count-from : (s : List ℕ) (at : ℕ) → at ≤ countAt s at .next
 unfolding countAt
 count-from s at =
-    by-test (λ (x : Scanned ℕ). at ≤ x .next) (hasAt s at 48) (scanned (value 0) (at + 1)) (cond (within 49 57 (getD s at 0)) (scanned (value (runVal 0 (drop at s))) (at + runLen (drop at s))) (scanned malformed at))
+    by-test (λ (x : Scanned ℕ). at ≤ x .next) (hasAt s at 48) (scanned (value 0) (at + 1))
+    (cond (within 49 57 (getD s at 0)) (scanned (value (runVal 0 (drop at s))) (at + runLen (drop at s))) (scanned malformed at))
     (λ _. omega arith)
-    (λ _. by-test (λ (x : Scanned ℕ). at ≤ x .next) (within 49 57 (getD s at 0)) (scanned (value (runVal 0 (drop at s))) (at + runLen (drop at s))) (scanned malformed at)
+    (λ _. by-test (λ (x : Scanned ℕ). at ≤ x .next) (within 49 57 (getD s at 0))
+    (scanned (value (runVal 0 (drop at s))) (at + runLen (drop at s))) (scanned malformed at)
     (λ _. omega arith) (λ _. omega arith))
 
 pub ident-from : (s : List ℕ) (at : ℕ) → at ≤ identAt s at .next
 unfolding identAt
 ident-from s at =
-    by-test (λ (x : Scanned ℤ). at ≤ x .next) (hasAt s at 45) (cond (hasAt s (at + 1) 48) (scanned malformed (at + 1)) (signedAt true (countAt s (at + 1)))) (signedAt false (countAt s at))
+    by-test (λ (x : Scanned ℤ). at ≤ x .next) (hasAt s at 45)
+    (cond (hasAt s (at + 1) 48) (scanned malformed (at + 1)) (signedAt true (countAt s (at + 1)))) (signedAt false (countAt s at))
     (λ _. by-test (λ (x : Scanned ℤ). at ≤ x .next) (hasAt s (at + 1) 48) (scanned malformed (at + 1)) (signedAt true (countAt s (at + 1)))
     (λ _. omega arith) (λ _. omega (arith, count-from s (at + 1))))
     (λ _. count-from s at)
@@ -224,14 +241,16 @@ no-end s at c p h n =
 
 field-open : (s : List ℕ) (at c : ℕ) → mem c (drop at s) ≡ false → fieldAt s at c .said ≡ malformed
 unfolding fieldAt
-field-open s at c n = closed-no s c (identAt s at .next) 0 (identAt s at .said) (no-end s at c (identAt s at .next) (ident-from s at) n) .said
+field-open s at c n =
+    closed-no s c (identAt s at .next) 0 (identAt s at .said) (no-end s at c (identAt s at .next) (ident-from s at) n) .said
 
 -- ---- the theorem: the scanner's answer is the readable one, for a count and for an identifier
 pub count-reads : (s : List ℕ) (at c : ℕ) → isDigit c ≡ false → Reads c countOf s at (closed s c (countAt s at))
 count-reads s at c d =
     record {
       ended = λ bs r. count-word s r at c d bs;
-      unended = λ n. closed-no s c (countAt s at .next) 0 (countAt s at .said) (no-end s at c (countAt s at .next) (count-from s at) n) .said;
+      unended =
+          λ n. closed-no s c (countAt s at .next) 0 (countAt s at .said) (no-end s at c (countAt s at .next) (count-from s at) n) .said;
     }
 
 pub field-reads : (s : List ℕ) (at c : ℕ) → isDigit c ≡ false → eqb c 45 ≡ false → Reads c identOf s at (fieldAt s at c)

@@ -8,14 +8,17 @@ use lib.ListN.{length}
 use lib.Dec.{leb, ltb, eqb}
 use borrow.Author.Tests.{ltb-true}
 use Rattle.basis.specs.Refusal.{Said, gives, refuses, plain, noRoom, unsound, notThere, check}
-use Rattle.book.specs.Rules.{Next, stop, to, Found, found, follow, Heads, Step, already, merge, merged, same, Done, done, walk, walkFrom, headOf, pair, headsOf, sameGroup, groupSize, tally, isStop, groupCount, largest, stepLimit, mergeable, mergeHeads, linkHeads, decide, openBook, writeBook, joinBook}
+use Rattle.book.specs.Rules.{Next, stop, to, Found, found, follow, Heads, Step, already, merge, merged, same, Done, done}
+use Rattle.book.specs.Rules.{walk, walkFrom, headOf, pair, headsOf, sameGroup, groupSize, tally, isStop, groupCount}
+use Rattle.book.specs.Rules.{largest, stepLimit, mergeable, mergeHeads, linkHeads, decide, openBook, writeBook, joinBook}
 use Rattle.book.specs.Two.{Areas, areas, nextIn, fits, two, twoBook}
 use Rattle.book.proofs.Checks.{fits-within}
 use Rattle.book.proofs.Calls.{size-inside}
 use Rattle.book.proofs.Tally.{tally-le}
 use Rattle.trace.specs.Code.{coded, wide, Readable, nothing}
 use Rattle.trace.specs.Book.{joinValue, headValue, sameValue, itself, bookTold, bookTells}
-use Rattle.trace.proofs.Codes.{onward-readable, readable-by, readable-given, readable-refused, readable-plain, readable-check, readable-values, readable-silent, readable-untold, untold}
+use Rattle.trace.proofs.Codes.{onward-readable, readable-by, readable-given, readable-refused, readable-plain}
+use Rattle.trace.proofs.Codes.{readable-check, readable-values, readable-silent, readable-untold, untold}
 
 pair-readable : (s t : Said Found) → Readable wide s untold → Readable wide t untold → Readable wide (pair s t) untold
 pair-readable (gives f) (gives g) h k = readable-silent _ (omega arith)
@@ -32,7 +35,8 @@ largest-le (suc k) s = go (leb (2 ^ suc k) s) (largest-le k s)
     go false h = omega arith
 
 -- a check of the book
-checked : {A : Type 0} {value : A → ℕ} (t : Bool) (number : ℕ) {s : Said A} → 0 < number → number ≤ 21 → (t ≡ true → Readable wide s value) → Readable wide (check t number s) value
+checked : {A : Type 0} {value : A → ℕ} (t : Bool) (number : ℕ) {s : Said A} → 0 < number → number ≤ 21 → (t ≡ true → Readable wide s value)
+    → Readable wide (check t number s) value
 checked t number p q h = readable-check t number (omega arith) p q h
 
 -- a head is in the area, and 16 moves reach it at most
@@ -71,7 +75,8 @@ module _ (ps ss : List ℕ) where
       checked _ noRoom (omega arith) (omega arith)
       (λ f. checked _ notThere (omega arith) (omega arith)
       (λ k. checked _ notThere (omega arith) (omega arith)
-      (λ l. pair-readable _ _ (walkFrom-silent (nextIn ps) (length ps) (fits-within ps ss f) u k) (walkFrom-silent (nextIn ps) (length ps) (fits-within ps ss f) v l))))
+      (λ l. pair-readable _ _ (walkFrom-silent (nextIn ps) (length ps) (fits-within ps ss f) u k)
+      (walkFrom-silent (nextIn ps) (length ps) (fits-within ps ss f) v l))))
 
   pub same-readable : (u v : ℕ) → Readable wide (sameGroup (two ps ss) u v) sameValue
   unfolding sameGroup
@@ -114,7 +119,9 @@ module _ (ps ss : List ℕ) where
   unfolding openBook
   open-readable = go (two ps ss .fit)
     where
-      go : (t : Bool) → Readable wide (cond t (done (gives tt) (twoBook .opened (areas ps ss))) (done (refuses (plain noRoom)) (areas ps ss)) .said) nothing
+      go : (t : Bool)
+          → Readable wide (cond t (done (gives tt) (twoBook .opened (areas ps ss))) (done (refuses (plain noRoom)) (areas ps ss)) .said)
+          nothing
       go true = readable-given tt (omega arith)
       go false = readable-plain noRoom (omega arith) (omega arith) (omega arith)
 

@@ -73,7 +73,8 @@ unlike-bound a b = let h = failing-bound (agrees a b) (length a) 0 in omega arit
 
 -- ---- what is said of a claim
 module _ (room : ℕ) (some : 65537 < room) where
-  verdict-small : (incomplete mismatch : ℕ) → incomplete < room → mismatch < room → Small room (threeOf (gives (verdictOf incomplete mismatch)))
+  verdict-small : (incomplete mismatch : ℕ) → incomplete < room → mismatch < room
+      → Small room (threeOf (gives (verdictOf incomplete mismatch)))
   verdict-small (suc k) mismatch p q = record { number = omega arith; file = omega arith; line = p }
   verdict-small zero (suc k) p q = record { number = omega arith; file = omega arith; line = q }
   verdict-small zero zero p q = record { number = omega arith; file = omega arith; line = omega arith }
@@ -87,7 +88,8 @@ module _ (room : ℕ) (some : 65537 < room) where
   judged-small ids mismatch (refuses r) h m = h .refusals r refl .1
 
   -- by the line at which two lists part
-  parted-small : {A B : Type 0} (alike : B → A → Bool) (ids : List ℤ) (reference : List B) (x : Said (List (ℤ × A))) → Readable room x (λ l. 1 + length l)
+  parted-small : {A B : Type 0} (alike : B → A → Bool) (ids : List ℤ) (reference : List B) (x : Said (List (ℤ × A)))
+      → Readable room x (λ l. 1 + length l)
       → Small room (threeOf (judgedBy ids (firstLine alike 1 reference) x))
   parted-small alike ids reference x h =
       judged-small ids (firstLine alike 1 reference) x h
@@ -103,14 +105,19 @@ module _ (room : ℕ) (some : 65537 < room) where
     wcc-small : soundGraph g ≡ true → Small room (threeOf (judgedBy (names g) (unlikeLine (wccOf g)) (numberLines most s)))
     wcc-small h =
         judged-small (names g) (unlikeLine (wccOf g)) (numberLines most s) numbers-readable
-        (λ l e. let f = unlike-bound (wccOf g) (valuesOf l) in let n = column-length (labelOf (g .vertices) (outward g) (names g)) 0 (g .vertices) in let k = sound-of g h .fewVertices in omega arith)
+        (λ l e. let f = unlike-bound (wccOf g) (valuesOf l) in
+        let n = column-length (labelOf (g .vertices) (outward g) (names g)) 0 (g .vertices) in let k = sound-of g h .fewVertices in
+        omega arith)
 
     -- what is said of the claim fits, and so does a parameter's refusal
     reference-small : soundGraph g ≡ true → Small room (threeOf (referenceFor most g s kernel parameter .judged))
     unfolding referenceFor
     reference-small h = go (eqb kernel bfsNumber) (eqb kernel wccNumber) (eqb kernel cdlpNumber)
       where
-        go : (a b c : Bool) → Small room (threeOf (cond a (bfsReference most g s parameter) (cond b (wccReference most g s) (cond c (cdlpReference most g s parameter) (lccReference most g s))) .judged))
+        go : (a b c : Bool)
+            → Small room
+            (threeOf (cond a (bfsReference most g s parameter)
+            (cond b (wccReference most g s) (cond c (cdlpReference most g s parameter) (lccReference most g s))) .judged))
         go true b c = parted-small sameZ (names g) _ (numberLines most s) numbers-readable
         go false true c = wcc-small h
         go false false true = parted-small sameZ (names g) _ (numberLines most s) numbers-readable
@@ -120,7 +127,8 @@ module _ (room : ℕ) (some : 65537 < room) where
     unfolding referenceFor
     reference-numbered = go (eqb kernel bfsNumber) (eqb kernel wccNumber) (eqb kernel cdlpNumber)
       where
-        go : (a b c : Bool) → cond a (bfsReference most g s parameter) (cond b (wccReference most g s) (cond c (cdlpReference most g s parameter) (lccReference most g s))) .number ≤ 21
+        go : (a b c : Bool) → cond a (bfsReference most g s parameter)
+            (cond b (wccReference most g s) (cond c (cdlpReference most g s parameter) (lccReference most g s))) .number ≤ 21
         go true b c = omega arith
         go false true c = omega arith
         go false false true = omega arith
@@ -135,7 +143,9 @@ module _ (room : ℕ) (some : 65537 < room) where
         roomy true = h refl
         roomy false = record { number = omega arith; file = omega arith; line = omega arith }
 
-        go : (t : Bool) → Small room (threeOf (Call.thenSays (cond t (cond room′ (gives tt) (refuses (plain noRoom))) (refuses (plain (k .number)))) (k .judged)))
+        go : (t : Bool)
+            → Small room
+            (threeOf (Call.thenSays (cond t (cond room′ (gives tt) (refuses (plain noRoom))) (refuses (plain (k .number)))) (k .judged)))
         go true = roomy room′
         go false = record { number = p; file = omega arith; line = omega arith }
     says-small k false room′ h p = record { number = omega arith; file = omega arith; line = omega arith }
@@ -143,7 +153,8 @@ module _ (room : ℕ) (some : 65537 < room) where
 -- ---- the verdict on a lent graph
 module _ (most : ℕ) (g : Graph) (kernel : ℕ) (parameter : ℤ) (s : List ℕ) (R C : List ℤ) (F S T : List ℕ) where
   by-number : (k : Bool) → isKernel kernel ≡ k
-      → Call.verdictCall most g kernel parameter s R C F S T ≡ cond k (Call.callOn (referenceFor most g s kernel parameter) g R C F S T) (Call.unknownCall R C F S T)
+      → Call.verdictCall most g kernel parameter s R C F S T
+      ≡ cond k (Call.callOn (referenceFor most g s kernel parameter) g R C F S T) (Call.unknownCall R C F S T)
   unfolding Call.verdictCall referenceFor
   by-number k h = go (eqb kernel bfsNumber) (eqb kernel wccNumber) (eqb kernel cdlpNumber) (eqb kernel lccNumber) k refl refl refl refl h
     where
@@ -157,14 +168,17 @@ module _ (most : ℕ) (g : Graph) (kernel : ℕ) (parameter : ℤ) (s : List ℕ
           omega (arith, eqb-false kernel 4 t)
 
       a-kernel : (n : ℕ) → eqb kernel n ≡ true → 1 ≤ n → n ≤ 4 → isKernel kernel ≡ false → ⊥
-      a-kernel n e l m h = let q = eqb-true kernel n e in false≢true (sym h ∙ and-both (le-leb 1 kernel (omega arith)) (le-leb kernel 4 (omega arith)))
+      a-kernel n e l m h =
+          let q = eqb-true kernel n e in false≢true (sym h ∙ and-both (le-leb 1 kernel (omega arith)) (le-leb kernel 4 (omega arith)))
 
       go : (a b c d k : Bool) → eqb kernel 1 ≡ a → eqb kernel 2 ≡ b → eqb kernel 3 ≡ c → eqb kernel 4 ≡ d → isKernel kernel ≡ k
           → cond a (Call.callOn (bfsReference most g s parameter) g R C F S T)
           (cond b (Call.callOn (wccReference most g s) g R C F S T)
           (cond c (Call.callOn (cdlpReference most g s parameter) g R C F S T)
           (cond d (Call.callOn (lccReference most g s) g R C F S T) (Call.unknownCall R C F S T))))
-          ≡ cond k (Call.callOn (cond a (bfsReference most g s parameter) (cond b (wccReference most g s) (cond c (cdlpReference most g s parameter) (lccReference most g s)))) g R C F S T) (Call.unknownCall R C F S T)
+          ≡ cond k (Call.callOn (cond a (bfsReference most g s parameter)
+          (cond b (wccReference most g s) (cond c (cdlpReference most g s parameter) (lccReference most g s)))) g R C F S T)
+          (Call.unknownCall R C F S T)
       go true b c d true p q r t h = refl
       go true b c d false p q r t h = absurd (a-kernel 1 p (omega arith) (omega arith) h)
       go false true c d true p q r t h = refl
@@ -176,13 +190,17 @@ module _ (most : ℕ) (g : Graph) (kernel : ℕ) (parameter : ℤ) (s : List ℕ
       go false false false false true p q r t h = absurd (none-left p q r t h)
       go false false false false false p q r t h = refl
 
-  pub call-small : (room : ℕ) → 65537 < room → most ≤ 65536 → Small room (threeOf (Call.verdictCall most g kernel parameter s R C F S T .said))
+  pub call-small : (room : ℕ) → 65537 < room → most ≤ 65536
+      → Small room (threeOf (Call.verdictCall most g kernel parameter s R C F S T .said))
   unfolding Call.callOn Call.leftBy Call.unknownCall
   call-small room some few = rw (by-number (isKernel kernel) refl) (go (isKernel kernel))
     where
-      go : (k : Bool) → Small room (threeOf (cond k (Call.callOn (referenceFor most g s kernel parameter) g R C F S T) (Call.unknownCall R C F S T) .said))
+      go : (k : Bool)
+          → Small room
+          (threeOf (cond k (Call.callOn (referenceFor most g s kernel parameter) g R C F S T) (Call.unknownCall R C F S T) .said))
       go true =
-          says-small room some most few g s kernel parameter (referenceFor most g s kernel parameter) (soundGraph g) (Call.roomFor (g .vertices) R C F S T)
+          says-small room some most few g s kernel parameter (referenceFor most g s kernel parameter) (soundGraph g)
+          (Call.roomFor (g .vertices) R C F S T)
           (reference-small room some most few g s kernel parameter) (reference-numbered room some most few g s kernel parameter)
       go false = record { number = omega arith; file = omega arith; line = omega arith }
 
@@ -192,14 +210,17 @@ module _ (most : ℕ) (g : Graph) (kernel : ℕ) (parameter : ℤ) (s : List ℕ
   unfolding Call.callOn Call.leftBy Call.verdictSays kernelSays
   call-judged h a b = rw (by-number true h, a, b) (go (referenceFor most g s kernel parameter .given))
     where
-      go : (t : Bool) → Call.thenSays (cond t (gives tt) (refuses (plain (referenceFor most g s kernel parameter .number)))) (referenceFor most g s kernel parameter .judged)
+      go : (t : Bool) → Call.thenSays (cond t (gives tt) (refuses (plain (referenceFor most g s kernel parameter .number))))
+          (referenceFor most g s kernel parameter .judged)
           ≡ cond t (referenceFor most g s kernel parameter .judged) (refuses (plain (referenceFor most g s kernel parameter .number)))
       go true = refl
       go false = refl
 
 -- ---- the call at library limits
-module _ (g : Graph) (kernel : ℕ) (parameter : ℤ) (s : List ℕ) (R₀ C₀ : List ℤ) (F₀ S₀ T₀ : List ℕ) (x : Said Verdict) (R C : List ℤ) (F S T : List ℕ)
-    (e : Call.outcome x R C F S T ≡ Call.verdictCall Call.mostLines g kernel parameter s R₀ C₀ F₀ S₀ T₀) (r : Refusal) (f : r ≡ threeOf x) where
+module _ (g : Graph) (kernel : ℕ) (parameter : ℤ) (s : List ℕ) (R₀ C₀ : List ℤ) (F₀ S₀ T₀ : List ℕ) (x : Said Verdict) (R C : List ℤ)
+    (F S T : List ℕ)
+    (e : Call.outcome x R C F S T ≡ Call.verdictCall Call.mostLines g kernel parameter s R₀ C₀ F₀ S₀ T₀) (r : Refusal)
+    (f : r ≡ threeOf x) where
   pub judge-small : Small wide r
   judge-small = rw (f, ap (λ o. o .said) e) (call-small Call.mostLines g kernel parameter s R₀ C₀ F₀ S₀ T₀ wide (omega arith) (omega arith))
 
@@ -211,7 +232,8 @@ module _ (g : Graph) (kernel : ℕ) (parameter : ℤ) (s : List ℕ) (R₀ C₀ 
 -- ---- the call in areas of desk size
 module _ (g : Graph) (kernel : ℕ) (parameter : ℤ) (s : List ℕ) (x : Said Verdict) (R C : List ℤ) (F S T : List ℕ)
     (e : Call.outcome x R C F S T
-    ≡ Call.verdictCall deskLines g kernel parameter s (replicate 1024 (pos 0)) (replicate 1024 (pos 0)) (replicate 1024 0) (replicate 1024 0) (replicate 1024 0))
+    ≡ Call.verdictCall deskLines g kernel parameter s (replicate 1024 (pos 0)) (replicate 1024 (pos 0)) (replicate 1024 0)
+    (replicate 1024 0) (replicate 1024 0))
     (r : Refusal) (f : r ≡ threeOf x) where
   pub desk-small : Small narrow r
   desk-small = rw (f, ap (λ o. o .said) e) (call-small deskLines g kernel parameter s _ _ _ _ _ narrow (omega arith) (omega arith))

@@ -46,7 +46,8 @@ pub readable-given : {A : Type 0} {room : ℕ} {value : A → ℕ} (x : A) → v
 readable-given {room = room} {value = value} x h =
     record { values = λ y e. let q : x ≡ y = cc in rw q at h; refusals = λ r e. refused-given (sym e) }
 
-pub readable-refused : {A : Type 0} {room : ℕ} {value : A → ℕ} (r : Refusal) → 0 < r .number → Small room r → Readable room (refuses r) value
+pub readable-refused : {A : Type 0} {room : ℕ} {value : A → ℕ} (r : Refusal) → 0 < r .number → Small room r
+    → Readable room (refuses r) value
 readable-refused {room = room} r p h =
     let both : (0 < r .number) × Small room r = (p, h) in
     record { values = λ y e. refused-given e; refusals = λ t e. let q : r ≡ t = cc in rw q at both }
@@ -55,11 +56,13 @@ pub readable-by : {A : Type 0} {room : ℕ} {value : A → ℕ} {s t : Said A} �
 readable-by e h = rw e h
 
 -- a refusal that meets no line
-pub readable-plain : {A : Type 0} {room : ℕ} {value : A → ℕ} (number : ℕ) → 0 < room → 0 < number → number ≤ 21 → Readable room (refuses (plain number)) value
+pub readable-plain : {A : Type 0} {room : ℕ} {value : A → ℕ} (number : ℕ) → 0 < room → 0 < number → number ≤ 21
+    → Readable room (refuses (plain number)) value
 readable-plain number k p q = readable-refused (plain number) p (record { number = q; file = omega arith; line = k })
 
 -- after a check: the refusal, or what is said where the test holds
-pub readable-check : {A : Type 0} {room : ℕ} {value : A → ℕ} (t : Bool) (number : ℕ) {s : Said A} → 0 < room → 0 < number → number ≤ 21 → (t ≡ true → Readable room s value)
+pub readable-check : {A : Type 0} {room : ℕ} {value : A → ℕ} (t : Bool) (number : ℕ) {s : Said A} → 0 < room → 0 < number → number ≤ 21
+    → (t ≡ true → Readable room s value)
     → Readable room (cond t s (refuses (plain number))) value
 readable-check true number k p q h = h refl
 readable-check false number k p q h = readable-plain number k p q
@@ -80,7 +83,8 @@ module _ {A : Type 0} {room : ℕ} {value : A → ℕ} {s : Said A} (h : Readabl
   readable-values other k = record { values = k; refusals = λ r e. h .refusals r e }
 
 -- what follows is refused where the first is
-pub onward-readable : {A B : Type 0} {room : ℕ} {value : B → ℕ} (s : Said A) {f : A → Said B} → Readable room s untold → ((x : A) → s ≡ gives x → Readable room (f x) value)
+pub onward-readable : {A B : Type 0} {room : ℕ} {value : B → ℕ} (s : Said A) {f : A → Said B} → Readable room s untold
+    → ((x : A) → s ≡ gives x → Readable room (f x) value)
     → Readable room (onward s f) value
 onward-readable (gives x) h k = k x refl
 onward-readable (refuses r) h k = let t = h .refusals r refl in readable-refused r (t .0) (t .1)

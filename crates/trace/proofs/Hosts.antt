@@ -20,7 +20,8 @@ use Rattle.graph.specs.declared.Size.{Size}
 use Rattle.lists.specs.Files.{identifiers, edgesOf, allNumbered}
 use Rattle.load.specs.declared.Loaded.{Loaded}
 use Rattle.load.specs.declared.Loaded.the-variants.{Graph, Refused}
-use Rattle.load.specs.Load.{says, Lists, arcRoom, vertexRoom, withRoom, arcsRead, listsRead, loaded, isUndirected, sizeOf, outcome, outcomeOf, loadCall, desk, deskRoom}
+use Rattle.load.specs.Load.{says, Lists, arcRoom, vertexRoom, withRoom, arcsRead, listsRead, loaded}
+use Rattle.load.specs.Load.{isUndirected, sizeOf, outcome, outcomeOf, loadCall, desk, deskRoom}
 use Rattle.load.specs.Good.{GoodLoad, graphLeft}
 use Rattle.load.proofs.Accepts.{vertices-accepted, edges-accepted, load-accepted}
 use Rattle.load.proofs.Meaning.{load-sound}
@@ -67,7 +68,9 @@ module _ (mode : ℕ) (vertices edges : List ℕ) where
   loaded-desk m = rw m (go (identifiers 1024 vertices) refl)
     where
       by-edges : (ids : List ℤ) (x : Said (List (ℤ × ℤ))) → edgesOf (isUndirected mode) 2048 (placeIn ids) edges ≡ x
-          → said (listed ids) (onward x (λ es. withRoom (arcRoom 4096 4096 (length (arcs (isUndirected mode) (allNumbered (placeIn ids) es)))) (arcs (isUndirected mode) (allNumbered (placeIn ids) es))))
+          → said (listed ids)
+          (onward x (λ es. withRoom (arcRoom 4096 4096 (length (arcs (isUndirected mode) (allNumbered (placeIn ids) es))))
+          (arcs (isUndirected mode) (allNumbered (placeIn ids) es))))
           ≡ said (λ es. listed ids (arcs (isUndirected mode) (allNumbered (placeIn ids) es))) x
       by-edges ids (gives es) q =
           let few = edges-accepted (isUndirected mode) 2048 ids edges es .0 q .few in
@@ -76,15 +79,19 @@ module _ (mode : ℕ) (vertices edges : List ℕ) where
       by-edges ids (refuses r) q = refl
 
       go : (x : Said (List ℤ)) → identifiers 1024 vertices ≡ x
-          → onward x (λ ids. onward (withRoom (vertexRoom 1024 1025 1025 (length ids)) ids) (λ ids. said (listed ids) (arcsRead (isUndirected mode) 2048 ids edges 4096 4096)))
-          ≡ onward x (λ ids. said (λ es. listed ids (arcs (isUndirected mode) (allNumbered (placeIn ids) es))) (edgesOf (isUndirected mode) 2048 (placeIn ids) edges))
+          → onward x (λ ids. onward (withRoom (vertexRoom 1024 1025 1025 (length ids)) ids)
+          (λ ids. said (listed ids) (arcsRead (isUndirected mode) 2048 ids edges 4096 4096)))
+          ≡ onward x (λ ids. said (λ es. listed ids (arcs (isUndirected mode) (allNumbered (placeIn ids) es)))
+          (edgesOf (isUndirected mode) 2048 (placeIn ids) edges))
       go (gives ids) q =
           let few = vertices-accepted 1024 vertices ids .0 q .few in
-          rw (le-leb (length ids) 1024 (omega arith), lt-ltb (length ids) 1025 (omega arith)) (by-edges ids (edgesOf (isUndirected mode) 2048 (placeIn ids) edges) refl)
+          rw (le-leb (length ids) 1024 (omega arith), lt-ltb (length ids) 1025 (omega arith))
+          (by-edges ids (edgesOf (isUndirected mode) 2048 (placeIn ids) edges) refl)
       go (refuses r) q = refl
 
 -- ---- the reference output, by what a graph shows
-module _ (most : ℕ) (g h : Sound.Graph) (s : List ℕ) (parameter : ℤ) (n : g .vertices ≡ h .vertices) (i : names g ≡ names h) (o : outward g ≡ outward h) (t : inward g ≡ inward h) where
+module _ (most : ℕ) (g h : Sound.Graph) (s : List ℕ) (parameter : ℤ) (n : g .vertices ≡ h .vertices) (i : names g ≡ names h)
+    (o : outward g ≡ outward h) (t : inward g ≡ inward h) where
   depths-same : (place : Found) → depthsFrom g place ≡ depthsFrom h place
   depths-same (At root) = cc
   depths-same Missing = refl
@@ -147,12 +154,15 @@ module _ (vertices edges claim : List ℕ) (mode kernel : ℕ) (parameter : ℤ)
     unfolding loadCall outcomeOf
     stands-so = rw h
 
-    roomy : Call.roomFor (length (g .ids)) (replicate 1024 (pos 0)) (replicate 1024 (pos 0)) (replicate 1024 0) (replicate 1024 0) (replicate 1024 0) ≡ true
+    roomy : Call.roomFor (length (g .ids)) (replicate 1024 (pos 0)) (replicate 1024 (pos 0)) (replicate 1024 0) (replicate 1024 0)
+        (replicate 1024 0) ≡ true
     unfolding Call.roomFor
     roomy =
         let n = length (g .ids) in
-        let z : leb n (length (replicate 1024 (pos 0))) ≡ true = rw (length-replicate 1024 (pos 0)) (le-leb n 1024 (ok .goodVertices .few)) in
-        let o : leb n (length (replicate {A = ℕ} 1024 0)) ≡ true = rw (length-replicate {A = ℕ} 1024 0) (le-leb n 1024 (ok .goodVertices .few)) in
+        let z : leb n (length (replicate 1024 (pos 0)))
+        ≡ true = rw (length-replicate 1024 (pos 0)) (le-leb n 1024 (ok .goodVertices .few)) in
+        let o : leb n (length (replicate {A = ℕ} 1024 0))
+        ≡ true = rw (length-replicate {A = ℕ} 1024 0) (le-leb n 1024 (ok .goodVertices .few)) in
         and-both z (and-both z (and-both o (and-both o o)))
 
     judged-so : deskJudged stands kernel parameter claim ≡ judgedAs (referenceFor deskLines (graphOf g) claim kernel parameter)
@@ -161,37 +171,49 @@ module _ (vertices edges claim : List ℕ) (mode kernel : ℕ) (parameter : ℤ)
         call-judged deskLines stands kernel parameter claim _ _ _ _ _ known-kernel (load-sound desk mode deskRoom vertices edges g h) roomy
         ∙ ap judgedAs (ap (λ x. referenceFor deskLines x claim kernel parameter) stands-so
         ∙ reference-same deskLines (areaGraph deskRoom g) (graphOf g) claim parameter refl
-        (same-names desk mode deskRoom vertices edges g ok) (same-outward desk mode deskRoom vertices edges g ok) (same-inward desk mode deskRoom vertices edges g ok) kernel)
+        (same-names desk mode deskRoom vertices edges g ok) (same-outward desk mode deskRoom vertices edges g ok)
+        (same-inward desk mode deskRoom vertices edges g ok) kernel)
 
     host-given : hostSays vertices edges claim mode kernel parameter ≡ deskJudged stands kernel parameter claim
-    host-given = says-known ∙ ap (λ x. onward x (λ l. judgedAs (referenceFor deskLines (graphOf l) claim kernel parameter))) h ∙ sym judged-so
+    host-given =
+        says-known ∙ ap (λ x. onward x (λ l. judgedAs (referenceFor deskLines (graphOf l) claim kernel parameter))) h ∙ sym judged-so
 
 -- ---- each return of the call
 module _ (vertices edges claim : List ℕ) (mode kernel : ℕ) (parameter : ℤ) (t : Bool) (p : t ≡ isKnown mode kernel) where
-  pub host-unknown : not t ≡ true → (r : Refusal) → r ≡ plain unknownNumber → (k : ℕ) → k ≡ hostCode r → k ≡ hostVerdict vertices edges claim mode kernel parameter
+  pub host-unknown : not t ≡ true → (r : Refusal) → r ≡ plain unknownNumber → (k : ℕ) → k ≡ hostCode r
+      → k ≡ hostVerdict vertices edges claim mode kernel parameter
   unfolding hostVerdict hostSays
   host-unknown h r e k f = rw (f, e, failed t (isKnown mode kernel) p h)
 
-  module _ (h : not t ≡ false) (a : Loaded) (ids : List ℤ) (oo ot io is : List ℕ) (e : outcome (says a) ids oo ot io is ≡ loadCall desk mode deskRoom vertices edges) where
+  module _ (h : not t ≡ false) (a : Loaded) (ids : List ℤ) (oo ot io is : List ℕ)
+      (e : outcome (says a) ids oo ot io is ≡ loadCall desk mode deskRoom vertices edges) where
     answered : says a ≡ said sizeOf (loaded desk mode deskRoom vertices edges)
     unfolding loadCall outcomeOf
     answered = ap (λ o. o .answer) e
 
     pub host-refused-small : (r : Refusal) → a ≡ Refused r → Small narrow r
     host-refused-small r q =
-        said-readable sizeOf (loaded desk mode deskRoom vertices edges) (omega arith) (loaded-readable narrow desk (omega arith) mode deskRoom vertices edges) .refusals r
+        said-readable sizeOf (loaded desk mode deskRoom vertices edges) (omega arith)
+        (loaded-readable narrow desk (omega arith) mode deskRoom vertices edges) .refusals r
         (sym answered ∙ ap says q) .1
 
     pub host-refused : (r : Refusal) → a ≡ Refused r → (k : ℕ) → k ≡ hostCode r → k ≡ hostVerdict vertices edges claim mode kernel parameter
     unfolding hostVerdict
-    host-refused r q k f = rw (f, says-known vertices edges claim mode kernel parameter (held t (isKnown mode kernel) p h), said-refuses sizeOf (loaded desk mode deskRoom vertices edges) r (ap says (sym q) ∙ answered))
+    host-refused r q k f =
+        rw (
+          f,
+          says-known vertices edges claim mode kernel parameter (held t (isKnown mode kernel) p h),
+          said-refuses sizeOf (loaded desk mode deskRoom vertices edges) r (ap says (sym q) ∙ answered),
+        )
 
-    pub host-judged : (size : Size) → a ≡ Graph size → (z : ℤ) → z ≡ parameter → (k : ℕ) → k ≡ hostCode (threeOf (deskJudged (lent size ids oo ot io is) kernel z claim))
+    pub host-judged : (size : Size) → a ≡ Graph size → (z : ℤ) → z ≡ parameter → (k : ℕ)
+        → k ≡ hostCode (threeOf (deskJudged (lent size ids oo ot io is) kernel z claim))
         → k ≡ hostVerdict vertices edges claim mode kernel parameter
     unfolding hostVerdict
     host-judged size q z w k f = go (loaded desk mode deskRoom vertices edges) refl (sym answered ∙ ap says q)
       where
-        go : (x : Said Lists) → loaded desk mode deskRoom vertices edges ≡ x → said sizeOf x ≡ gives size → k ≡ hostCode (threeOf (hostSays vertices edges claim mode kernel parameter))
+        go : (x : Said Lists) → loaded desk mode deskRoom vertices edges ≡ x → said sizeOf x ≡ gives size
+            → k ≡ hostCode (threeOf (hostSays vertices edges claim mode kernel parameter))
         go (refuses r) l e = refused-given e
         go (gives g) l s =
             let size-is : sizeOf g ≡ size = given-one s in
@@ -199,7 +221,8 @@ module _ (vertices edges claim : List ℕ) (mode kernel : ℕ) (parameter : ℤ)
             let graph : lent size ids oo ot io is ≡ left =
             ap (graphLeft size) e ∙ ap (λ x. graphLeft x (loadCall desk mode deskRoom vertices edges)) (sym size-is) in
             f ∙ ap (λ x. hostCode (threeOf x))
-            (ap (λ x. deskJudged x kernel z claim) graph ∙ ap (λ x. deskJudged left kernel x claim) w ∙ sym (host-given vertices edges claim mode kernel parameter (held t (isKnown mode kernel) p h) g l))
+            (ap (λ x. deskJudged x kernel z claim) graph ∙ ap (λ x. deskJudged left kernel x claim) w
+            ∙ sym (host-given vertices edges claim mode kernel parameter (held t (isKnown mode kernel) p h) g l))
 
 -- ---- the three numbers can be taken out of the answer again
 module _ (vertices edges claim : List ℕ) (mode kernel : ℕ) (parameter : ℤ) where
@@ -207,25 +230,31 @@ module _ (vertices edges claim : List ℕ) (mode kernel : ℕ) (parameter : ℤ)
   unfolding hostSays deskJudged
   host-small = by-number (isKnown mode kernel) refl
     where
-      by-load : (known : isKnown mode kernel ≡ true) (x : Said Lists) → loaded desk mode deskRoom vertices edges ≡ x → Small narrow (threeOf (hostSays vertices edges claim mode kernel parameter))
+      by-load : (known : isKnown mode kernel ≡ true) (x : Said Lists) → loaded desk mode deskRoom vertices edges ≡ x
+          → Small narrow (threeOf (hostSays vertices edges claim mode kernel parameter))
       by-load known (gives g) e =
           rw (host-given vertices edges claim mode kernel parameter known g e)
-          (call-small deskLines (graphLeft (sizeOf g) (loadCall desk mode deskRoom vertices edges)) kernel parameter claim _ _ _ _ _ narrow (omega arith) (omega arith))
+          (call-small deskLines (graphLeft (sizeOf g) (loadCall desk mode deskRoom vertices edges)) kernel parameter claim _ _ _ _ _ narrow
+          (omega arith) (omega arith))
       by-load known (refuses r) e =
-          rw (says-known vertices edges claim mode kernel parameter known, e) (loaded-readable narrow desk (omega arith) mode deskRoom vertices edges .refusals r e .1)
+          rw (says-known vertices edges claim mode kernel parameter known, e)
+          (loaded-readable narrow desk (omega arith) mode deskRoom vertices edges .refusals r e .1)
 
       by-number : (t : Bool) → isKnown mode kernel ≡ t → Small narrow (threeOf (hostSays vertices edges claim mode kernel parameter))
       by-number true h = by-load h (loaded desk mode deskRoom vertices edges) refl
       by-number false h = rw h (record { number = omega arith; file = omega arith; line = omega arith })
 
-  pub host-number : hostNumberIn (hostVerdict vertices edges claim mode kernel parameter) ≡ threeOf (hostSays vertices edges claim mode kernel parameter) .number
+  pub host-number : hostNumberIn (hostVerdict vertices edges claim mode kernel parameter)
+      ≡ threeOf (hostSays vertices edges claim mode kernel parameter) .number
   unfolding hostVerdict
   host-number = let s = host-small in omega arith
 
-  pub host-file : hostFileIn (hostVerdict vertices edges claim mode kernel parameter) ≡ threeOf (hostSays vertices edges claim mode kernel parameter) .file
+  pub host-file : hostFileIn (hostVerdict vertices edges claim mode kernel parameter)
+      ≡ threeOf (hostSays vertices edges claim mode kernel parameter) .file
   unfolding hostVerdict
   host-file = let s = host-small in omega arith
 
-  pub host-line : hostLineIn (hostVerdict vertices edges claim mode kernel parameter) ≡ threeOf (hostSays vertices edges claim mode kernel parameter) .line
+  pub host-line : hostLineIn (hostVerdict vertices edges claim mode kernel parameter)
+      ≡ threeOf (hostSays vertices edges claim mode kernel parameter) .line
   unfolding hostVerdict
   host-line = let s = host-small in omega arith

@@ -24,12 +24,15 @@ use Rattle.trace.specs.Load.{loadValue, loadTold, loadTells}
 use Rattle.trace.proofs.Codes.{onward-readable, readable-by, readable-given, readable-refused, readable-silent, untold}
 
 -- ---- what is refused
-turned-readable : {A : Type 0} (room : ℕ) (limits : Limits) → limits .vertices + limits .edges + 1 < room → (s : Said A) → Either Any (Turned limits) s → Readable room s untold
+turned-readable : {A : Type 0} (room : ℕ) (limits : Limits) → limits .vertices + limits .edges + 1 < room → (s : Said A)
+    → Either Any (Turned limits) s → Readable room s untold
 turned-readable room limits few (gives x) h = readable-silent x (omega arith)
 turned-readable room limits few (refuses r) h =
-    readable-refused r (h .some) (record { number = omega (arith, h .low); file = omega (arith, h .inFile); line = omega (arith, h .inLines) })
+    readable-refused r (h .some)
+    (record { number = omega (arith, h .low); file = omega (arith, h .inFile); line = omega (arith, h .inLines) })
 
-pub loaded-readable : (room : ℕ) (limits : Limits) → limits .vertices + limits .edges + 1 < room → (mode : ℕ) (r : Room) (vertices edges : List ℕ)
+pub loaded-readable : (room : ℕ) (limits : Limits) → limits .vertices + limits .edges + 1 < room
+    → (mode : ℕ) (r : Room) (vertices edges : List ℕ)
     → Readable room (loaded limits mode r vertices edges) untold
 loaded-readable room limits few mode r vertices edges =
     turned-readable room limits few (loaded limits mode r vertices edges) (load-turned limits mode r vertices edges)
@@ -48,9 +51,11 @@ module _ (mode : ℕ) (room : Room) (vertices edges : List ℕ) where
   size-readable =
       onward-readable (loaded library mode room vertices edges) (loaded-readable wide library (omega arith) mode room vertices edges)
       (λ g e. let ok = load-accepted library mode room vertices edges g .0 e in
-      readable-given (sizeOf g) (let n = ok .goodVertices .few in let k = ok .goodEdges .few in let m = arcs-few (isUndirected mode) (g .ids) (ok .list) in let e = ap length (ok .arcsAre) in omega arith))
+      readable-given (sizeOf g) (let n = ok .goodVertices .few in let k = ok .goodEdges .few in
+      let m = arcs-few (isUndirected mode) (g .ids) (ok .list) in let e = ap length (ok .arcsAre) in omega arith))
 
-  module _ (s : Said Size) (ids : List ℤ) (oo ot io is : List ℕ) (e : outcome s ids oo ot io is ≡ loadCall library mode room vertices edges) where
+  module _ (s : Said Size) (ids : List ℤ) (oo ot io is : List ℕ)
+      (e : outcome s ids oo ot io is ≡ loadCall library mode room vertices edges) where
     pub load-readable : Readable wide s loadValue
     unfolding loadCall outcomeOf
     load-readable = readable-by (ap (λ o. o .answer) e) size-readable

@@ -18,11 +18,13 @@ use Rattle.trace.specs.Kernels.{bfsTold, bfsTells, wccTold, wccTells, cd
 use Rattle.trace.proofs.Codes.{readable-given, readable-plain, readable-check}
 
 -- "Kernels check 9, then 10 or 11, then 8"
-pub kernel-readable : (sound given : Bool) (number : ℕ) (room : Bool) → (given ≡ false → 0 < number) → number ≤ 21 → Readable wide (kernelSays sound given number room) nothing
+pub kernel-readable : (sound given : Bool) (number : ℕ) (room : Bool) → (given ≡ false → 0 < number) → number ≤ 21
+    → Readable wide (kernelSays sound given number room) nothing
 unfolding kernelSays
 kernel-readable sound given number room p q = readable-check sound unsound (omega arith) (omega arith) (omega arith) (λ s. go given p)
   where
-    go : (t : Bool) → (t ≡ false → 0 < number) → Readable wide (cond t (cond room (gives tt) (refuses (plain noRoom))) (refuses (plain number))) nothing
+    go : (t : Bool) → (t ≡ false → 0 < number) → Readable wide
+        (cond t (cond room (gives tt) (refuses (plain noRoom))) (refuses (plain number))) nothing
     go true h = readable-check room noRoom (omega arith) (omega arith) (omega arith) (λ e. readable-given tt (omega arith))
     go false h = readable-plain number (omega arith) (h refl) q
 
@@ -46,7 +48,8 @@ module _ (g : Graph) (result₀ : List ℤ) (parents₀ sizes₀ : List ℕ) (s 
   unfolding wccTells
   wcc-told k f = rw (f, sym e)
 
-module _ (g : Graph) (rounds : ℤ) (result₀ : List ℤ) (labels₀ next₀ counts₀ : List ℕ) (s : Said (Unit {0})) (result : List ℤ) (labels next counts : List ℕ)
+module _ (g : Graph) (rounds : ℤ) (result₀ : List ℤ) (labels₀ next₀ counts₀ : List ℕ) (s : Said (Unit {0})) (result : List ℤ)
+    (labels next counts : List ℕ)
     (e : Cdlp.outcome s result labels next counts ≡ Cdlp.cdlpCall g rounds result₀ labels₀ next₀ counts₀) where
   pub cdlp-readable : Readable wide s nothing
   unfolding Cdlp.cdlpCall Cdlp.leftBy
@@ -63,6 +66,7 @@ module _ (g : Graph) (numerators₀ denominators₀ work₀ : List ℕ) (s : Sai
   unfolding Lcc.lccCall Lcc.lccSays
   lcc-readable = rw (ap (λ o. o .said) e) (kernel-readable _ true 0 _ (λ f. clash refl f) (omega arith))
 
-  pub lcc-told : (k : ℕ) → k ≡ coded s nothing → lccTold k numerators denominators work ≡ lccTells (Lcc.lccCall g numerators₀ denominators₀ work₀)
+  pub lcc-told : (k : ℕ) → k ≡ coded s nothing → lccTold k numerators denominators work
+      ≡ lccTells (Lcc.lccCall g numerators₀ denominators₀ work₀)
   unfolding lccTells
   lcc-told k f = rw (f, sym e)

@@ -31,20 +31,26 @@ module _ (n s t : ℕ) (l : List Arc) (fine : All (Fine n) l) (places : n < s) (
   part-exact : (v : ℕ) → v < n → partOf n (offsets l n) (parts l n) v ≡ targetsOf l v
   part-exact v h =
       rw (pad-full 0 (offsets l n), pad-full 0 (parts l n)) at
-      (part-stored n (length (offsets l n)) (length (parts l n)) l fine (let k = offsets-length l n in omega arith) (let k = start-all n s t l fine places room in omega arith) v h)
+      (part-stored n (length (offsets l n)) (length (parts l n)) l fine (let k = offsets-length l n in omega arith)
+      (let k = start-all n s t l fine places room in omega arith) v h)
 
   part-same : partOf n (pad s (offsets l n)) (pad t (parts l n)) ≡ partOf n (offsets l n) (parts l n)
   part-same = fun-ext (λ v. go v (decLt v n))
     where
       go : (v : ℕ) → Dec (v < n) → partOf n (pad s (offsets l n)) (pad t (parts l n)) v ≡ partOf n (offsets l n) (parts l n) v
       go v (yes h) = part-stored n s t l fine places room v h ∙ sym (part-exact v h)
-      go v (no h) = sym (part-far n (pad s (offsets l n)) (pad t (parts l n)) v (omega (arith, h))) ∙ part-far n (offsets l n) (parts l n) v (omega (arith, h))
+      go v (no h) =
+          sym (part-far n (pad s (offsets l n)) (pad t (parts l n)) v (omega (arith, h)))
+          ∙ part-far n (offsets l n) (parts l n) v (omega (arith, h))
 
 -- the graph that stands in areas of some room, and that of the lists alone
 abbrev pub areaGraph : Room → Lists → Graph
-areaGraph room g = storedGraph (length (g .ids)) (g .arcs) (padZ (room .ids) (g .ids)) (room .outOffsets) (room .outTargets) (room .inOffsets) (room .inSources)
+areaGraph room g =
+    storedGraph (length (g .ids)) (g .arcs) (padZ (room .ids) (g .ids)) (room .outOffsets) (room .outTargets) (room .inOffsets)
+    (room .inSources)
 
-module _ (limits : Limits) (mode : ℕ) (room : Room) (vertices edges : List ℕ) (g : Lists) (ok : GoodLoad limits mode room vertices edges g) where
+module _ (limits : Limits) (mode : ℕ) (room : Room) (vertices edges : List ℕ) (g : Lists)
+    (ok : GoodLoad limits mode room vertices edges g) where
   valid : Valid (isUndirected mode) (length (g .ids)) (allNumbered (placeIn (g .ids)) (ok .list))
   valid =
       valid-file (g .ids) (ok .goodVertices .rise) (isUndirected mode) (limits .edges) edges (ok .list)
@@ -64,5 +70,6 @@ module _ (limits : Limits) (mode : ℕ) (room : Room) (vertices edges : List ℕ
   pub same-inward : inward (areaGraph room g) ≡ inward (graphOf g)
   unfolding graphOf
   same-inward =
-      part-same (length (g .ids)) (room .inOffsets) (room .inSources) (backward (g .arcs)) (join-backward (length (g .ids)) (g .arcs) fine) (ok .inOffsetsFit)
+      part-same (length (g .ids)) (room .inOffsets) (room .inSources) (backward (g .arcs)) (join-backward (length (g .ids)) (g .arcs) fine)
+      (ok .inOffsetsFit)
       (rw (length-backward (g .arcs)) (ok .inSourcesFit))

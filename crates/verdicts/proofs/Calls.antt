@@ -22,7 +22,8 @@ use Rattle.verdicts.specs.Steps.{Roomy, Numbers, numbers, numbersCall, T
 -- ---- room in areas of five lengths
 module _ (n a b c d e : ℕ) where
   -- in the shortest
-  pub room-all : {x y z w : ℕ} → x ≡ min d e → y ≡ min c x → z ≡ min b y → w ≡ min a z → leb n w ≡ (leb n a && (leb n b && (leb n c && (leb n d && leb n e))))
+  pub room-all : {x y z w : ℕ} → x ≡ min d e → y ≡ min c x → z ≡ min b y → w ≡ min a z
+      → leb n w ≡ (leb n a && (leb n b && (leb n c && (leb n d && leb n e))))
   room-all p q r s =
       let x = min d e in
       rw (s, r, q, p, leb-min n a (min b (min c x)), leb-min n b (min c x), leb-min n c x, leb-min n d e) refl
@@ -46,7 +47,8 @@ module _ (n a b c d e : ℕ) where
     )
 
 -- ---- the outcome from its parts
-all-same : {x y : Said Verdict} {R R′ C C′ : List ℤ} {F F′ S S′ T T′ : List ℕ} → x ≡ y → R ≡ R′ → C ≡ C′ → F ≡ F′ → S ≡ S′ → T ≡ T′ → outcome x R C F S T ≡ outcome y R′ C′ F′ S′ T′
+all-same : {x y : Said Verdict} {R R′ C C′ : List ℤ} {F F′ S S′ T T′ : List ℕ} → x ≡ y → R ≡ R′ → C ≡ C′ → F ≡ F′ → S ≡ S′ → T ≡ T′
+    → outcome x R C F S T ≡ outcome y R′ C′ F′ S′ T′
 all-same a b c d e f = cc
 
 -- no results of this kind
@@ -56,13 +58,16 @@ leaves-none (refuses r) z size = refl
 
 module _ (k : Reference) (g : Graph) (R C : List ℤ) (F S T : List ℕ) {room : Bool} (p : room ≡ roomFor (g .vertices) R C F S T)
     {x : Said Verdict} {R′ C′ : List ℤ} {F′ S′ T′ : List ℕ} where
-  numbers-call : k .numerators ≡ [] → k .denominators ≡ [] → numbers x R′ C′ ≡ numbersCall k (soundGraph g) room R C → F′ ≡ cleared F → S′ ≡ cleared S → T′ ≡ cleared T
+  numbers-call : k .numerators ≡ [] → k .denominators ≡ [] → numbers x R′ C′ ≡ numbersCall k (soundGraph g) room R C → F′ ≡ cleared F
+      → S′ ≡ cleared S → T′ ≡ cleared T
       → outcome x R′ C′ F′ S′ T′ ≡ callOn k g R C F S T
   unfolding numbersCall callOn leftBy
   numbers-call u w h f s t =
       let y = verdictSays k (soundGraph g) room in
       rw (← p)
-      (all-same (ap (λ (o : Numbers). o .said) h) (ap (λ (o : Numbers). o .result) h) (ap (λ (o : Numbers). o .claimed) h) (f ∙ leaves-none y 0 (length F) ∙ ap (leaves y 0 (length F)) (sym u)) (s ∙ leaves-none y 0 (length S) ∙ ap (leaves y 0 (length S)) (sym w)) t)
+      (all-same (ap (λ (o : Numbers). o .said) h) (ap (λ (o : Numbers). o .result) h) (ap (λ (o : Numbers). o .claimed) h)
+      (f ∙ leaves-none y 0 (length F) ∙ ap (leaves y 0 (length F)) (sym u))
+      (s ∙ leaves-none y 0 (length S) ∙ ap (leaves y 0 (length S)) (sym w)) t)
 
   terms-call : k .values ≡ [] → terms x F′ S′ ≡ termsCall k (soundGraph g) room F S → R′ ≡ clearedZ R → C′ ≡ clearedZ C → T′ ≡ cleared T
       → outcome x R′ C′ F′ S′ T′ ≡ callOn k g R C F S T
@@ -70,18 +75,25 @@ module _ (k : Reference) (g : Graph) (R C : List ℤ) (F S T : List ℕ) {room :
   terms-call u h r c t =
       let y = verdictSays k (soundGraph g) room in
       rw (← p)
-      (all-same (ap (λ (o : Terms). o .said) h) (r ∙ leaves-none y (pos 0) (length R) ∙ ap (leaves y (pos 0) (length R)) (sym u)) c (ap (λ (o : Terms). o .first) h) (ap (λ (o : Terms). o .second) h) t)
+      (all-same (ap (λ (o : Terms). o .said) h) (r ∙ leaves-none y (pos 0) (length R) ∙ ap (leaves y (pos 0) (length R)) (sym u)) c
+      (ap (λ (o : Terms). o .first) h) (ap (λ (o : Terms). o .second) h) t)
 
 -- ---- by the kernel's number
 module _ (most : ℕ) (g : Graph) (kernel : ℕ) (parameter : ℤ) (s : List ℕ) (R C : List ℤ) (F S T : List ℕ) where
-  pub verdict-unknown : (kernel ≡ 1 → ⊥) → (kernel ≡ 2 → ⊥) → (kernel ≡ 3 → ⊥) → (kernel ≡ 4 → ⊥) → {x : Outcome} → x ≡ unknownCall R C F S T
+  pub verdict-unknown : (kernel ≡ 1 → ⊥) → (kernel ≡ 2 → ⊥) → (kernel ≡ 3 → ⊥) → (kernel ≡ 4 → ⊥) → {x : Outcome}
+      → x ≡ unknownCall R C F S T
       → x ≡ verdictCall most g kernel parameter s R C F S T
   unfolding verdictCall
   verdict-unknown a b c d h = rw (ne-eqb kernel 1 a, ne-eqb kernel 2 b, ne-eqb kernel 3 c, ne-eqb kernel 4 d) h
 
-  module _ {room : Bool} (p : room ≡ (leb (g .vertices) (length R) && (leb (g .vertices) (length C) && (leb (g .vertices) (length F) && (leb (g .vertices) (length S) && leb (g .vertices) (length T))))))
+  module _ {room : Bool}
+      (p : room
+      ≡ (leb (g .vertices) (length R) && (leb (g .vertices) (length C)
+      && (leb (g .vertices) (length F) && (leb (g .vertices) (length S) && leb (g .vertices) (length T))))))
       {x : Said Verdict} {R′ C′ : List ℤ} {F′ S′ T′ : List ℕ} where
-    pub verdict-bfs : {parameter′ : ℤ} → parameter′ ≡ parameter → kernel ≡ 1 → numbers x R′ C′ ≡ numbersCall (bfsReference most g s parameter′) (soundGraph g) room R C → F′ ≡ cleared F → S′ ≡ cleared S → T′ ≡ cleared T
+    pub verdict-bfs : {parameter′ : ℤ} → parameter′ ≡ parameter → kernel ≡ 1
+        → numbers x R′ C′ ≡ numbersCall (bfsReference most g s parameter′) (soundGraph g) room R C → F′ ≡ cleared F → S′ ≡ cleared S
+        → T′ ≡ cleared T
         → outcome x R′ C′ F′ S′ T′ ≡ verdictCall most g kernel parameter s R C F S T
     unfolding verdictCall roomFor
     verdict-bfs {parameter′} q e h a b c =
@@ -95,21 +107,25 @@ module _ (most : ℕ) (g : Graph) (kernel : ℕ) (parameter : ℤ) (s : List ℕ
         numbers-call (wccReference most g s) g R C F S T p refl refl h (a .0) (a .1) c
         ∙ rw e
 
-    pub verdict-cdlp : {parameter′ : ℤ} → parameter′ ≡ parameter → (kernel ≡ 1 → ⊥) → (kernel ≡ 2 → ⊥) → kernel ≡ 3 → numbers x R′ C′ ≡ numbersCall (cdlpReference most g s parameter′) (soundGraph g) room R C
-        → (F′ ≡ cleared F) × (S′ ≡ cleared S) × (T′ ≡ cleared T) → outcome x R′ C′ F′ S′ T′ ≡ verdictCall most g kernel parameter s R C F S T
+    pub verdict-cdlp : {parameter′ : ℤ} → parameter′ ≡ parameter → (kernel ≡ 1 → ⊥) → (kernel ≡ 2 → ⊥) → kernel ≡ 3
+        → numbers x R′ C′ ≡ numbersCall (cdlpReference most g s parameter′) (soundGraph g) room R C
+        → (F′ ≡ cleared F) × (S′ ≡ cleared S) × (T′ ≡ cleared T)
+        → outcome x R′ C′ F′ S′ T′ ≡ verdictCall most g kernel parameter s R C F S T
     unfolding verdictCall roomFor
     verdict-cdlp {parameter′} q i j e h a =
         numbers-call (cdlpReference most g s parameter′) g R C F S T p refl refl h (a .0) (a .1) (a .2)
         ∙ rw (e, q)
 
-    pub verdict-lcc : (kernel ≡ 1 → ⊥) → (kernel ≡ 2 → ⊥) → (kernel ≡ 3 → ⊥) → kernel ≡ 4 → terms x F′ S′ ≡ termsCall (lccReference most g s) (soundGraph g) room F S
+    pub verdict-lcc : (kernel ≡ 1 → ⊥) → (kernel ≡ 2 → ⊥) → (kernel ≡ 3 → ⊥) → kernel ≡ 4
+        → terms x F′ S′ ≡ termsCall (lccReference most g s) (soundGraph g) room F S
         → R′ ≡ clearedZ R → C′ ≡ clearedZ C → T′ ≡ cleared T → outcome x R′ C′ F′ S′ T′ ≡ verdictCall most g kernel parameter s R C F S T
     unfolding verdictCall roomFor
     verdict-lcc i j l e h a b c =
         terms-call (lccReference most g s) g R C F S T p refl h a b c
         ∙ rw e
 
-pub unknown-all : (R C : List ℤ) (F S T : List ℕ) {R′ C′ : List ℤ} {F′ S′ T′ : List ℕ} {r : Refusal} → r ≡ plain unknownNumber → R′ ≡ clearedZ R → C′ ≡ clearedZ C → F′ ≡ cleared F → S′ ≡ cleared S → T′ ≡ cleared T
+pub unknown-all : (R C : List ℤ) (F S T : List ℕ) {R′ C′ : List ℤ} {F′ S′ T′ : List ℕ} {r : Refusal} → r ≡ plain unknownNumber
+    → R′ ≡ clearedZ R → C′ ≡ clearedZ C → F′ ≡ cleared F → S′ ≡ cleared S → T′ ≡ cleared T
     → outcome (refuses r) R′ C′ F′ S′ T′ ≡ unknownCall R C F S T
 unfolding unknownCall
 unknown-all R C F S T e a b c d f = all-same (ap refuses e) a b c d f

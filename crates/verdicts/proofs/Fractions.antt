@@ -38,7 +38,8 @@ first-same p q z k (x ∷ xs) [] h = refl
 first-same p q z k (x ∷ xs) (y ∷ ys) h =
     ap₂ (λ (t : Bool) (l : ℕ). cond t l k) (h 0 (omega arith) y) (first-same p q z (k + 1) xs ys (λ i l. h (suc i) (omega arith)))
 
-judged-same : {A : Type 0} (ids : List ℤ) (f g : List A → ℕ) (x : Said (List (ℤ × A))) → ((l : List A) → f l ≡ g l) → judgedBy ids f x ≡ judgedBy ids g x
+judged-same : {A : Type 0} (ids : List ℤ) (f g : List A → ℕ) (x : Said (List (ℤ × A))) → ((l : List A) → f l ≡ g l)
+    → judgedBy ids f x ≡ judgedBy ids g x
 unfolding judgedBy
 judged-same ids f g (gives l) h = ap (λ (m : ℕ). gives (verdictOf (incompleteLine ids (idsOf l)) m)) (h (valuesOf l))
 judged-same ids f g (refuses r) h = refl
@@ -59,63 +60,82 @@ module _ (g : Graph) (sound : soundGraph g ≡ true) where
       rw (column-at (coefficientAt g) (g .vertices) i (0, 0) k) (near-coefficient i k s))
 
 -- the fractions that stand in two areas with the coefficients at their front
-fractions-are : (g : Graph) (F S : List ℕ) → take (g .vertices) F ≡ numerators g → take (g .vertices) S ≡ denominators g → fractions (g .vertices) F S ≡ coefficients g
+fractions-are : (g : Graph) (F S : List ℕ) → take (g .vertices) F ≡ numerators g → take (g .vertices) S ≡ denominators g
+    → fractions (g .vertices) F S ≡ coefficients g
 fractions-are g F S p q =
     column-is (fractionAt F S) (0, 0) (coefficients g) (g .vertices) (column-length (coefficientAt g) 0 (g .vertices))
     (λ i h. column-at (coefficientAt g) (g .vertices) i (0, 0) h
     ∙ ap₂ (λ (a b : ℕ). (a, b))
-    (sym (column-at (numerator (g .vertices) (outward g) (inward g)) (g .vertices) i 0 h) ∙ ap (λ l. getD l i 0) (sym p) ∙ getD-take (g .vertices) F i 0 h)
-    (sym (column-at (denominator (g .vertices) (outward g) (inward g)) (g .vertices) i 0 h) ∙ ap (λ l. getD l i 0) (sym q) ∙ getD-take (g .vertices) S i 0 h))
+    (sym (column-at (numerator (g .vertices) (outward g) (inward g)) (g .vertices) i 0 h) ∙ ap (λ l. getD l i 0) (sym p)
+    ∙ getD-take (g .vertices) F i 0 h)
+    (sym (column-at (denominator (g .vertices) (outward g) (inward g)) (g .vertices) i 0 h) ∙ ap (λ l. getD l i 0) (sym q)
+    ∙ getD-take (g .vertices) S i 0 h))
 
 -- ---- LCC
 module _ (g : Graph) (F S W : List ℕ) {a : Said (Unit {0})} {F′ S′ W′ : List ℕ} (e : lcc.outcome a F′ S′ W′ ≡ lcc.lccCall g F S W) where
   -- in one of the two result areas
   abbrev RanIn : (ℕ → ℕ) → List ℕ → List ℕ → Type 0
-  RanIn f l l′ = Ran 0 true 0 (column f 0 (g .vertices)) (g .vertices) (length (g .ids)) (soundGraph g) (lcc.room (g .vertices) F S W) (length l) a l′
+  RanIn f l l′ =
+      Ran 0 true 0 (column f 0 (g .vertices)) (g .vertices) (length (g .ids)) (soundGraph g) (lcc.room (g .vertices) F S W) (length l) a l′
 
   ran-in : (f : ℕ → ℕ) (l l′ : List ℕ) → l′ ≡ leaves (lcc.lccSays g F S W) 0 (length l) (column f 0 (g .vertices))
       → (lcc.room (g .vertices) F S W ≡ true → g .vertices ≤ length l) → RanIn f l l′
   unfolding lcc.lccCall lcc.lccSays
   ran-in f l l′ p o =
       let q = ap (λ (o : lcc.Outcome). o .said) e in
-      record { said = q; leaving = p ∙ rw q; whole = λ s t. column-length f 0 (g .vertices); known = λ s. sound-of g s .idsRoom; ownRoom = o }
+      record {
+        said = q;
+        leaving = p ∙ rw q;
+        whole = λ s t. column-length f 0 (g .vertices);
+        known = λ s. sound-of g s .idsRoom;
+        ownRoom = o;
+      }
 
   upper-ran : RanIn (numerator (g .vertices) (outward g) (inward g)) F F′
   unfolding lcc.lccCall lcc.room
   upper-ran =
       ran-in _ F F′ (ap (λ (o : lcc.Outcome). o .numerators) e)
-      (λ o. leb-true (g .vertices) (length F) (and-first (leb (g .vertices) (length F)) (leb (g .vertices) (length S)) (and-first _ (leb (g .vertices) (length W)) o)))
+      (λ o. leb-true (g .vertices) (length F) (and-first (leb (g .vertices) (length F)) (leb (g .vertices) (length S))
+      (and-first _ (leb (g .vertices) (length W)) o)))
 
   lower-ran : RanIn (denominator (g .vertices) (outward g) (inward g)) S S′
   unfolding lcc.lccCall lcc.room
   lower-ran =
       ran-in _ S S′ (ap (λ (o : lcc.Outcome). o .denominators) e)
-      (λ o. leb-true (g .vertices) (length S) (and-second (leb (g .vertices) (length F)) (leb (g .vertices) (length S)) (and-first _ (leb (g .vertices) (length W)) o)))
+      (λ o. leb-true (g .vertices) (length S) (and-second (leb (g .vertices) (length F)) (leb (g .vertices) (length S))
+      (and-first _ (leb (g .vertices) (length W)) o)))
 
   pub lcc-known : Known a (g .vertices) (length (g .ids))
   lcc-known = ran-known upper-ran
 
-  pub lcc-roomy : {room : Bool} → Roomy room (g .vertices) (length F) × Roomy room (g .vertices) (length S) → Roomy room (g .vertices) (length F′) × Roomy room (g .vertices) (length S′)
+  pub lcc-roomy : {room : Bool} → Roomy room (g .vertices) (length F) × Roomy room (g .vertices) (length S)
+      → Roomy room (g .vertices) (length F′) × Roomy room (g .vertices) (length S′)
   lcc-roomy f = (ran-roomy upper-ran (f .0), ran-roomy lower-ran (f .1))
 
   pub lcc-cleared : W′ ≡ cleared W
   unfolding lcc.lccCall
   lcc-cleared = ap (λ (o : lcc.Outcome). o .work) e
 
-  module _ {room : Bool} (f : Roomy room (g .vertices) (length F)) (h : Roomy room (g .vertices) (length S)) (i : Roomy room (g .vertices) (length W)) (most : ℕ) (s : List ℕ) where
+  module _ {room : Bool} (f : Roomy room (g .vertices) (length F)) (h : Roomy room (g .vertices) (length S))
+      (i : Roomy room (g .vertices) (length W)) (most : ℕ) (s : List ℕ) where
     says-same : termsSays a room most (g .vertices) (g .ids) s F′ S′ ≡ verdictSays (lccReference most g s) (soundGraph g) room
     unfolding termsSays verdictSays lcc.room
     says-same =
         then-same a
         (λ d. ap (λ (x : Said Verdict). check room noRoom x)
-        (ap (λ (l : List Fraction). judgedBy (take (g .vertices) (g .ids)) (farWithin l) (coefficientLines most s)) (fractions-are g F′ S′ (ran-front upper-ran d) (ran-front lower-ran d))
-        ∙ judged-same (take (g .vertices) (g .ids)) (farWithin (coefficients g)) (farLine (coefficients g)) (coefficientLines most s) (far-coefficients g (ran-fine upper-ran d .isSound))))
+        (ap (λ (l : List Fraction). judgedBy (take (g .vertices) (g .ids)) (farWithin l) (coefficientLines most s))
+        (fractions-are g F′ S′ (ran-front upper-ran d) (ran-front lower-ran d))
+        ∙ judged-same (take (g .vertices) (g .ids)) (farWithin (coefficients g)) (farLine (coefficients g)) (coefficientLines most s)
+        (far-coefficients g (ran-fine upper-ran d .isSound))))
         ∙ rw (upper-ran .said)
         (says-rooms (soundGraph g) true 0 (lcc.room (g .vertices) F S W) room (lccReference most g s .judged)
-        (λ t. and-both (and-both (le-leb (g .vertices) (length F) (f t)) (le-leb (g .vertices) (length S) (h t))) (le-leb (g .vertices) (length W) (i t))))
+        (λ t. and-both (and-both (le-leb (g .vertices) (length F) (f t)) (le-leb (g .vertices) (length S) (h t)))
+        (le-leb (g .vertices) (length W) (i t))))
 
-    pub lcc-verdict : {x : Terms} → x ≡ termsOn a room most (g .vertices) (g .ids) s F′ S′ → x ≡ termsCall (lccReference most g s) (soundGraph g) room F S
+    pub lcc-verdict : {x : Terms} → x ≡ termsOn a room most (g .vertices) (g .ids) s F′ S′
+        → x ≡ termsCall (lccReference most g s) (soundGraph g) room F S
     unfolding termsOn termsCall termsSays
     lcc-verdict p =
-        let x = check room noRoom (judgedBy (take (g .vertices) (g .ids)) (farWithin (fractions (g .vertices) F′ S′)) (coefficientLines most s)) in
+        let x = check room noRoom (judgedBy (take (g .vertices) (g .ids)) (farWithin (fractions (g .vertices) F′ S′))
+        (coefficientLines most s)) in
         p ∙ both-terms says-same (ran-kept upper-ran x says-same) (ran-kept lower-ran x says-same)

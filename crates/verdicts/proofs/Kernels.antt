@@ -34,8 +34,10 @@ pub bfs-length : (g : Graph) (p : Found) → isThere p ≡ true → length (bfs.
 bfs-length g (At root) e = column-length (depthOf (g .vertices) (outward g) root) 0 (g .vertices)
 bfs-length g Missing e = clash e refl
 
-module _ (g : Graph) (root : ℤ) {root′ : ℤ} (p : root′ ≡ root) (R : List ℤ) (F : List ℕ) {a : Said (Unit {0})} {R′ : List ℤ} {F′ : List ℕ} (e : bfs.outcome a R′ F′ ≡ bfs.bfsCall g root′ R F) where
-  bfs-ran : Ran (pos 0) (isThere (placeIn (names g) root)) 10 (bfs.depthsFrom g (placeIn (names g) root)) (g .vertices) (length (g .ids)) (soundGraph g) (leb (g .vertices) (length R) && leb (g .vertices) (length F)) (length R) a R′
+module _ (g : Graph) (root : ℤ) {root′ : ℤ} (p : root′ ≡ root) (R : List ℤ) (F : List ℕ) {a : Said (Unit {0})} {R′ : List ℤ} {F′ : List ℕ}
+    (e : bfs.outcome a R′ F′ ≡ bfs.bfsCall g root′ R F) where
+  bfs-ran : Ran (pos 0) (isThere (placeIn (names g) root)) 10 (bfs.depthsFrom g (placeIn (names g) root)) (g .vertices) (length (g .ids))
+      (soundGraph g) (leb (g .vertices) (length R) && leb (g .vertices) (length F)) (length R) a R′
   unfolding bfs.bfsCall bfs.bfsSays
   bfs-ran =
       let f : bfs.outcome a R′ F′ ≡ bfs.bfsCall g root R F = e ∙ ap (λ (z : ℤ). bfs.bfsCall g z R F) p in
@@ -67,7 +69,8 @@ module _ (g : Graph) (root : ℤ) {root′ : ℤ} (p : root′ ≡ root) (R : Li
       Exact most s refl
 
 -- ---- WCC
-module _ (g : Graph) (R : List ℤ) (P S : List ℕ) {a : Said (Unit {0})} {R′ : List ℤ} {P′ S′ : List ℕ} (e : wcc.outcome a R′ P′ S′ ≡ wcc.wccCall g R P S) where
+module _ (g : Graph) (R : List ℤ) (P S : List ℕ) {a : Said (Unit {0})} {R′ : List ℤ} {P′ S′ : List ℕ}
+    (e : wcc.outcome a R′ P′ S′ ≡ wcc.wccCall g R P S) where
   wcc-ran : Ran (pos 0) true 0 (wccOf g) (g .vertices) (length (g .ids)) (soundGraph g) (wcc.roomFor (g .vertices) R P S) (length R) a R′
   unfolding wcc.wccCall wcc.leftBy wcc.roomFor
   wcc-ran =
@@ -77,7 +80,9 @@ module _ (g : Graph) (R : List ℤ) (P S : List ℕ) {a : Said (Unit {0})} {R′
         leaving = ap (λ (o : wcc.Outcome). o .result) e ∙ rw q;
         whole = λ s t. wcc-length g (sound-of g s);
         known = λ s. sound-of g s .idsRoom;
-        ownRoom = λ o. leb-true (g .vertices) (length R) (and-first (leb (g .vertices) (length R)) (leb (g .vertices) (length P)) (and-first _ (leb (g .vertices) (length S)) o));
+        ownRoom =
+            λ o. leb-true (g .vertices) (length R)
+            (and-first (leb (g .vertices) (length R)) (leb (g .vertices) (length P)) (and-first _ (leb (g .vertices) (length S)) o));
       }
 
   pub wcc-known : Known a (g .vertices) (length (g .ids))
@@ -94,19 +99,22 @@ module _ (g : Graph) (R : List ℤ) (P S : List ℕ) {a : Said (Unit {0})} {R′
   unfolding wcc.wccCall wcc.leftBy
   wcc-cleared-too = ap (λ (o : wcc.Outcome). o .sizes) e
 
-  pub wcc-verdict : {room : Bool} → Roomy room (g .vertices) (length R) → Roomy room (g .vertices) (length P) → Roomy room (g .vertices) (length S)
+  pub wcc-verdict : {room : Bool} → Roomy room (g .vertices) (length R) → Roomy room (g .vertices) (length P)
+      → Roomy room (g .vertices) (length S)
       → (most : ℕ) (s : List ℕ) (C : List ℤ) {x : Numbers} → x ≡ numbersOn a room Equivalence most (g .vertices) (g .ids) s R′ C
       → x ≡ numbersCall (wccReference most g s) (soundGraph g) room R C
   unfolding wcc.roomFor
   wcc-verdict f h i most s =
       numbers-verdict (wccReference most g s) (g .ids) R wcc-ran
-      (λ t. and-both (and-both (le-leb (g .vertices) (length R) (f t)) (le-leb (g .vertices) (length P) (h t))) (le-leb (g .vertices) (length S) (i t)))
+      (λ t. and-both (and-both (le-leb (g .vertices) (length R) (f t)) (le-leb (g .vertices) (length P) (h t)))
+      (le-leb (g .vertices) (length S) (i t)))
       Equivalence most s refl
 
 -- ---- CDLP
 module _ (g : Graph) (z : ℤ) {z′ : ℤ} (p : z′ ≡ z) (R : List ℤ) (L N C : List ℕ) {a : Said (Unit {0})} {R′ : List ℤ} {L′ N′ C′ : List ℕ}
     (e : cdlp.outcome a R′ L′ N′ C′ ≡ cdlp.cdlpCall g z′ R L N C) where
-  cdlp-ran : Ran (pos 0) (cdlp.goodRounds z) 11 (cdlpOf g (natAbs z)) (g .vertices) (length (g .ids)) (soundGraph g) (cdlp.roomFor (g .vertices) R L N C) (length R) a R′
+  cdlp-ran : Ran (pos 0) (cdlp.goodRounds z) 11 (cdlpOf g (natAbs z)) (g .vertices) (length (g .ids)) (soundGraph g)
+      (cdlp.roomFor (g .vertices) R L N C) (length R) a R′
   unfolding cdlp.cdlpCall cdlp.leftBy cdlp.roomFor
   cdlp-ran =
       let f : cdlp.outcome a R′ L′ N′ C′ ≡ cdlp.cdlpCall g z R L N C = e ∙ ap (λ (y : ℤ). cdlp.cdlpCall g y R L N C) p in
@@ -117,7 +125,8 @@ module _ (g : Graph) (z : ℤ) {z′ : ℤ} (p : z′ ≡ z) (R : List ℤ) (L N
         whole = λ s t. cdlp-length g (sound-of g s) (natAbs z);
         known = λ s. sound-of g s .idsRoom;
         ownRoom = λ o. leb-true (g .vertices) (length R)
-            (and-first (leb (g .vertices) (length R)) (leb (g .vertices) (length L)) (and-first _ (leb (g .vertices) (length N)) (and-first _ (leb (g .vertices) (length C)) o)));
+            (and-first (leb (g .vertices) (length R)) (leb (g .vertices) (length L))
+            (and-first _ (leb (g .vertices) (length N)) (and-first _ (leb (g .vertices) (length C)) o)));
       }
 
   pub cdlp-known : Known a (g .vertices) (length (g .ids))
@@ -130,13 +139,15 @@ module _ (g : Graph) (z : ℤ) {z′ : ℤ} (p : z′ ≡ z) (R : List ℤ) (L N
   unfolding cdlp.cdlpCall cdlp.leftBy
   cdlp-cleared = (ap (λ (o : cdlp.Outcome). o .labels) e, ap (λ (o : cdlp.Outcome). o .next) e, ap (λ (o : cdlp.Outcome). o .counts) e)
 
-  pub cdlp-verdict : {room : Bool} → Roomy room (g .vertices) (length R) → Roomy room (g .vertices) (length L) × Roomy room (g .vertices) (length N) × Roomy room (g .vertices) (length C)
+  pub cdlp-verdict : {room : Bool} → Roomy room (g .vertices) (length R)
+      → Roomy room (g .vertices) (length L) × Roomy room (g .vertices) (length N) × Roomy room (g .vertices) (length C)
       → (most : ℕ) (s : List ℕ) (D : List ℤ) {x : Numbers} → x ≡ numbersOn a room Exact most (g .vertices) (g .ids) s R′ D
       → x ≡ numbersCall (cdlpReference most g s z) (soundGraph g) room R D
   unfolding cdlp.roomFor
   cdlp-verdict f h most s =
       numbers-verdict (cdlpReference most g s z) (g .ids) R cdlp-ran
       (λ t. and-both
-      (and-both (and-both (le-leb (g .vertices) (length R) (f t)) (le-leb (g .vertices) (length L) (h .0 t))) (le-leb (g .vertices) (length N) (h .1 t)))
+      (and-both (and-both (le-leb (g .vertices) (length R) (f t)) (le-leb (g .vertices) (length L) (h .0 t)))
+      (le-leb (g .vertices) (length N) (h .1 t)))
       (le-leb (g .vertices) (length C) (h .2 t)))
       Exact most s refl

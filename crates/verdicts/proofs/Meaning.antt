@@ -38,7 +38,8 @@ unfolding verdictSays kernelSays
 says-judged k e = rw e
 
 -- what a call on a sound graph with room in its areas says, by the kernel's number
-module _ (most : ℕ) (g : Graph) (parameter : ℤ) (s : List ℕ) (R C : List ℤ) (F S T : List ℕ) (sound : soundGraph g ≡ true) (room : roomFor (g .vertices) R C F S T ≡ true) where
+module _ (most : ℕ) (g : Graph) (parameter : ℤ) (s : List ℕ) (R C : List ℤ) (F S T : List ℕ) (sound : soundGraph g ≡ true)
+    (room : roomFor (g .vertices) R C F S T ≡ true) where
   pub bfs-says : verdictCall most g 1 parameter s R C F S T .said ≡ verdictSays (bfsReference most g s parameter) true true
   unfolding verdictCall callOn leftBy
   bfs-says = rw (sound, room)
@@ -55,24 +56,31 @@ module _ (most : ℕ) (g : Graph) (parameter : ℤ) (s : List ℕ) (R C : List �
   unfolding verdictCall callOn leftBy
   lcc-says = rw (sound, room)
 
-  -- ---- each answer is given exactly where the claim's bytes are of its kind: accepted, incomplete or a mismatch at a line, refused at its first fault
+  -- ---- each answer is given exactly where the claim's bytes are of its kind:
+  -- accepted, incomplete or a mismatch at a line, refused at its first fault
   -- "BFS and CDLP: equal numbers."
   pub bfs-judged : isThere (placeIn (names g) parameter) ≡ true
-      → Judges identOf most (names g) (λ vs. vs ≡ depthsFrom g (placeIn (names g) parameter)) (Differs sameZ (pos 0) (pos 0) (depthsFrom g (placeIn (names g) parameter))) s
+      → Judges identOf most (names g) (λ vs. vs ≡ depthsFrom g (placeIn (names g) parameter))
+      (Differs sameZ (pos 0) (pos 0) (depthsFrom g (placeIn (names g) parameter))) s
       (verdictCall most g 1 parameter s R C F S T .said)
-  bfs-judged e = rw (bfs-says, says-judged (bfsReference most g s parameter) e) (exact-judged most (names g) (depthsFrom g (placeIn (names g) parameter)) s)
+  bfs-judged e =
+      rw (bfs-says, says-judged (bfsReference most g s parameter) e)
+      (exact-judged most (names g) (depthsFrom g (placeIn (names g) parameter)) s)
 
   pub cdlp-judged : goodRounds parameter ≡ true
-      → Judges identOf most (names g) (λ vs. vs ≡ cdlpOf g (natAbs parameter)) (Differs sameZ (pos 0) (pos 0) (cdlpOf g (natAbs parameter))) s
+      → Judges identOf most (names g) (λ vs. vs ≡ cdlpOf g (natAbs parameter)) (Differs sameZ (pos 0) (pos 0) (cdlpOf g (natAbs parameter)))
+      s
       (verdictCall most g 3 parameter s R C F S T .said)
-  cdlp-judged e = rw (cdlp-says, says-judged (cdlpReference most g s parameter) e) (exact-judged most (names g) (cdlpOf g (natAbs parameter)) s)
+  cdlp-judged e =
+      rw (cdlp-says, says-judged (cdlpReference most g s parameter) e) (exact-judged most (names g) (cdlpOf g (natAbs parameter)) s)
 
   -- "WCC: equal claims exactly where components are equal."
   pub wcc-judged : Judges identOf most (names g) (EqualWhere (g .vertices) (Linked (g .vertices) (outward g))) (Disagrees (wccOf g)) s
       (verdictCall most g 2 parameter s R C F S T .said)
   wcc-judged =
       rw (wcc-says, says-judged (wccReference most g s) refl)
-      (equivalence-judged most (names g) (wccOf g) (g .vertices) (wcc-length g (sound-of g sound)) (Linked (g .vertices) (outward g)) (labels-same g (sound-of g sound)) s)
+      (equivalence-judged most (names g) (wccOf g) (g .vertices) (wcc-length g (sound-of g sound)) (Linked (g .vertices) (outward g))
+      (labels-same g (sound-of g sound)) s)
 
   -- "LCC: 10,000 times |r-s| at most r, with r the exact fraction and s the exact decimal."
   pub lcc-judged : (any : Decimal)
@@ -80,20 +88,24 @@ module _ (most : ℕ) (g : Graph) (parameter : ℤ) (s : List ℕ) (R C : List �
       (verdictCall most g 4 parameter s R C F S T .said)
   lcc-judged any = rw (lcc-says, says-judged (lccReference most g s) refl) (epsilon-judged most (names g) any (coefficients g) s)
 
-  -- ---- accepted exactly where it matches: the bytes name the graph's identifiers in order, with values that match, in at most so many lines
+  -- ---- accepted exactly where it matches: the bytes name the graph's identifiers in order, with values that match,
+  -- in at most so many lines
   pub bfs-accepted : isThere (placeIn (names g) parameter) ≡ true
-      → (verdictCall most g 1 parameter s R C F S T .said ≡ accepted) ↔ GoodClaim identOf most (names g) (λ vs. vs ≡ depthsFrom g (placeIn (names g) parameter)) s
+      → (verdictCall most g 1 parameter s R C F S T .said ≡ accepted)
+      ↔ GoodClaim identOf most (names g) (λ vs. vs ≡ depthsFrom g (placeIn (names g) parameter)) s
   bfs-accepted e = bfs-judged e .accepted
 
   pub cdlp-accepted : goodRounds parameter ≡ true
-      → (verdictCall most g 3 parameter s R C F S T .said ≡ accepted) ↔ GoodClaim identOf most (names g) (λ vs. vs ≡ cdlpOf g (natAbs parameter)) s
+      → (verdictCall most g 3 parameter s R C F S T .said ≡ accepted)
+      ↔ GoodClaim identOf most (names g) (λ vs. vs ≡ cdlpOf g (natAbs parameter)) s
   cdlp-accepted e = cdlp-judged e .accepted
 
   pub wcc-accepted : (verdictCall most g 2 parameter s R C F S T .said ≡ accepted)
       ↔ GoodClaim identOf most (names g) (EqualWhere (g .vertices) (Linked (g .vertices) (outward g))) s
   wcc-accepted = wcc-judged .accepted
 
-  pub lcc-accepted : (any : Decimal) → (verdictCall most g 4 parameter s R C F S T .said ≡ accepted) ↔ GoodClaim decimalOf most (names g) (Alike near (0, 1) any (coefficients g)) s
+  pub lcc-accepted : (any : Decimal) → (verdictCall most g 4 parameter s R C F S T .said ≡ accepted)
+      ↔ GoodClaim decimalOf most (names g) (Alike near (0, 1) any (coefficients g)) s
   lcc-accepted any = lcc-judged any .accepted
 
 -- ---- the claim that lists the kernel's own result is accepted
@@ -106,21 +118,25 @@ module _ (most : ℕ) (g : Graph) (sound : Sound g) (few : g .vertices ≤ most)
   bfs-own root e =
       let values = depthsFrom g (placeIn (names g) root) in
       says-judged (bfsReference most g (claimText (listed (names g) values)) root) e
-      ∙ exact-own most (names g) names-few fits values (names-length g sound ∙ sym (bfs-length g (placeIn (names g) root) e)) (bfs-fits g (sound .fewVertices) (placeIn (names g) root))
+      ∙ exact-own most (names g) names-few fits values (names-length g sound ∙ sym (bfs-length g (placeIn (names g) root) e))
+      (bfs-fits g (sound .fewVertices) (placeIn (names g) root))
 
   pub cdlp-own : (iterations : ℤ) → goodRounds iterations ≡ true
       → verdictSays (cdlpReference most g (claimText (listed (names g) (cdlpOf g (natAbs iterations)))) iterations) true true ≡ accepted
   cdlp-own iterations e =
       let values = cdlpOf g (natAbs iterations) in
       says-judged (cdlpReference most g (claimText (listed (names g) values)) iterations) e
-      ∙ exact-own most (names g) names-few fits values (names-length g sound ∙ sym (cdlp-length g sound (natAbs iterations))) (cdlp-fits g fits (natAbs iterations))
+      ∙ exact-own most (names g) names-few fits values (names-length g sound ∙ sym (cdlp-length g sound (natAbs iterations)))
+      (cdlp-fits g fits (natAbs iterations))
 
   -- under any renaming that keeps labels apart and in range, as that of no label (`wcc-fits`)
   pub wcc-own : (f : ℤ → ℤ) → ((x y : ℤ) → f x ≡ f y → x ≡ y) → AllFit (map f (wccOf g))
       → verdictSays (wccReference most g (claimText (listed (names g) (map f (wccOf g))))) true true ≡ accepted
   wcc-own f apart fit =
       says-judged (wccReference most g (claimText (listed (names g) (map f (wccOf g))))) refl
-      ∙ equivalence-own most (names g) names-few fits (map f (wccOf g)) (names-length g sound ∙ sym (wcc-length g sound) ∙ sym (map-length f (wccOf g))) fit f apart (wccOf g) (wcc-length g sound ∙ sym (names-length g sound)) refl
+      ∙ equivalence-own most (names g) names-few fits (map f (wccOf g))
+      (names-length g sound ∙ sym (wcc-length g sound) ∙ sym (map-length f (wccOf g))) fit f apart (wccOf g)
+      (wcc-length g sound ∙ sym (names-length g sound)) refl
 
   -- with any decimals, in any spelling, that are close to the coefficients
   pub lcc-own : (any : Decimal) (l : List (Line Decimal)) → AllSpelled decimalOf l → length l ≤ most → idsOf (linesOf l) ≡ names g
@@ -136,8 +152,14 @@ unfolding verdictCall callOn leftBy unknownCall
 areas-apart most g kernel parameter s R C R′ C′ F S T F′ S′ T′ e = by (eqb kernel 1) (eqb kernel 2) (eqb kernel 3) (eqb kernel 4)
   where
     by : (a b c d : Bool)
-        → (cond a (callOn (bfsReference most g s parameter) g R C F S T) (cond b (callOn (wccReference most g s) g R C F S T) (cond c (callOn (cdlpReference most g s parameter) g R C F S T) (cond d (callOn (lccReference most g s) g R C F S T) (unknownCall R C F S T))))) .said
-        ≡ (cond a (callOn (bfsReference most g s parameter) g R′ C′ F′ S′ T′) (cond b (callOn (wccReference most g s) g R′ C′ F′ S′ T′) (cond c (callOn (cdlpReference most g s parameter) g R′ C′ F′ S′ T′) (cond d (callOn (lccReference most g s) g R′ C′ F′ S′ T′) (unknownCall R′ C′ F′ S′ T′))))) .said
+        → (cond a (callOn (bfsReference most g s parameter) g R C F S T)
+        (cond b (callOn (wccReference most g s) g R C F S T)
+        (cond c (callOn (cdlpReference most g s parameter) g R C F S T)
+        (cond d (callOn (lccReference most g s) g R C F S T) (unknownCall R C F S T))))) .said
+        ≡ (cond a (callOn (bfsReference most g s parameter) g R′ C′ F′ S′ T′)
+        (cond b (callOn (wccReference most g s) g R′ C′ F′ S′ T′)
+        (cond c (callOn (cdlpReference most g s parameter) g R′ C′ F′ S′ T′)
+        (cond d (callOn (lccReference most g s) g R′ C′ F′ S′ T′) (unknownCall R′ C′ F′ S′ T′))))) .said
     by true b c d = ap (verdictSays (bfsReference most g s parameter) (soundGraph g)) e
     by false true c d = ap (verdictSays (wccReference most g s) (soundGraph g)) e
     by false false true d = ap (verdictSays (cdlpReference most g s parameter) (soundGraph g)) e

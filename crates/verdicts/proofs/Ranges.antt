@@ -45,7 +45,8 @@ least-fits p (suc n) k h = by (p k) (least-fits p n (suc k) (omega arith))
 
 pub bfs-fits : (g : Graph) → g .vertices ≤ 65536 → (place : Found) → AllFit (depthsFrom g place)
 unfolding depthOf
-bfs-fits g h (At root) = fit-column (depthOf (g .vertices) (outward g) root) (λ v. least-fits _ (g .vertices) 0 (omega arith)) 0 (g .vertices)
+bfs-fits g h (At root) =
+    fit-column (depthOf (g .vertices) (outward g) root) (λ v. least-fits _ (g .vertices) 0 (omega arith)) 0 (g .vertices)
 bfs-fits g h Missing = tt
 
 -- ---- CDLP: a label is one of those before it

@@ -59,20 +59,23 @@ module _ {A : Type 0} (z : A) (size : ℕ) (l : List A) where
   leaves-front (refuses r) n e h = refused-given e
 
   -- the claim's verdict or refusal, on top of it
-  kept-leaves : (a : Said (Unit {0})) (x : Said Verdict) → (a ≡ gives tt → length l ≤ size) → kept (thenSays a x) z (leaves a z size l) ≡ leaves (thenSays a x) z size l
+  kept-leaves : (a : Said (Unit {0})) (x : Said Verdict) → (a ≡ gives tt → length l ≤ size)
+      → kept (thenSays a x) z (leaves a z size l) ≡ leaves (thenSays a x) z size l
   kept-leaves (gives tt) (gives v) h = refl
   kept-leaves (gives tt) (refuses r) h = ap (λ (k : ℕ). replicate k z) (pad-length z size l (h refl))
   kept-leaves (refuses r) x h = ap (λ (k : ℕ). replicate k z) (length-replicate size z)
 
 -- ---- a kernel of n vertices, after its run on a result area of so many places
-pub record Ran {A : Type 0} (z : A) (given : Bool) (number : ℕ) (values : List A) (n count : ℕ) (sound own : Bool) (size : ℕ) (answer : Said (Unit {0})) (left : List A) : Type 0 where
+pub record Ran {A : Type 0} (z : A) (given : Bool) (number : ℕ) (values : List A) (n count : ℕ) (sound own : Bool) (size : ℕ)
+    (answer : Said (Unit {0})) (left : List A) : Type 0 where
   pub said : answer ≡ kernelSays sound given number own
   pub leaving : left ≡ leaves answer z size values
   pub whole : sound ≡ true → given ≡ true → length values ≡ n
   pub known : sound ≡ true → n ≤ count
   pub ownRoom : own ≡ true → n ≤ size
 
-module _ {A : Type 0} {z : A} {given : Bool} {number : ℕ} {values : List A} {n count : ℕ} {sound own : Bool} {size : ℕ} {answer : Said (Unit {0})} {left : List A}
+module _ {A : Type 0} {z : A} {given : Bool} {number : ℕ} {values : List A} {n count : ℕ} {sound own : Bool} {size : ℕ}
+    {answer : Said (Unit {0})} {left : List A}
     (h : Ran z given number values n count sound own size answer left) where
   pub ran-fine : answer ≡ gives tt → Fine sound given own
   ran-fine e = says-done sound given number own (sym (h .said) ∙ e)
@@ -97,7 +100,8 @@ module _ {A : Type 0} {z : A} {given : Bool} {number : ℕ} {values : List A} {n
 
   pub ran-kept : (x : Said Verdict) {y : Said Verdict} → thenSays answer x ≡ y → kept (thenSays answer x) z left ≡ leaves y z size values
   ran-kept x e =
-      ap (kept (thenSays answer x) z) (h .leaving) ∙ kept-leaves z size values answer x fits ∙ ap (λ (w : Said Verdict). leaves w z size values) e
+      ap (kept (thenSays answer x) z) (h .leaving) ∙ kept-leaves z size values answer x fits
+      ∙ ap (λ (w : Said Verdict). leaves w z size values) e
 
 -- ---- the verdict on numbers
 module _ (k : Reference) {n : ℕ} (ids : List ℤ) {sound own : Bool} (R : List ℤ) {answer : Said (Unit {0})} {R′ : List ℤ}
@@ -113,4 +117,6 @@ module _ (k : Reference) {n : ℕ} (ids : List ℤ) {sound own : Bool} (R : List
 
   pub numbers-verdict : (C : List ℤ) {x : Numbers} → x ≡ numbersOn answer room rule most n ids s R′ C → x ≡ numbersCall k sound room R C
   unfolding numbersOn numbersCall numbersSays
-  numbers-verdict C p = p ∙ both-numbers says-same (ran-kept h (check room noRoom (judgedBy (take n ids) (mismatchLine rule (take n R′)) (numberLines most s))) says-same) refl
+  numbers-verdict C p =
+      p ∙ both-numbers says-same
+      (ran-kept h (check room noRoom (judgedBy (take n ids) (mismatchLine rule (take n R′)) (numberLines most s))) says-same) refl

@@ -19,7 +19,8 @@ use Rattle.matching.specs.declared.numbers.Rule.{Rule}
 use Rattle.matching.specs.Claim.{numberLines, coefficientLines}
 use Rattle.matching.specs.Verdict.{Verdict, says, mismatchLine, judgedBy}
 use Rattle.matching.specs.Calls as calls
-use Rattle.verdicts.specs.Steps.{isRefused, kept, Known, Roomy, Numbers, numbers, numbersSays, numbersOn, Terms, terms, termsSays, termsOn}
+use Rattle.verdicts.specs.Steps.{isRefused, kept, Known, Roomy, Numbers, numbers}
+use Rattle.verdicts.specs.Steps.{numbersSays, numbersOn, Terms, terms, termsSays, termsOn}
 
 -- ---- an area after a verdict, and after a refusal, by the test t
 module _ {A : Type 0} (x : Said Verdict) (z : A) (l : List A) {t : Bool} (e : t ≡ isRefused x) where
@@ -55,7 +56,8 @@ module _ (answer : Answer) (room : Bool) (rule : Rule) (most n : ℕ) (ids : Lis
   numbers-refused r e q = rw e q
 
   module _ (e : answer ≡ A.Done) where
-    pub numbers-short : not room ≡ true → (r : Refusal) → r ≡ plain noRoom → {x : Numbers} → x ≡ numbers (refuses r) (clearedZ R) (clearedZ C)
+    pub numbers-short : not room ≡ true → (r : Refusal) → r ≡ plain noRoom → {x : Numbers}
+        → x ≡ numbers (refuses r) (clearedZ R) (clearedZ C)
         → x ≡ numbersOn (answers answer) room rule most n ids s R C
     unfolding numbersOn numbersSays
     numbers-short h r p q = rw (e, not-true room h) (q ∙ ap (λ (y : Refusal). numbers (refuses y) (clearedZ R) (clearedZ C)) p)
@@ -72,7 +74,8 @@ module _ (answer : Answer) (room : Bool) (rule : Rule) (most n : ℕ) (ids : Lis
           let f : says j ≡ judgedBy (take n ids) (mismatchLine rule (take n R)) (numberLines most s) =
           ap (λ (o : calls.Outcome). o .said) q
           ∙ rw (l, le-leb n (length R) (roomy .0 t), le-leb n (length C) (roomy .1 t)) in
-          rw (e, t) (both-numbers (ap says (p .0) ∙ f) (p .1 ∙ ap (λ (x : Said Verdict). kept x (pos 0) R) f) (ap (λ (o : calls.Outcome). o .claimed) q))
+          rw (e, t) (both-numbers (ap says (p .0) ∙ f) (p .1 ∙ ap (λ (x : Said Verdict). kept x (pos 0) R) f)
+          (ap (λ (o : calls.Outcome). o .claimed) q))
 
 -- ---- a claim of coefficients
 module _ (answer : Answer) (room : Bool) (most n : ℕ) (ids : List ℤ) (s F S : List ℕ) where

@@ -1,16 +1,22 @@
--- Rules of a walk, beside the library's. The library's words that the walks are written with (`Rules/Words.antt`) are passed on here: a walk imports both from one place.
---     proved             a function's theorem from its walk: from what is had at entry, at the parameters' machine values, to what the contract promises
---     Four, proved-four  the signature of the functions that answer a vertex's part, whatever their first parameter is; and `proved` of such a function
+-- Rules of a walk, beside the library's. The library's words that the walks are written with (`Rules/Words.antt`) are passed on here:
+-- a walk imports both from one place.
+--     proved             a function's theorem from its walk: from what is had at entry, at the parameters' machine values, to what the
+--                        contract promises
+--     Four, proved-four  the signature of the functions that answer a vertex's part, whatever their first parameter is; and `proved` of
+--                        such a function
 --     passed             what a call in the code of such a function passes, read off its statement
 --     answered           what a call leaves: the result, the tokens, and what the callee ensures
 --     six-made           how a body of six locals begins, four of them parameters
---     handed-on          how it ends: a callee takes the last local and the parameters after the first, and its answer is the function's own
--- A contract hands nothing back of a parameter, so a walk keeps nothing of one over a call: what the parameters own goes to the callee. Assumes nothing.
+--     handed-on          how it ends: a callee takes the last local and the parameters after the first, and its answer is the function's
+--                        own
+-- A contract hands nothing back of a parameter, so a walk keeps nothing of one over a call: what the parameters own goes to the callee.
+-- Assumes nothing.
 pub mod Words
 pub use Words.*
 
 -- ---- from a walk to the theorem. γ says what the calls in the code f mean, and k is the function's name there
-module _ {M : Type 1} (𝓤 : URA M) (H : Heap 𝓤) (𝓜 : Model 𝓤 H) (𝓖 : GhostRules 𝓤 H) (𝓡 : Running 𝓤 H 𝓜) (γ : Names) (k : Name) (f : Fn) where
+module _ {M : Type 1} (𝓤 : URA M) (H : Heap 𝓤) (𝓜 : Model 𝓤 H) (𝓖 : GhostRules 𝓤 H) (𝓡 : Running 𝓤 H 𝓜) (γ : Names) (k : Name)
+    (f : Fn) where
   abbrev A : Atoms 𝓤
   A = 𝓖 .A
 
@@ -29,13 +35,16 @@ module _ {M : Type 1} (𝓤 : URA M) (H : Heap 𝓤) (𝓜 : Model 𝓤 H) (𝓖
     abbrev Promised : (y : tripleOf 𝓤 H A S c .Ghost) → Vals S (y .0 .0) → SProp 𝓤
     Promised y vss = Run (flat (types (y .0 .0)) vss) (tripleOf 𝓤 H A S c .post ((y .0 .0, y .0 .1, y .0 .2, y .0 .3, vss), y .1))
 
-    -- κs and qs are the lifetimes and the tokens' shares, and a the arguments. The values are of their types, so each can be stored in its parameter's local
+    -- κs and qs are the lifetimes and the tokens' shares, and a the arguments.
+    -- The values are of their types, so each can be stored in its parameter's local
     abbrev Walk : Type 1
-    Walk = (κs : Lfts (S .lifetimes)) (qs : Shares (S .lifetimes)) (b : AllOutlive (S .lifetimes) (S .outlives) κs) (a : Args S κs) (g : c κs a .ghost)
+    Walk = (κs : Lfts (S .lifetimes)) (qs : Shares (S .lifetimes)) (b : AllOutlive (S .lifetimes) (S .outlives) κs) (a : Args S κs)
+        (g : c κs a .ghost)
         → Typed (mirs (types κs)) (flat (types κs) (vals κs a))
         → ent 𝓤 (onEntry 𝓤 H A S κs qs a (vals κs a)) (Promised ((κs, qs, b, a, vals κs a), g) (vals κs a))
 
-    pub proved : Closed 𝓤 H (tables 𝓤 H 𝓜 𝓡 γ .C) (tables 𝓤 H 𝓜 𝓡 γ .Λ) k f → ((κs : Lfts (S .lifetimes)) → Tellss (types κs) (Ises (types κs)) (sp κs))
+    pub proved : Closed 𝓤 H (tables 𝓤 H 𝓜 𝓡 γ .C) (tables 𝓤 H 𝓜 𝓡 γ .Λ) k f
+        → ((κs : Lfts (S .lifetimes)) → Tellss (types κs) (Ises (types κs)) (sp κs))
         → ((κs : Lfts (S .lifetimes)) → Lawfuls 𝓤 H A (types κs)) → Walk → Meets 𝓤 H A S (𝓡 .run (γ k)) c
     proved closed tells lawful walk =
         entered 𝓤 H (tripleOf 𝓤 H A S c) (tables 𝓤 H 𝓜 𝓡 γ .C) (tables 𝓤 H 𝓜 𝓡 γ .Λ) k f closed (λ y.
@@ -46,7 +55,12 @@ module _ {M : Type 1} (𝓤 : URA M) (H : Heap 𝓤) (𝓜 : Model 𝓤 H) (𝓖
 
 -- ---- the functions that answer a vertex's part: the first parameter stands at s
 abbrev pub Four : Slot 2 → Signature
-Four s = record { lifetimes = 2; outlives = []; params = s ∷ SliceRef 1 tt usize tt ∷ plain (λ _. usize) ∷ plain (λ _. usize) ∷ []; result = SliceRef 0 tt usize tt }
+Four s = record {
+  lifetimes = 2;
+  outlives = [];
+  params = s ∷ SliceRef 1 tt usize tt ∷ plain (λ _. usize) ∷ plain (λ _. usize) ∷ [];
+  result = SliceRef 0 tt usize tt;
+}
 
 -- the parameters after the first; the machine value of an area; and the four parameters' machine values, of which the first is u
 abbrev pub Others : Type 0
@@ -93,14 +107,24 @@ module _ {M : Type 1} (𝓤 : URA M) (H : Heap 𝓤) (𝓜 : Model 𝓤 H) (𝓖
   spelled κs = ((λ x. val κs x ∷ []), (slice-vals, (uint-vals w64, (uint-vals w64, tt))))
 
   -- it asks the laws of the first parameter's type alone
-  pub proved-four : Closed 𝓤 H (tables 𝓤 H 𝓜 𝓡 γ .C) (tables 𝓤 H 𝓜 𝓡 γ .Λ) k f → ((κs : Lfts 2) → Tells (s .row κs) (Is (s .row κs)) (λ x. val κs x ∷ []))
-      → ((κs : Lfts 2) → Lawful 𝓤 H (𝓖 .A) (s .row κs)) → Walk 𝓤 H 𝓜 𝓖 𝓡 γ k f (Four s) c spelled → Meets 𝓤 H (𝓖 .A) (Four s) (𝓡 .run (γ k)) c
+  pub proved-four : Closed 𝓤 H (tables 𝓤 H 𝓜 𝓡 γ .C) (tables 𝓤 H 𝓜 𝓡 γ .Λ) k f
+      → ((κs : Lfts 2) → Tells (s .row κs) (Is (s .row κs)) (λ x. val κs x ∷ []))
+      → ((κs : Lfts 2) → Lawful 𝓤 H (𝓖 .A) (s .row κs)) → Walk 𝓤 H 𝓜 𝓖 𝓡 γ k f (Four s) c spelled
+      → Meets 𝓤 H (𝓖 .A) (Four s) (𝓡 .run (γ k)) c
   proved-four closed tells lawful =
       let W : Given 𝓤 H (𝓖 .A) = givenOf 𝓤 H 𝓜 𝓖 in
-      proved 𝓤 H 𝓜 𝓖 𝓡 γ k f (Four s) c spelled closed (λ κs. (tells κs, (shr-slice-tells (named 1) (κs .1 .0) usize, (uint-tells w64, (uint-tells w64, tt)))))
-      (λ κs. (lawful κs, (shr-slice-lawful 𝓤 H (𝓖 .A) W (named 1) (κs .1 .0) usize, (uint-lawful 𝓤 H (𝓖 .A) W w64, (uint-lawful 𝓤 H (𝓖 .A) W w64, tt)))))
+      proved 𝓤 H 𝓜 𝓖 𝓡 γ k f (Four s) c spelled closed
+      (λ κs. (tells κs, (shr-slice-tells (named 1) (κs .1 .0) usize, (uint-tells w64, (uint-tells w64, tt)))))
+      (λ κs. (
+        lawful κs,
+        (
+          shr-slice-lawful 𝓤 H (𝓖 .A) W (named 1) (κs .1 .0) usize,
+          (uint-lawful 𝓤 H (𝓖 .A) W w64, (uint-lawful 𝓤 H (𝓖 .A) W w64, tt)),
+        ),
+      ))
 
--- ---- the steps of a walk. A local that holds v and one that holds nothing, each before what follows; where six locals are; and the MIR type of the answer
+-- ---- the steps of a walk. A local that holds v and one that holds nothing, each before what follows; where six locals are;
+-- and the MIR type of the answer
 abbrev cell : {M : Type 1} {𝓤 : URA M} → Ty → ℕ → Val → List (Item 𝓤) → List (Item 𝓤)
 cell τ b v Γ = ‵ (fat fullShare τ b zero v) ∷ ‵ (fdies τ b) ∷ Γ
 
@@ -117,30 +141,40 @@ module _ {M : Type 1} {𝓤 : URA M} {H : Heap 𝓤} {A : Atoms 𝓤} {K : Type 
   -- the callee has returned the machine value u
   pub answered : {Γ : List (Item 𝓤)} {G : Goal 𝓤 H} → K → Soaks G → (S : Signature) (c : Spec 𝓤 S) (y : tripleOf 𝓤 H A S c .Ghost) (u : Val)
       → ((r : Res S (y .0 .0)) → Is (typeAt (S .result) (y .0 .0)) r (u ∷ [])
-      → Seq K W (‵ (typeAt (S .result) (y .0 .0) .own r (u ∷ [])) ∷ raw (alive 𝓤 H A S (y .0 .0) (y .0 .1)) ∷ raw (c (y .0 .0) (y .0 .3) .ensures (y .1) r) ∷ Γ) G)
+      → Seq K W (‵ (typeAt (S .result) (y .0 .0) .own r (u ∷ [])) ∷ raw (alive 𝓤 H A S (y .0 .0) (y .0 .1))
+      ∷ raw (c (y .0 .0) (y .0 .3) .ensures (y .1) r) ∷ Γ) G)
       → Seq K W (raw (tripleOf 𝓤 H A S c .post y u) ∷ Γ) G
   answered t z S c y u go =
       let R : RattleType = typeAt (S .result) (y .0 .0) in
-      let Left : R .Denot → Item 𝓤 = λ r. (raw (alive 𝓤 H A S (y .0 .0) (y .0 .1)) ⊛ ‵ (R .own r (u ∷ []))) ⊛ raw (c (y .0 .0) (y .0 .3) .ensures (y .1) r) in
-      use1 W (later (some Left)) (id⊢ 𝓤 _) $ await t z $ pick t (λ r. split t $ split t $ move t (1 ∷ []) $ peeks t R (Is R) (shows 𝓤 H A R) r (u ∷ []) (go r))
+      let Left : R .Denot → Item 𝓤 = λ r. (raw (alive 𝓤 H A S (y .0 .0) (y .0 .1)) ⊛ ‵ (R .own r (u ∷ []))) ⊛ raw
+      (c (y .0 .0) (y .0 .3) .ensures (y .1) r) in
+      use1 W (later (some Left)) (id⊢ 𝓤 _) $ await t z $ pick t
+      (λ r. split t $ split t $ move t (1 ∷ []) $ peeks t R (Is R) (shows 𝓤 H A R) r (u ∷ []) (go r))
 
   -- the locals' rooms are made, and the parameters' values stored: the last local stands first
   pub six-made : {Γ : List (Item 𝓤)} {G : Env 𝓤 H → Goal 𝓤 H} {τ₀ τ₁ τ₂ τ₃ τ₄ τ₅ : Ty} {h₀ h₁ h₂ h₃ h₄ h₅ : Home} {v₁ v₂ v₃ v₄ : Val}
       → K → Typed (τ₁ ∷ τ₂ ∷ τ₃ ∷ τ₄ ∷ []) (v₁ ∷ v₂ ∷ v₃ ∷ v₄ ∷ [])
       → ((b₀ b₁ b₂ b₃ b₄ b₅ : ℕ)
-      → Seq K W (hole τ₅ b₅ (cell τ₄ b₄ v₄ (cell τ₃ b₃ v₃ (cell τ₂ b₂ v₂ (cell τ₁ b₁ v₁ (hole τ₀ b₀ Γ)))))) (G (six τ₀ τ₁ τ₂ τ₃ τ₄ τ₅ b₀ b₁ b₂ b₃ b₄ b₅)))
-      → Seq K W Γ (allocs (local τ₀ h₀ ∷ local τ₁ h₁ ∷ local τ₂ h₂ ∷ local τ₃ h₃ ∷ local τ₄ h₄ ∷ local τ₅ h₅ ∷ []) (λ E. params′ E (v₁ ∷ v₂ ∷ v₃ ∷ v₄ ∷ []) (G E)))
+      → Seq K W (hole τ₅ b₅ (cell τ₄ b₄ v₄ (cell τ₃ b₃ v₃ (cell τ₂ b₂ v₂ (cell τ₁ b₁ v₁ (hole τ₀ b₀ Γ))))))
+      (G (six τ₀ τ₁ τ₂ τ₃ τ₄ τ₅ b₀ b₁ b₂ b₃ b₄ b₅)))
+      → Seq K W Γ (allocs (local τ₀ h₀ ∷ local τ₁ h₁ ∷ local τ₂ h₂ ∷ local τ₃ h₃ ∷ local τ₄ h₄ ∷ local τ₅ h₅ ∷ [])
+      (λ E. params′ E (v₁ ∷ v₂ ∷ v₃ ∷ v₄ ∷ []) (G E)))
   six-made t w go =
-      alloc1 t (λ b₀. alloc1 t (λ b₁. alloc1 t (λ b₂. alloc1 t (λ b₃. alloc1 t (λ b₄. alloc1 t (λ b₅. alloc0 t $ params1 t $ pass1 t (init t 8 refl (w .0)) $
-      pass1 t (init t 6 refl (w .1 .0)) $ pass1 t (init t 4 refl (w .1 .1 .0)) $ pass1 t (init t 2 refl (w .1 .1 .1 .0)) $ pass0 t $ go b₀ b₁ b₂ b₃ b₄ b₅))))))
+      alloc1 t (λ b₀.
+      alloc1 t (λ b₁.
+      alloc1 t (λ b₂. alloc1 t (λ b₃. alloc1 t (λ b₄. alloc1 t (λ b₅. alloc0 t $ params1 t $ pass1 t (init t 8 refl (w .0)) $
+      pass1 t (init t 6 refl (w .1 .0)) $ pass1 t (init t 4 refl (w .1 .1 .0)) $ pass1 t (init t 2 refl (w .1 .1 .1 .0)) $ pass0 t $ go b₀
+      b₁ b₂ b₃ b₄ b₅))))))
 
   -- what the callee promises is what is asked (Q), and what its contract requires is had for nothing
   pub handed-on : {C : Calls 𝓤 H} {Λ : Loops 𝓤 H} {h : Name} {τ₁ τ₂ τ₃ τ₄ τ₅ : Ty} {b₀ b₁ b₂ b₃ b₄ b₅ : ℕ} {v₁ : Val} {Q : Val → SProp 𝓤}
       → K → FmC 𝓤 H (W .laws) C → (s : Slot 2) (c : Spec 𝓤 (Four s)) → Triple 𝓤 (C h) (tripleOf 𝓤 H A (Four s) c)
-      → (κs : Lfts 2) (qs : Shares 2) (x : s .row κs .Denot) (u : Val) (p : Others) (g : c κs (x, p) .ghost) → ent 𝓤 (emp 𝓤) (c κs (x, p) .requires g)
+      → (κs : Lfts 2) (qs : Shares 2) (x : s .row κs .Denot) (u : Val) (p : Others) (g : c κs (x, p) .ghost)
+      → ent 𝓤 (emp 𝓤) (c κs (x, p) .requires g)
       → tripleOf 𝓤 H A (Four s) c .post ((κs, qs, tt, (x, p), at u p), g) ≡ Q
       → Seq K W (tokens 𝓤 κs qs ∷ ‵ (owns (typesAt (Four s .params) κs) (x, p) (at u p))
-      ∷ cell τ₅ b₅ u (cell τ₄ b₄ (vint w64 (p .1 .1 .0)) (cell τ₃ b₃ (vint w64 (p .1 .0)) (cell τ₂ b₂ (word (p .0)) (cell τ₁ b₁ v₁ (hole τᵣ b₀ []))))))
+      ∷ cell τ₅ b₅ u (cell τ₄ b₄ (vint w64 (p .1 .1 .0))
+      (cell τ₃ b₃ (vint w64 (p .1 .0)) (cell τ₂ b₂ (word (p .0)) (cell τ₁ b₁ v₁ (hole τᵣ b₀ []))))))
       (runs C Λ (six τᵣ τ₁ τ₂ τ₃ τ₄ τ₅ b₀ b₁ b₂ b₃ b₄ b₅)
       (seq (call h (copy (place 5 []) ∷ copy (place 2 []) ∷ copy (place 3 []) ∷ copy (place 4 []) ∷ []) (place 0 [])) return)
       (atRet (six τᵣ τ₁ τ₂ τ₃ τ₄ τ₅ b₀ b₁ b₂ b₃ b₄ b₅) Q))
@@ -150,13 +184,17 @@ module _ {M : Type 1} {𝓤 : URA M} {H : Heap 𝓤} {A : Atoms 𝓤} {K : Type 
       let Entry : SProp 𝓤 = onEntry 𝓤 H A (Four s) κs qs (x, p) (at u p) in
       join t $ use1 W (raw (Callee .pre y)) (via 𝓤 _ (pop 𝓤 H A (raw Entry) []) (monoR 𝓤 Entry asks)) $
       -- [what is asked; _5; …; _4; …; _3; …; _2; …; _1; …; room for _0; …]
-      calls-at t fm Callee known y (and-then t (load t (from t (stop t)) (look t 1 refl)) (and-then t (load t (from t (stop t)) (look t 7 refl))
+      calls-at t fm Callee known y (and-then t (load t (from t (stop t)) (look t 1 refl))
+      (and-then t (load t (from t (stop t)) (look t 7 refl))
       (and-then t (load t (from t (stop t)) (look t 5 refl)) (and-then t (load t (from t (stop t)) (look t 3 refl)) (no-more t))))) (λ w.
       answered t tt (Four s) c y w (λ r is.
       -- [the result; the tokens; what is ensured; _5; …; _4; …; _3; …; _2; …; _1; …; room for _0; …]
-      land t (from t (stop t)) (init t 13 refl (shr-slice-lawful 𝓤 H A W (named 0) (κs .0) usize .typed r (w ∷ []) is .0)) $ returns t (look t 13 refl) $
+      land t (from t (stop t)) (init t 13 refl (shr-slice-lawful 𝓤 H A W (named 0) (κs .0) usize .typed r (w ∷ []) is .0)) $ returns t
+      (look t 13 refl) $
       forget t 3 refl $ forget t 5 refl $ forget t 7 refl $ forget t 9 refl $ forget t 11 refl $ forget t 13 refl $
       move t (13 ∷ 14 ∷ []) $ free1 t $ move t (11 ∷ 12 ∷ []) $ free1 t $ move t (9 ∷ 10 ∷ []) $ free1 t $
-      move t (7 ∷ 8 ∷ []) $ free1 t $ move t (5 ∷ 6 ∷ []) $ free1 t $ move t (3 ∷ 4 ∷ []) $ free1 t $ free0 t $ move t (1 ∷ 0 ∷ []) $ join t $
+      move t (7 ∷ 8 ∷ []) $ free1 t $ move t (5 ∷ 6 ∷ []) $ free1 t $ move t (3 ∷ 4 ∷ []) $ free1 t $ free0 t $ move t (1 ∷ 0 ∷ []) $ join t
+      $
       suffices t (Callee .post y w) (subst (λ (P : Val → SProp 𝓤). ent 𝓤 (Callee .post y w) (P w)) same (id⊢ 𝓤 _)) $
-      by t (via 𝓤 _ (exI 𝓤 (λ (z : RefT (List ℕ)). sep 𝓤 (Back 𝓤 H A (Four s) (y .0) w z) (c κs (x, p) .ensures g z)) r) (W .laws .⇛-intro _))))
+      by t (via 𝓤 _ (exI 𝓤 (λ (z : RefT (List ℕ)). sep 𝓤 (Back 𝓤 H A (Four s) (y .0) w z) (c κs (x, p) .ensures g z)) r)
+      (W .laws .⇛-intro _))))

@@ -26,15 +26,18 @@ use Rattle.wcc.specs.Promise.{roomFor, Outcome, outcome, leftBy, wccCall
 use Rattle.wcc.specs.Steps.{Exact}
 
 -- ---- room for n places in the shortest area
-pub room-all : (n : ℕ) (R : List ℤ) (P S : List ℕ) {a b : ℕ} → a ≡ min (length R) (length P) → b ≡ min a (length S) → leb n b ≡ roomFor n R P S
+pub room-all : (n : ℕ) (R : List ℤ) (P S : List ℕ) {a b : ℕ} → a ≡ min (length R) (length P) → b ≡ min a (length S)
+    → leb n b ≡ roomFor n R P S
 unfolding roomFor
 room-all n R P S p q = rw (q, p, leb-min n (min (length R) (length P)) (length S), leb-min n (length R) (length P)) refl
 
 -- equal parts, equal outcomes
-outcomes : {s t : Said (Unit {0})} {R R′ : List ℤ} {P P′ S S′ : List ℕ} → s ≡ t → R ≡ R′ → P ≡ P′ → S ≡ S′ → outcome s R P S ≡ outcome t R′ P′ S′
+outcomes : {s t : Said (Unit {0})} {R R′ : List ℤ} {P P′ S S′ : List ℕ} → s ≡ t → R ≡ R′ → P ≡ P′ → S ≡ S′
+    → outcome s R P S ≡ outcome t R′ P′ S′
 outcomes d p q r = cc
 
-pub refuse-all : (s : Said (Unit {0})) (k : ℕ) (R R₁ : List ℤ) (P S P₁ S₁ : List ℕ) → s ≡ refuses (plain k) → R₁ ≡ clearedZ R → P₁ ≡ cleared P → S₁ ≡ cleared S
+pub refuse-all : (s : Said (Unit {0})) (k : ℕ) (R R₁ : List ℤ) (P S P₁ S₁ : List ℕ) → s ≡ refuses (plain k) → R₁ ≡ clearedZ R
+    → P₁ ≡ cleared P → S₁ ≡ cleared S
     → outcome s R₁ P₁ S₁ ≡ leftBy (refuses (plain k)) [] R P S
 unfolding leftBy
 refuse-all s k R R₁ P S P₁ S₁ d p q r = outcomes d p q r
@@ -73,7 +76,8 @@ module _ (size : Size) (ids : List ℤ) (oo ot io is : List ℕ) (s : soundGraph
   taken-ids = sym (names-length g (sound-of g s))
 
   module _ (R R₁ : List ℤ) (P S : List ℕ) (h : roomFor (size .vertices) R P S ≡ true) where
-    pub exact-of : length R₁ ≡ length R → Exact (size .vertices) (partOf (size .vertices) oo ot) (take (size .vertices) ids) (take (size .vertices) R₁) (take (size .vertices) P) (take (size .vertices) S)
+    pub exact-of : length R₁ ≡ length R → Exact (size .vertices) (partOf (size .vertices) oo ot) (take (size .vertices) ids)
+        (take (size .vertices) R₁) (take (size .vertices) P) (take (size .vertices) S)
     exact-of e =
         record {
           few = sound-of g s .fewVertices;
@@ -93,7 +97,8 @@ module _ (size : Size) (ids : List ℤ) (oo ot io is : List ℕ) (s : soundGraph
   fill-all R R₁ X P S P₂ S₂ P₃ S₃ e q p t c d =
       outcomes refl
       (ap₂ (λ x y. x ++ drop (size .vertices) y) q e
-      ∙ pad-lent (pos 0) (size .vertices) (length R) (wccOf g) (column-length (labelOf (size .vertices) (outward g) (names g)) 0 (size .vertices)))
+      ∙ pad-lent (pos 0) (size .vertices) (length R) (wccOf g)
+      (column-length (labelOf (size .vertices) (outward g) (names g)) 0 (size .vertices)))
       (c ∙ ap (λ (k : ℕ). replicate k 0) (length-front P P₂ (size .vertices) p))
       (d ∙ ap (λ (k : ℕ). replicate k 0) (length-front S S₂ (size .vertices) t))
 
@@ -122,8 +127,10 @@ module _ (size : Size) (ids : List ℤ) (oo ot io is : List ℕ) (R : List ℤ) 
   module _ (h : not s ≡ false) (r : Bool) (i : r ≡ roomFor (size .vertices) R P₁ S) where
     pub call-short : not r ≡ true → o ≡ leftBy (refuses (plain 8)) [] R P₁ S → o ≡ wccCall graph R P S
     unfolding wccCall leftBy
-    call-short l q = ends-short left o (soundGraph graph) true 0 (roomFor (size .vertices) R P₁ S) s (check-told e) h true refl refl r i l q ∙ over
+    call-short l q =
+        ends-short left o (soundGraph graph) true 0 (roomFor (size .vertices) R P₁ S) s (check-told e) h true refl refl r i l q ∙ over
 
     pub call-done : not r ≡ false → o ≡ leftBy (gives tt) (wccOf graph) R P₁ S → o ≡ wccCall graph R P S
     unfolding wccCall leftBy
-    call-done l q = ends-done left o (soundGraph graph) true 0 (roomFor (size .vertices) R P₁ S) s (check-told e) h true refl refl r i l q ∙ over
+    call-done l q =
+        ends-done left o (soundGraph graph) true 0 (roomFor (size .vertices) R P₁ S) s (check-told e) h true refl refl r i l q ∙ over

@@ -36,7 +36,8 @@ module _ (out : ℕ → List ℕ) where
   beside-back u v t = ⊎-elim (λ s. ⊎-elim (λ e. beside-same v u (sym e)) (beside-in v u) s) (beside-out v u) (beside-cases u v t)
 
   -- a chain goes through k or it doesn't
-  chain-cases : (k u v : ℕ) → chain out (suc k) u v ≡ true → (chain out k u v ≡ true) ⊎ ((chain out k u k ≡ true) × (chain out k k v ≡ true))
+  chain-cases : (k u v : ℕ) → chain out (suc k) u v ≡ true
+      → (chain out k u v ≡ true) ⊎ ((chain out k u k ≡ true) × (chain out k k v ≡ true))
   unfolding chain
   chain-cases k u v t =
       ⊎-elim inl (λ a. inr (and-first (chain out k u k) (chain out k k v) a, and-second (chain out k u k) (chain out k k v) a))
@@ -57,7 +58,8 @@ module _ (out : ℕ → List ℕ) where
   chain-back : (k u v : ℕ) → chain out k u v ≡ true → chain out k v u ≡ true
   chain-back zero u v t = unfold chain in beside-back u v (unfold chain in t)
   chain-back (suc k) u v t =
-      ⊎-elim (λ a. chain-more k v u (chain-back k u v a)) (λ a. chain-via k v u (chain-back k k v (a .1)) (chain-back k u k (a .0))) (chain-cases k u v t)
+      ⊎-elim (λ a. chain-more k v u (chain-back k u v a)) (λ a. chain-via k v u (chain-back k k v (a .1)) (chain-back k u k (a .0)))
+      (chain-cases k u v t)
 
   to-last : (k u : ℕ) → chain out (suc k) u k ≡ true → chain out k u k ≡ true
   to-last k u t = ⊎-elim (λ a. a) (λ a. a .0) (chain-cases k u k t)
@@ -70,10 +72,12 @@ module _ (out : ℕ → List ℕ) where
   chain-on zero u w v l p q = absurd (not-suc-le-zero l)
   chain-on (suc k) u w v l p q =
       ⊎-elim
-      (λ e. chain-via k u v (to-last k u (subst (λ (x : ℕ). chain out (suc k) u x ≡ true) e p)) (from-last k v (subst (λ (x : ℕ). chain out (suc k) x v ≡ true) e q)))
+      (λ e. chain-via k u v (to-last k u (subst (λ (x : ℕ). chain out (suc k) u x ≡ true) e p))
+      (from-last k v (subst (λ (x : ℕ). chain out (suc k) x v ≡ true) e q)))
       (λ h.
       ⊎-elim
-      (λ a. ⊎-elim (λ b. chain-more k u v (chain-on k u w v h a b)) (λ b. chain-via k u v (chain-on k u w k h a (b .0)) (b .1)) (chain-cases k w v q))
+      (λ a. ⊎-elim (λ b. chain-more k u v (chain-on k u w v h a b)) (λ b. chain-via k u v (chain-on k u w k h a (b .0)) (b .1))
+      (chain-cases k w v q))
       (λ a. ⊎-elim (λ b. chain-via k u v (a .0) (chain-on k k w v h (a .1) b)) (λ b. chain-via k u v (a .0) (b .1)) (chain-cases k w v q))
       (chain-cases k u w p))
       (eq-or-lt-of-le (le-of-suc-le-suc l))
@@ -82,7 +86,8 @@ module _ (out : ℕ → List ℕ) where
     -- a chain of the definition links
     pub chain-linked : (k u v : ℕ) → k ≤ n → u < n → v < n → chain out k u v ≡ true → Linked n out u v
     chain-linked zero u v h l r t =
-        ⊎-elim (λ s. ⊎-elim (λ e. subst (Linked n out u) e (itself u)) (along l) s) (λ a. back (along r a)) (beside-cases u v (unfold chain in t))
+        ⊎-elim (λ s. ⊎-elim (λ e. subst (Linked n out u) e (itself u)) (along l) s) (λ a. back (along r a))
+        (beside-cases u v (unfold chain in t))
     chain-linked (suc k) u v h l r t =
         ⊎-elim
         (λ a. chain-linked k u v (omega arith) l r a)
@@ -102,4 +107,5 @@ module _ (out : ℕ → List ℕ) where
       linked-chain (itself v) h = chain-base n v v (beside-same v v refl)
       linked-chain (along {u = u} {w = w} l a) h = chain-base n u w (beside-out u w a)
       linked-chain (back {u = u} {v = v} p) h = chain-back n u v (linked-chain p (linked-below p .1 h))
-      linked-chain (on {u = u} {v = v} {w = w} p q) h = chain-on n u v w (linked-below p .0 h) (linked-chain p h) (linked-chain q (linked-below p .0 h))
+      linked-chain (on {u = u} {v = v} {w = w} p q) h =
+          chain-on n u v w (linked-below p .0 h) (linked-chain p h) (linked-chain q (linked-below p .0 h))

@@ -20,7 +20,8 @@ p5 = refl
 -- through the call, in areas with places to spare
 pub p5-call : wccCall sheetGraph (pos 7 ∷ pos 7 ∷ pos 7 ∷ pos 7 ∷ pos 7 ∷ pos 7 ∷ []) (9 ∷ 9 ∷ 9 ∷ 9 ∷ 9 ∷ []) (9 ∷ 9 ∷ 9 ∷ 9 ∷ 9 ∷ 9 ∷ [])
     ≡ outcome (gives tt) (negsuc 2 ∷ pos 2 ∷ pos 2 ∷ pos 2 ∷ pos 2 ∷ pos 0 ∷ []) (0 ∷ 0 ∷ 0 ∷ 0 ∷ 0 ∷ []) (0 ∷ 0 ∷ 0 ∷ 0 ∷ 0 ∷ 0 ∷ [])
-unfolding wccCall leftBy kernelSays roomFor soundSides soundGraph soundIds soundSide soundOffsets mirrored every each mem partOf between column labelOf first firstFrom chain beside
+unfolding wccCall leftBy kernelSays roomFor soundSides soundGraph soundIds soundSide soundOffsets mirrored every each mem partOf between
+    column labelOf first firstFrom chain beside
 p5-call = refl
 
 -- one place too few in the last area
@@ -30,7 +31,8 @@ unfolding wccCall leftBy kernelSays roomFor soundSides soundGraph soundIds sound
 too-short = refl
 
 -- an unsound graph, with an arc too few stated, comes before an area too short
-pub unsound-first : wccCall (lent (record { vertices = 5; arcs = 4 }) (sheetGraph .ids) (sheetGraph .outOffsets) (sheetGraph .outTargets) (sheetGraph .inOffsets) (sheetGraph .inSources)) (pos 7 ∷ []) [] (9 ∷ [])
+pub unsound-first : wccCall (lent (record { vertices = 5; arcs = 4 }) (sheetGraph .ids) (sheetGraph .outOffsets) (sheetGraph .outTargets)
+    (sheetGraph .inOffsets) (sheetGraph .inSources)) (pos 7 ∷ []) [] (9 ∷ [])
     ≡ outcome (refuses (plain 9)) (pos 0 ∷ []) [] (0 ∷ [])
 unfolding wccCall leftBy kernelSays soundSides soundGraph soundIds soundSide soundOffsets mirrored every each mem partOf between
 unsound-first = refl

@@ -1,4 +1,5 @@
--- The book after the joins along every arc: its heads are heads of the components. Of the book it uses the facade `Held` alone. Assumes nothing.
+-- The book after the joins along every arc: its heads are heads of the components. Of the book it uses the facade `Held` alone.
+-- Assumes nothing.
 use Prim.Native.Nat.{ℕ, zero, suc, _≤_, _<_}
 use mathlib.Core.Path.{_≡_, sym, ap, ap₂, _∙_, subst}
 use mathlib.Core.Logic.{_⊎_, inl, inr, ⊎-elim}
@@ -31,12 +32,16 @@ held-arcs : (n : ℕ) (out : ℕ → List ℕ) → ((u : ℕ) → u < n → allB
 unfolding joinArcs slipsOf
 held-arcs n out inside a H zero l = H
 held-arcs n out inside a H (suc k) l =
-    held-each twoBook faithful-two n (joinArcs out k a) (slipsOf out k) (held-arcs n out inside a H k (omega arith)) k (out k) (omega arith) (inside k (omega arith))
+    held-each twoBook faithful-two n (joinArcs out k a) (slipsOf out k) (held-arcs n out inside a H k (omega arith)) k (out k) (omega arith)
+    (inside k (omega arith))
 
--- and in a book just opened the joins along the arcs of each vertex are all accepted: the answer that the code does not look at is no refusal
-pub arcs-accepted : (n : ℕ) (out : ℕ → List ℕ) → ((u : ℕ) → u < n → allBelow n (out u) ≡ true) → (a : Areas) → Held twoBook n a [] → (u : ℕ) → u < n
+-- and in a book just opened the joins along the arcs of each vertex are all accepted:
+-- the answer that the code does not look at is no refusal
+pub arcs-accepted : (n : ℕ) (out : ℕ → List ℕ) → ((u : ℕ) → u < n → allBelow n (out u) ≡ true) → (a : Areas) → Held twoBook n a [] → (u : ℕ)
+    → u < n
     → (m : ℕ) × (joinEach twoBook (joinArcs out u a) u (out u) .said ≡ all m)
-arcs-accepted n out inside a H u l = held-all twoBook faithful-two n (joinArcs out u a) (slipsOf out u) (held-arcs n out inside a H u (omega arith)) u (out u) l (inside u l)
+arcs-accepted n out inside a H u l =
+    held-all twoBook faithful-two n (joinArcs out u a) (slipsOf out u) (held-arcs n out inside a H u (omega arith)) u (out u) l (inside u l)
 
 -- ---- they are the arcs
 part-old : (u : ℕ) (ws : List ℕ) (js : List Slip) (s : Slip) → List·Memᴰ s js → List·Memᴰ s (putEach u ws js)
@@ -48,16 +53,22 @@ part-new : (u : ℕ) (ws : List ℕ) (js : List Slip) (w : ℕ) → mem w ws ≡
 unfolding putEach
 part-new u [] js w t = absurd (mem-none-of w t)
 part-new u (x ∷ ws) js w t =
-    ⊎-elim (λ e. part-old u ws (slip u x ∷ js) (slip u w) (List·Memᴰ·head (ap (slip u) e))) (part-new u ws (slip u x ∷ js) w) (mem-cases w x ws t)
+    ⊎-elim (λ e. part-old u ws (slip u x ∷ js) (slip u w) (List·Memᴰ·head (ap (slip u) e))) (part-new u ws (slip u x ∷ js) w)
+    (mem-cases w x ws t)
 
-part-mem : (u : ℕ) (ws : List ℕ) (js : List Slip) (x y : ℕ) → List·Memᴰ (slip x y) (putEach u ws js) → List·Memᴰ (slip x y) js ⊎ ((x ≡ u) × (mem y ws ≡ true))
+part-mem : (u : ℕ) (ws : List ℕ) (js : List Slip) (x y : ℕ) → List·Memᴰ (slip x y) (putEach u ws js)
+    → List·Memᴰ (slip x y) js ⊎ ((x ≡ u) × (mem y ws ≡ true))
 unfolding putEach
 part-mem u [] js x y m = inl m
 part-mem u (w ∷ ws) js x y m =
     ⊎-elim
     (λ a.
     ⊎-elim
-    (λ e. inr (ap (λ (s : Slip). s .left) e, subst (λ (z : ℕ). mem z (w ∷ ws) ≡ true) (ap (λ (s : Slip). s .right) (sym e)) (mem-head w ws)))
+    (λ e. inr (
+      ap (λ (s : Slip). s .left) e,
+      subst (λ (z : ℕ). mem z (w ∷ ws) ≡ true) (ap (λ (s : Slip). s .right) (sym e))
+          (mem-head w ws),
+    ))
     inl (List·Memᴰ·cases-cons a))
     (λ a. inr (a .0, mem-tail y w ws (a .1)))
     (part-mem u ws (slip u w ∷ js) x y m)
@@ -68,7 +79,8 @@ module _ (out : ℕ → List ℕ) where
   slips-new zero u w l a = absurd (not-suc-le-zero l)
   slips-new (suc k) u w l a =
       ⊎-elim
-      (λ e. subst (λ (x : ℕ). List·Memᴰ (slip x w) (putEach k (out k) (slipsOf out k))) (sym e) (part-new k (out k) (slipsOf out k) w (subst (λ (x : ℕ). mem w (out x) ≡ true) e a)))
+      (λ e. subst (λ (x : ℕ). List·Memᴰ (slip x w) (putEach k (out k) (slipsOf out k))) (sym e)
+      (part-new k (out k) (slipsOf out k) w (subst (λ (x : ℕ). mem w (out x) ≡ true) e a)))
       (λ h. part-old k (out k) (slipsOf out k) (slip u w) (slips-new k u w h a))
       (eq-or-lt-of-le (le-of-suc-le-suc l))
 
@@ -95,13 +107,15 @@ module _ (out : ℕ → List ℕ) where
   linked-joins n (on p q) = series.Linked.on (linked-joins n p) (linked-joins n q)
 
 -- ---- the heads of the book that the kernel makes of areas ps, ss: opened, then joined along the arcs
-module _ (n : ℕ) (out : ℕ → List ℕ) (ids R : List ℤ) (ps ss : List ℕ) (x : Exact n out ids R ps ss) (d : Said (Unit {0})) (ps₁ ss₁ ps₂ ss₂ : List ℕ)
+module _ (n : ℕ) (out : ℕ → List ℕ) (ids R : List ℤ) (ps ss : List ℕ) (x : Exact n out ids R ps ss) (d : Said (Unit {0}))
+    (ps₁ ss₁ ps₂ ss₂ : List ℕ)
     (opened : done d (areas ps₁ ss₁) ≡ openBook twoBook (areas ps ss)) (joined : areas ps₂ ss₂ ≡ joinArcs out n (areas ps₁ ss₁)) where
   kept : Held twoBook n (areas ps₂ ss₂) (slipsOf out n)
   kept =
       subst (λ (a : Areas). Held twoBook n a (slipsOf out n))
       (sym (joined ∙ ap (λ (d : Done (Unit {0}) Areas). joinArcs out n (d .area)) opened))
-      (held-arcs n out (x .inside) (openBook twoBook (areas ps ss) .area) (two-open ps ss n (x .few) (x .parentsRoom) (x .sizesRoom)) n (omega arith))
+      (held-arcs n out (x .inside) (openBook twoBook (areas ps ss) .area) (two-open ps ss n (x .few) (x .parentsRoom) (x .sizesRoom)) n
+      (omega arith))
 
   head-is : (v : ℕ) → v < n → headHere ps₂ ss₂ v ≡ headAt (two ps₂ ss₂) v
   unfolding headHere
@@ -128,7 +142,8 @@ module _ (n : ℕ) (out : ℕ → List ℕ) (ids R : List ℤ) (ps ss : List ℕ
     pub take-within : Within (length R₁) (headHere ps₂ ss₂)
     take-within = rw e mark-within
 
-    pub labelled : (R₂ : List ℤ) → R₁ ≡ marked (headHere ps₂ ss₂) ids (length R) R → R₂ ≡ takenOver (headHere ps₂ ss₂) (length R₁) R₁ → R₂ ≡ labels n out ids
+    pub labelled : (R₂ : List ℤ) → R₁ ≡ marked (headHere ps₂ ss₂) ids (length R) R → R₂ ≡ takenOver (headHere ps₂ ss₂) (length R₁) R₁
+        → R₂ ≡ labels n out ids
     labelled R₂ p q =
         let l : length R₁ ≡ n = e ∙ x .resultRoom in
         q ∙ ap₂ (takenOver (headHere ps₂ ss₂)) l (p ∙ ap (λ (k : ℕ). marked (headHere ps₂ ss₂) ids k R) (x .resultRoom))

@@ -67,7 +67,8 @@ module _ (g : Graph) (s : Sound g) where
   )
 
   -- and no member's is smaller
-  pub labels-least : (u v : ℕ) → u < g .vertices → v < g .vertices → LinkedIn g u v → ltZ (getD (names g) u (pos 0)) (getD (wccOf g) v (pos 0)) ≡ false
+  pub labels-least : (u v : ℕ) → u < g .vertices → v < g .vertices → LinkedIn g u v
+      → ltZ (getD (names g) u (pos 0)) (getD (wccOf g) v (pos 0)) ≡ false
   labels-least u v k l p =
       let f : ℕ = first (g .vertices) (outward g) v in
       ap (ltZ (getD (names g) u (pos 0))) (label-at v l)

@@ -75,7 +75,8 @@ module _ (g : ℕ → ℕ) where
   take-at zero R v l b e = absurd (not-suc-le-zero b)
   take-at (suc k) R v l b e =
       ⊎-elim
-      (λ q. ap (λ (x : ℕ). getD (takenOver g (suc k) R) x (pos 0)) q ∙ take-same k R l ∙ ap (λ (x : ℕ). getD (takenOver g k R) (g x) (pos 0)) (sym q) ∙ take-head k R (g v) (omega arith) e)
+      (λ q. ap (λ (x : ℕ). getD (takenOver g (suc k) R) x (pos 0)) q ∙ take-same k R l
+      ∙ ap (λ (x : ℕ). getD (takenOver g k R) (g x) (pos 0)) (sym q) ∙ take-head k R (g v) (omega arith) e)
       (λ a. take-other k R v (λ q. omega arith) ∙ take-at k R v (omega arith) a e)
       (eq-or-lt-of-le (le-of-suc-le-suc b))
 
@@ -87,7 +88,8 @@ pub record Heads (n : ℕ) (out : ℕ → List ℕ) (g : ℕ → ℕ) : Type 0 w
   pub settled : (v : ℕ) → v < n → g (g v) ≡ g v
   pub same : (u v : ℕ) → u < n → v < n → (g u ≡ g v) ↔ Linked n out u v
 
-module _ (n : ℕ) (out : ℕ → List ℕ) (inside : (u : ℕ) → u < n → allBelow n (out u) ≡ true) (g : ℕ → ℕ) (H : Heads n out g) (ids R : List ℤ) (e : length R ≡ n) where
+module _ (n : ℕ) (out : ℕ → List ℕ) (inside : (u : ℕ) → u < n → allBelow n (out u) ≡ true) (g : ℕ → ℕ) (H : Heads n out g) (ids R : List ℤ)
+    (e : length R ≡ n) where
   label-at : (v : ℕ) → v < n → getD (takenOver g n (marked g ids n R)) v (pos 0) ≡ labelOf n out ids v
   unfolding labelOf
   label-at v l =
@@ -99,4 +101,5 @@ module _ (n : ℕ) (out : ℕ → List ℕ) (inside : (u : ℕ) → u < n → al
 
   pub labels-are : takenOver g n (marked g ids n R) ≡ labels n out ids
   labels-are =
-      sym (column-is (labelOf n out ids) (pos 0) (takenOver g n (marked g ids n R)) n (length-taken g n (marked g ids n R) ∙ length-marked g ids n R ∙ e) label-at)
+      sym (column-is (labelOf n out ids) (pos 0) (takenOver g n (marked g ids n R)) n
+      (length-taken g n (marked g ids n R) ∙ length-marked g ids n R ∙ e) label-at)

@@ -30,9 +30,11 @@ module _ (out : ℕ → List ℕ) (a : Areas) where
   unfolding joinArcs
   arcs-none = refl
 
-  pub arcs-more : (b c : Areas) (u : ℕ) (ws : List ℕ) (e : Each) → b ≡ joinArcs out u a → ws ≡ out u → eachDone e c ≡ joinEach twoBook b u ws → c ≡ joinArcs out (u + 1) a
+  pub arcs-more : (b c : Areas) (u : ℕ) (ws : List ℕ) (e : Each) → b ≡ joinArcs out u a → ws ≡ out u
+      → eachDone e c ≡ joinEach twoBook b u ws → c ≡ joinArcs out (u + 1) a
   unfolding joinArcs
-  arcs-more b c u ws s e q f = rw add-one (ap (λ (d : EachDone Areas). d .area) f ∙ ap₂ (λ (x : Areas) (l : List ℕ). joinEach twoBook x u l .area) e q)
+  arcs-more b c u ws s e q f =
+      rw add-one (ap (λ (d : EachDone Areas). d .area) f ∙ ap₂ (λ (x : Areas) (l : List ℕ). joinEach twoBook x u l .area) e q)
 
   pub arcs-end : (b : Areas) (u n : ℕ) → u ≤ n → n ≤ u → b ≡ joinArcs out u a → b ≡ joinArcs out n a
   arcs-end b u n l k e = let q : u ≡ n = omega arith in e ∙ ap (λ (x : ℕ). joinArcs out x a) q
@@ -47,7 +49,8 @@ module _ (g : ℕ → ℕ) where
   mark-none ids R n = let q : n - 0 ≡ n = omega arith in ap (λ (k : ℕ). marked g ids k R) q
 
   -- what is left to mark after i turns is the first n - i vertices
-  pub mark-more : (ids R T : List ℤ) (n i h : ℕ) (z : ℤ) → i < n → h ≡ g (n - 1 - i) → z ≡ getD ids (n - 1 - i) (pos 0) → marked g ids (n - i) R ≡ T
+  pub mark-more : (ids R T : List ℤ) (n i h : ℕ) (z : ℤ) → i < n → h ≡ g (n - 1 - i) → z ≡ getD ids (n - 1 - i) (pos 0)
+      → marked g ids (n - i) R ≡ T
       → marked g ids (n - (i + 1)) (set R h z) ≡ T
   unfolding marked
   mark-more ids R T n i h z l q f e =
@@ -63,10 +66,12 @@ module _ (g : ℕ → ℕ) where
   unfolding takenOver
   take-none R = refl
 
-  pub take-more : (R S : List ℤ) (v h : ℕ) (z : ℤ) → h ≡ g v → z ≡ getD S h (pos 0) → S ≡ takenOver g v R → set S v z ≡ takenOver g (v + 1) R
+  pub take-more : (R S : List ℤ) (v h : ℕ) (z : ℤ) → h ≡ g v → z ≡ getD S h (pos 0) → S ≡ takenOver g v R
+      → set S v z ≡ takenOver g (v + 1) R
   unfolding takenOver
   take-more R S v h z q f e =
       rw add-one (ap (set S v) f ∙ ap (λ (x : ℕ). set S v (getD S x (pos 0))) q ∙ ap (λ (X : List ℤ). set X v (getD X (g v) (pos 0))) e)
 
-  pub take-end : (R S : List ℤ) (v : ℕ) → v ≤ length R → length S ≡ length R → length S ≤ v → S ≡ takenOver g v R → S ≡ takenOver g (length R) R
+  pub take-end : (R S : List ℤ) (v : ℕ) → v ≤ length R → length S ≡ length R → length S ≤ v → S ≡ takenOver g v R
+      → S ≡ takenOver g (length R) R
   take-end R S v l k h e = let q : v ≡ length R = omega arith in e ∙ ap (λ (x : ℕ). takenOver g x R) q

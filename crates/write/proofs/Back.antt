@@ -52,7 +52,8 @@ minus-of (b ∷ bs) n h s =
 
 pub ident-back : (z : ℤ) → SFits w64 z → identOf (signedText z) ≡ value z
 unfolding signedText
-ident-back (pos n) f = ident-of (decimal n) n (decimal-spells n) ∙ ap (signedOf false) (count-back n) ∙ rw (le-leb n (2 ^ 63 - 1) (omega (arith, f .sfits)))
+ident-back (pos n) f =
+    ident-of (decimal n) n (decimal-spells n) ∙ ap (signedOf false) (count-back n) ∙ rw (le-leb n (2 ^ 63 - 1) (omega (arith, f .sfits)))
 ident-back (negsuc n) f =
     minus-of (decimal (suc n)) (suc n) (omega arith) (decimal-spells (suc n))
     ∙ ap (signedOf true) (count-back (suc n))
@@ -60,7 +61,8 @@ ident-back (negsuc n) f =
 
 -- ---- and so both do in the area, between the place where the writer began and the one that it answered
 module _ (o : List ℕ) (at : ℕ) {o′ : List ℕ} {p : ℕ} where
-  pub number-back : (n : ℕ) → written o′ p ≡ putAt o at (decimal n) → at + length (decimal n) ≤ length o → countOf (take (p - at) (drop at o′)) ≡ value n
+  pub number-back : (n : ℕ) → written o′ p ≡ putAt o at (decimal n) → at + length (decimal n) ≤ length o
+      → countOf (take (p - at) (drop at o′)) ≡ value n
   number-back n w room = rw (wrote-text o at (decimal n) w room) (count-back n)
 
   pub signed-back : (z : ℤ) → SFits w64 z → written o′ p ≡ putAt o at (signedText z) → at + length (signedText z) ≤ length o
@@ -73,7 +75,8 @@ module _ {A : Type 0} (word : List ℕ → Word A) (x : A) (bs : List ℕ) (said
   line-back s r at e = cut-line word s at bs r x e none said
 
   -- so it is where both were written, and its place is the one that the writer answered
-  pub line-wrote : (o : List ℕ) (at : ℕ) {o′ : List ℕ} {p : ℕ} → written o′ p ≡ putAt o at (bs ++ (lf ∷ [])) → at + length (bs ++ (lf ∷ [])) ≤ length o
+  pub line-wrote : (o : List ℕ) (at : ℕ) {o′ : List ℕ} {p : ℕ} → written o′ p ≡ putAt o at (bs ++ (lf ∷ []))
+      → at + length (bs ++ (lf ∷ [])) ≤ length o
       → lineBy word o′ at ≡ line x p
   line-wrote o at {o′} {p} w room =
       let e : drop at o′ ≡ bs ++ lf ∷ drop (at + length (bs ++ (lf ∷ []))) o =
@@ -81,7 +84,8 @@ module _ {A : Type 0} (word : List ℕ → Word A) (x : A) (bs : List ℕ) (said
       let q : at + length bs + 1 ≡ p = omega (arith, wrote-next o at (bs ++ (lf ∷ [])) w room, length-append bs (lf ∷ [])) in
       line-back o′ (drop (at + length (bs ++ (lf ∷ []))) o) at e ∙ ap (line x) q
 
-pub vertex-back : (z : ℤ) → SFits w64 z → (o : List ℕ) (at : ℕ) {o′ : List ℕ} {p : ℕ} → written o′ p ≡ putAt o at (signedText z ++ (lf ∷ []))
+pub vertex-back : (z : ℤ) → SFits w64 z → (o : List ℕ) (at : ℕ) {o′ : List ℕ} {p : ℕ}
+    → written o′ p ≡ putAt o at (signedText z ++ (lf ∷ []))
     → at + length (signedText z ++ (lf ∷ [])) ≤ length o → vertexLine o′ at ≡ line z p
 unfolding within
 vertex-back z f = line-wrote identOf z (signedText z) (ident-back z f) (signed-without z lf refl)

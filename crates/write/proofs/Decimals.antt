@@ -52,7 +52,8 @@ decimal-all P small more n = upTo n n (omega arith)
         (λ e. rw (decimal-small n (ltb-true n 10 e)) (small n (ltb-true n 10 e)))
         (λ e. let g : 10 ≤ n = ltb-false n 10 e in
         let q : n / 10 * 10 + n % 10 ≡ n = omega arith in
-        rw (decimal-more n g) (rw q at (more (n / 10) (n % 10) (decimal (n / 10)) (omega arith) (omega arith) (upTo k (n / 10) (omega arith)))))
+        rw (decimal-more n g)
+        (rw q at (more (n / 10) (n % 10) (decimal (n / 10)) (omega arith) (omega arith) (upTo k (n / 10) (omega arith)))))
 
 -- ---- the writer of a count
 module _ (n d : ℕ) (o : List ℕ) (at : ℕ) {o′ : List ℕ} {p : ℕ} where

@@ -84,11 +84,13 @@ put-room area at (byte ∷ text) h =
     let g : at < length area = omega arith in
     let e : at + 1 + length text ≡ at + suc (length text) = omega arith in
     let f : take (at + 1) (set area at byte) ≡ take at area ++ (byte ∷ []) = rw add-one (take-suc-set area at byte g) in
-    let d : drop (at + suc (length text)) (set area at byte) ≡ drop (at + suc (length text)) area = drop-set-lt (at + suc (length text)) area at byte (omega arith) in
+    let d : drop (at + suc (length text)) (set area at byte)
+    ≡ drop (at + suc (length text)) area = drop-set-lt (at + suc (length text)) area at byte (omega arith) in
     put-step area at byte text g ∙ put-room (set area at byte) (at + 1) text (omega arith) ∙ rw (e, f, d, append-snoc)
 
 -- so it is read where it was written
-module _ (o : List ℕ) (at : ℕ) (text : List ℕ) {o′ : List ℕ} {p : ℕ} (w : written o′ p ≡ putAt o at text) (room : at + length text ≤ length o) where
+module _ (o : List ℕ) (at : ℕ) (text : List ℕ) {o′ : List ℕ} {p : ℕ} (w : written o′ p ≡ putAt o at text)
+    (room : at + length text ≤ length o) where
   pub wrote-next : p ≡ at + length text
   wrote-next = ap (λ v. v .next) (w ∙ put-room o at text room)
 
@@ -107,7 +109,8 @@ module _ (o : List ℕ) (at : ℕ) (text : List ℕ) {o′ : List ℕ} {p : ℕ}
       rw (e, wrote-after) (take-append-seam text (drop (at + length text) o))
 
 -- a whole text from the front of the area on
-pub wrote-whole : (o text : List ℕ) {o′ : List ℕ} {p : ℕ} → written o′ p ≡ putAt o 0 text → length text ≤ length o → (p ≡ length text) × (take p o′ ≡ text)
+pub wrote-whole : (o text : List ℕ) {o′ : List ℕ} {p : ℕ} → written o′ p ≡ putAt o 0 text → length text ≤ length o
+    → (p ≡ length text) × (take p o′ ≡ text)
 wrote-whole o text {o′} {p} w h =
     let e : p ≡ length text = omega (arith, wrote-next o 0 text w (omega arith)) in
     let q : p - 0 ≡ p = omega arith in
@@ -121,13 +124,15 @@ putting-more o p a rest all step = ap (λ w. andThen w rest) step ∙ sym (put-a
 pub putting-end : {w : Written} (o : List ℕ) (p : ℕ) (rest : List ℕ) → putAt o p rest ≡ w → rest ≡ [] → written o p ≡ w
 putting-end o p rest all e = sym (ap (putAt o p) e ∙ put-none o p) ∙ all
 
-pub putting-length : (o₀ : List ℕ) (at : ℕ) (text : List ℕ) (o : List ℕ) (p : ℕ) (rest : List ℕ) → putAt o p rest ≡ putAt o₀ at text → length o ≡ length o₀
+pub putting-length : (o₀ : List ℕ) (at : ℕ) (text : List ℕ) (o : List ℕ) (p : ℕ) (rest : List ℕ) → putAt o p rest ≡ putAt o₀ at text
+    → length o ≡ length o₀
 putting-length o₀ at text o p rest all = sym (put-length o p rest) ∙ ap (λ w. length (w .area)) all ∙ put-length o₀ at text
 
 -- a loop over the bytes of a text
 pub bytes-more : {w : Written} (text : List ℕ) (i : ℕ) (o : List ℕ) (p : ℕ) {o′ : List ℕ} {p′ : ℕ} → i < length text
     → putAt o p (drop i text) ≡ w → written o′ p′ ≡ putAt o p (getD text i 0 ∷ []) → putAt o′ p′ (drop (i + 1) text) ≡ w
-bytes-more text i o p h all step = putting-more o p (getD text i 0 ∷ []) (drop (i + 1) text) (rw (drop-cons text i 0 h, ← add-one i) at all) step
+bytes-more text i o p h all step =
+    putting-more o p (getD text i 0 ∷ []) (drop (i + 1) text) (rw (drop-cons text i 0 h, ← add-one i) at all) step
 
 pub bytes-end : {w : Written} (text : List ℕ) (i : ℕ) (o : List ℕ) (p : ℕ) → length text ≤ i → putAt o p (drop i text) ≡ w → written o p ≡ w
 bytes-end text i o p h all = putting-end o p (drop i text) all (drop-of-length-le text h)

@@ -28,7 +28,8 @@ unfolding each
 val-snoc n [] b h g = val-digit n b [] g
 val-snoc n (c ∷ l) b h g =
     let d : isDigit c ≡ true = and-first (isDigit c) (each isDigit l) h in
-    val-digit n c (l ++ (b ∷ [])) d ∙ val-snoc (stepped n c) l b (and-second (isDigit c) (each isDigit l) h) g ∙ ap (λ m. stepped m b) (sym (val-digit n c l d))
+    val-digit n c (l ++ (b ∷ [])) d ∙ val-snoc (stepped n c) l b (and-second (isDigit c) (each isDigit l) h) g
+    ∙ ap (λ m. stepped m b) (sym (val-digit n c l d))
 
 -- ---- the text of n: digits, the first of them 1 to 9 unless n is 0, that make n
 pub record Spells (n : ℕ) (l : List ℕ) : Type 0 where
@@ -41,7 +42,12 @@ spells-small : (n : ℕ) → n < 10 → Spells n ((48 + n) ∷ [])
 unfolding each
 spells-small n h =
     let e : isDigit (48 + n) ≡ true = digit-yes n h in
-    record { some = omega arith; all = and-both e refl; lead = λ g. omega arith; val = val-digit 0 (48 + n) [] e ∙ (let z : 0 * 10 + (48 + n - 48) ≡ n = omega arith in z) }
+    record {
+      some = omega arith;
+      all = and-both e refl;
+      lead = λ g. omega arith;
+      val = val-digit 0 (48 + n) [] e ∙ (let z : 0 * 10 + (48 + n - 48) ≡ n = omega arith in z);
+    }
 
 lead-snoc : (l : List ℕ) (x : ℕ) → 1 ≤ length l → getD (l ++ (x ∷ [])) 0 0 ≡ getD l 0 0
 lead-snoc [] x h = absurd (omega arith)
@@ -55,7 +61,8 @@ spells-more n d l h k s =
       some = omega (arith, length-append l ((48 + d) ∷ []));
       all = each-append isDigit l ((48 + d) ∷ []) ∙ and-both (s .all) (and-both e refl);
       lead = λ g. rw (lead-snoc l (48 + d) (s .some)) (s .lead h);
-      val = val-snoc 0 l (48 + d) (s .all) e ∙ ap (λ m. stepped m (48 + d)) (s .val) ∙ (let z : n * 10 + (48 + d - 48) ≡ n * 10 + d = omega arith in z);
+      val = val-snoc 0 l (48 + d) (s .all) e ∙ ap (λ m. stepped m (48 + d)) (s .val)
+          ∙ (let z : n * 10 + (48 + d - 48) ≡ n * 10 + d = omega arith in z);
     }
 
 pub decimal-spells : (n : ℕ) → Spells n (decimal n)
@@ -72,7 +79,8 @@ digits-or-sign : (l : List ℕ) → each isDigit l ≡ true → each isDigitOrSi
 unfolding each
 digits-or-sign [] h = refl
 digits-or-sign (b ∷ l) h =
-    and-both (or-first (isDigit b) (eqb b 45) (and-first (isDigit b) (each isDigit l) h)) (digits-or-sign l (and-second (isDigit b) (each isDigit l) h))
+    and-both (or-first (isDigit b) (eqb b 45) (and-first (isDigit b) (each isDigit l) h))
+    (digits-or-sign l (and-second (isDigit b) (each isDigit l) h))
 
 pub signed-digits : (z : ℤ) → each isDigitOrSign (signedText z) ≡ true
 unfolding signedText each within

@@ -15,7 +15,9 @@ use Rattle.bfs.proofs.bfs.Statement.{statement}
 use Rattle.bfs.proofs.bfs.Tie as tie
 
 abbrev graphOf : tie.Start → Graph
-graphOf s = lent (s .args .size) (now (s .args .ids)) (now (s .args .out-offsets)) (now (s .args .out-targets)) (now (s .args .in-offsets)) (now (s .args .in-sources))
+graphOf s =
+    lent (s .args .size) (now (s .args .ids)) (now (s .args .out-offsets)) (now (s .args .out-targets)) (now (s .args .in-offsets))
+    (now (s .args .in-sources))
 
 abbrev startOf : tie.Else1 → tie.Start
 startOf c = c .before .before .before .before .before .before .before .before .before .before
@@ -23,8 +25,11 @@ startOf c = c .before .before .before .before .before .before .before .before .b
 soundAt : (c : tie.Else1) → soundGraph (graphOf (startOf c)) ≡ true
 soundAt c = held _ _ (check-told (c .before .before .before .sound-over .ensures)) (c .if1 .left)
 
-foundAt : (c : tie.After-find) → c .find .result ≡ bisected (names (graphOf (startOf (c .before .before)))) (startOf (c .before .before) .args .root)
-foundAt c = searched-is (c .find .ensures) ∙ ap (bisected (names (graphOf (startOf (c .before .before))))) (toZ-ofZ (startOf (c .before .before) .fits .root))
+foundAt : (c : tie.After-find) → c .find .result ≡ bisected (names (graphOf (startOf (c .before .before))))
+    (startOf (c .before .before) .args .root)
+foundAt c =
+    searched-is (c .find .ensures) ∙ ap (bisected (names (graphOf (startOf (c .before .before)))))
+    (toZ-ofZ (startOf (c .before .before) .fits .root))
 
 sound-over-requires : tie.Need-sound-over-requires
 sound-over-requires c κs = search needs
@@ -40,7 +45,11 @@ same-length-2 c = search needs
 
 returns : tie.Need-returns
 returns c =
-    call-unsound (graphOf (c .before .before .before .before .before .before .before .before .before .before .before .before .before .before .before .before)) _ _ _ _ (c .before .before .before .refuse .ensures) (failed _ _ (check-told (c .before .before .before .before .before .before .before .before .before .sound-over .ensures)) (c .before .before .before .before .before .before .if1 .taken))
+    call-unsound
+    (graphOf (c .before .before .before .before .before .before .before .before .before .before .before .before .before .before .before
+    .before)) _ _ _ _ (c .before .before .before .refuse .ensures)
+    (failed _ _ (check-told (c .before .before .before .before .before .before .before .before .before .sound-over .ensures))
+    (c .before .before .before .before .before .before .if1 .taken))
     ∙ call-over _ _ _ _ _ (c .before .before .before .before .before .before .before .before .before .sound-over .ensures)
 
 slice-aggregate-find : tie.Need-slice-aggregate-find
@@ -71,8 +80,12 @@ same-length-4 c = search needs
 
 returns-2 : tie.Need-returns-2
 returns-2 c =
-    call-found _ _ _ _ _ _ (c .before .before .before .from-root .ensures) (soundAt (c .before .before .before .before .before .before .before .before .before .before .before)) _ (foundAt (c .before .before .before .before .before .before .before .before .before)) (c .before .before .before .before .before .before .before .v .given .1)
-    ∙ call-over _ _ _ _ _ (c .before .before .before .before .before .before .before .before .before .before .before .before .before .before .sound-over .ensures)
+    call-found _ _ _ _ _ _ (c .before .before .before .from-root .ensures)
+    (soundAt (c .before .before .before .before .before .before .before .before .before .before .before)) _
+    (foundAt (c .before .before .before .before .before .before .before .before .before))
+    (c .before .before .before .before .before .before .before .v .given .1)
+    ∙ call-over _ _ _ _ _ (c .before .before .before .before .before .before .before .before .before .before .before .before .before .before
+    .sound-over .ensures)
 
 same-length-5 : tie.Need-same-length-5
 same-length-5 c = search needs
@@ -82,8 +95,12 @@ same-length-6 c = search needs
 
 returns-3 : tie.Need-returns-3
 returns-3 c =
-    call-missing _ _ _ _ _ (c .before .before .before .refuse2 .ensures) (soundAt (c .before .before .before .before .before .before .before .before .before .before)) _ (foundAt (c .before .before .before .before .before .before .before .before)) (c .before .before .before .before .before .before .enum-told .given .1)
-    ∙ call-over _ _ _ _ _ (c .before .before .before .before .before .before .before .before .before .before .before .before .before .sound-over .ensures)
+    call-missing _ _ _ _ _ (c .before .before .before .refuse2 .ensures)
+    (soundAt (c .before .before .before .before .before .before .before .before .before .before)) _
+    (foundAt (c .before .before .before .before .before .before .before .before))
+    (c .before .before .before .before .before .before .enum-told .given .1)
+    ∙ call-over _ _ _ _ _ (c .before .before .before .before .before .before .before .before .before .before .before .before .before
+    .sound-over .ensures)
 
 pub bfs-spec : {M : Type 1} → statement M
 bfs-spec =

@@ -75,7 +75,8 @@ returns-2 : tie.Need-returns-2
 returns-2 c =
     let f = c .before .before .before .before .before .before .before .before .before .before in
     let k = f .before .before .before in
-    root-done _ _ _ _ _ _ _ (f .search .last .1 .1 .1 .1 .0) _ _ (omega arith) (omega arith) (f .search .ensures) (f .search .kept .1 .1 .1 .1 .0)
+    root-done _ _ _ _ _ _ _ (f .search .last .1 .1 .1 .1 .0) _ _ (omega arith) (omega arith) (f .search .ensures)
+    (f .search .kept .1 .1 .1 .1 .0)
     (c .before .before .before .before .before .clear-signed .ensures) (c .before .before .clear .ensures)
 
 pub from-root-spec : {M : Type 1} → statement M

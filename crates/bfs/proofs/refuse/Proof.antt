@@ -19,7 +19,9 @@ same-length-2 : tie.Need-same-length-2
 same-length-2 c = search needs
 
 returns : tie.Need-returns
-returns c = outcomes (c .refused .ensures) (c .before .before .before .before .before .before .clear-signed .ensures) (c .before .before .before .clear .ensures)
+returns c =
+    outcomes (c .refused .ensures) (c .before .before .before .before .before .before .clear-signed .ensures)
+    (c .before .before .before .clear .ensures)
 
 pub refuse-spec : {M : Type 1} → statement M
 refuse-spec =

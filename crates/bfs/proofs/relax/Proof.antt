@@ -14,12 +14,15 @@ use Rattle.bfs.proofs.relax.Statement.{statement}
 use Rattle.bfs.proofs.relax.Tie as tie
 
 -- the code's test is the definition's
-told : (c : tie.After-same) → c .same .result ≡ isFar (getD (now (c .before .before .before .args .depth)) (c .before .before .before .args .w) (pos 0))
+told : (c : tie.After-same) → c .same .result ≡ isFar
+    (getD (now (c .before .before .before .args .depth)) (c .before .before .before .args .w) (pos 0))
 told c =
     let a = c .before .before .before .args in
-    c .same .ensures ∙ ap isFar (toZ-ofZ {w = w64} {z = getD (now (a .depth)) (a .w) (pos 0)} (record { sfits = c .before .same-arg .given }))
+    c .same .ensures
+    ∙ ap isFar (toZ-ofZ {w = w64} {z = getD (now (a .depth)) (a .w) (pos 0)} (record { sfits = c .before .same-arg .given }))
 
-room : (c : tie.After-signed) → c .before .before .before .before .before .args .tail < length (now (c .before .before .before .before .before .args .queue))
+room : (c : tie.After-signed) → c .before .before .before .before .before .args .tail
+    < length (now (c .before .before .before .before .before .args .queue))
 room c =
     let s = c .before .before .before .before .before in
     room-more (board (now (s .args .depth)) (now (s .args .queue)) (s .args .tail)) (s .args .w) (s .pre .0) (s .pre .1 .0)
@@ -61,7 +64,8 @@ same-length-2 c = search needs
 returns : tie.Need-returns
 returns c =
     let a = c .before .before .before .before .before .args in
-    ap (λ (z : ℤ). board (set (now (a .depth)) (a .w) z) (set (now (a .queue)) (a .tail) (a .w)) (a .tail + 1)) (ap (λ (z : ℤ). toZ w64 (ofZ w64 z)) (c .signed .ensures) ∙ toZ-pos w64 (omega arith))
+    ap (λ (z : ℤ). board (set (now (a .depth)) (a .w) z) (set (now (a .queue)) (a .tail) (a .w)) (a .tail + 1))
+    (ap (λ (z : ℤ). toZ w64 (ofZ w64 z)) (c .signed .ensures) ∙ toZ-pos w64 (omega arith))
     ∙ sym (relaxed-new _ _ _ (sym (told (c .before .before)) ∙ c .before .if1 .taken))
 
 returns-2 : tie.Need-returns-2

@@ -7,7 +7,8 @@ use native.Mathlib.Omega.{arith}
 use Rattle.graph.specs.Part.{partOf}
 use Rattle.bfs.specs.Depth.{infinity}
 use Rattle.bfs.specs.Steps.{board}
-use Rattle.bfs.proofs.Queue.{Base, Serving, serving-ready, serving-begin, serving-level, serving-room, serving-tail, serving-deeper, serving-part, serving-more, serving-end}
+use Rattle.bfs.proofs.Queue.{Base, Serving, serving-ready, serving-begin, serving-level, serving-room}
+use Rattle.bfs.proofs.Queue.{serving-tail, serving-deeper, serving-part, serving-more, serving-end}
 use Rattle.bfs.proofs.search.Statement.{statement}
 use Rattle.bfs.proofs.search.Tie as tie
 
@@ -61,26 +62,37 @@ add-walk c = omega (arith, deeper (c .before .before .before .before))
 walk-requires : tie.Need-walk-requires Inv-loop μ-loop
 walk-requires c κs =
     let a = c .before .before .before .before in
-    let l = a .before .before in
-    (l .loop .inv .ready, (rw (c .before .before .neighbours .ensures) (serving-part _ _ _ (l .loop .inv) (a .before .loop-test .taken) (a .advance .ensures)), deeper a))
+    let l = a .before .before in (
+      l .loop .inv .ready,
+      (
+        rw (c .before .before .neighbours .ensures)
+            (serving-part _ _ _ (l .loop .inv) (a .before .loop-test .taken) (a .advance .ensures)),
+        deeper a,
+      ),
+    )
 
 add-head : tie.Need-add-head Inv-loop μ-loop
-add-head c = omega (arith, serving-tail _ _ _ (c .before .before .before .before .before .before .before .before .before .before .loop .inv))
+add-head c =
+    omega (arith, serving-tail _ _ _ (c .before .before .before .before .before .before .before .before .before .before .loop .inv))
 
 loop-less : tie.Need-loop-less Inv-loop μ-loop
-loop-less c = omega (arith, serving-tail _ _ _ (c .before .before .before .before .before .before .before .before .before .before .loop .inv))
+loop-less c =
+    omega (arith, serving-tail _ _ _ (c .before .before .before .before .before .before .before .before .before .before .loop .inv))
 
 loop-again : tie.Need-loop-again Inv-loop μ-loop
 loop-again c =
     let w = c .before .before .before in
     let a = w .before .before .before .before .before in
-    serving-more _ _ _ (a .before .before .loop .inv) (a .before .loop-test .taken) (a .advance .ensures) (w .before .before .before .neighbours .ensures) (w .walk .ensures)
+    serving-more _ _ _ (a .before .before .loop .inv) (a .before .loop-test .taken) (a .advance .ensures)
+    (w .before .before .before .neighbours .ensures) (w .walk .ensures)
 
 same-length : tie.Need-same-length Inv-loop μ-loop
 same-length c = c .before .loop .inv .len
 
 same-length-2 : tie.Need-same-length-2 Inv-loop μ-loop
-same-length-2 c = serving-room _ _ _ (c .before .loop .inv) ∙ sym (c .before .before .before .before .before .before .before .before .before .before .before .before .before .before .pre .1 .1)
+same-length-2 c =
+    serving-room _ _ _ (c .before .loop .inv) ∙ sym
+    (c .before .before .before .before .before .before .before .before .before .before .before .before .before .before .pre .1 .1)
 
 returns : tie.Need-returns Inv-loop μ-loop
 returns c = serving-end _ _ _ (c .before .loop .inv) (c .loop-test .left)

@@ -38,8 +38,11 @@ loop-less c = search needs
 
 loop-again : tie.Need-loop-again Inv-loop μ-loop
 loop-again c =
-    let l = c .before .before .before .before .before .before .before .before in
-    (omega arith, walking-more _ _ _ _ _ (l .loop .inv .1) _ (l .before .before .before .pre .1 .0) (l .before .before .before .pre .1 .1) (omega arith) (c .before .before .before .relax .ensures))
+    let l = c .before .before .before .before .before .before .before .before in (
+      omega arith,
+      walking-more _ _ _ _ _ (l .loop .inv .1) _ (l .before .before .before .pre .1 .0) (l .before .before .before .pre .1 .1)
+          (omega arith) (c .before .before .before .relax .ensures),
+    )
 
 same-length : tie.Need-same-length Inv-loop μ-loop
 same-length c = c .before .loop .inv .1 .depthLen

@@ -10,7 +10,9 @@ use Rattle.book.proofs.walk.Statement.{statement}
 use Rattle.book.proofs.walk.Tie as tie
 
 abbrev Inv-loop : tie.InvT-loop
-Inv-loop parents v at₀ moves₀ at moves = (at < length parents) × (moves ≤ 16) × (walkFrom (nextIn parents) (length parents) v ≡ walk (nextIn parents) (length parents) (16 - moves) moves at)
+Inv-loop parents v at₀ moves₀ at moves =
+    (at < length parents) × (moves ≤ 16) × (walkFrom (nextIn parents) (length parents) v
+    ≡ walk (nextIn parents) (length parents) (16 - moves) moves at)
 
 abbrev μ-loop : tie.MeasureT-loop
 μ-loop parents v at₀ moves₀ at moves = 16 - moves

@@ -70,10 +70,17 @@ returns-3 : tie.Need-returns-3
 returns-3 c = search (call-short, toZ-ofZ)
 
 cast-fill : tie.Need-cast-fill
-cast-fill c = rounds-cast _ _ (c .before .before .before .before .before .before .before .allowed .ensures) (c .before .before .before .before .before .before .if2 .left)
+cast-fill c =
+    rounds-cast _ _ (c .before .before .before .before .before .before .before .allowed .ensures)
+    (c .before .before .before .before .before .before .if2 .left)
 
 fill-requires : tie.Need-fill-requires
-fill-requires c κs = (held _ _ (check-told (c .before .before .before .before .before .before .before .before .before .before .before .before .before .before .before .sound-over .ensures)) (c .before .before .before .before .before .before .before .before .before .before .before .before .if1 .left), held _ _ (c .before .before .before .before .before .room .ensures) (c .before .before .before .before .if3 .left))
+fill-requires c κs = (
+  held _ _
+      (check-told (c .before .before .before .before .before .before .before .before .before .before .before .before .before .before .before
+      .sound-over .ensures)) (c .before .before .before .before .before .before .before .before .before .before .before .before .if1 .left),
+  held _ _ (c .before .before .before .before .before .room .ensures) (c .before .before .before .before .if3 .left),
+)
 
 same-length-13 : tie.Need-same-length-13
 same-length-13 c = search needs
@@ -89,8 +96,19 @@ same-length-16 c = search needs
 
 returns-4 : tie.Need-returns-4
 returns-4 c =
-    call-done _ _ _ _ _ _ _ _ _ _ _ _ _ _ (c .before .before .before .before .before .before .before .before .before .before .before .before .before .before .before .before .before .before .before .before .before .before .before .sound-over .ensures) (c .before .before .before .before .before .before .before .before .before .before .before .before .before .before .before .before .before .before .before .before .if1 .left) _ (toZ-ofZ (c .before .before .before .before .before .before .before .before .before .before .before .before .before .before .before .before .before .before .before .before .before .before .before .before .before .before .before .before .before .before .before .before .fits .iterations)) _ (c .before .before .before .before .before .before .before .before .before .before .before .before .before .before .before .before .before .before .before .allowed .ensures) (c .before .before .before .before .before .before .before .before .before .before .before .before .before .before .before .before .before .before .if2 .left)
-    _ (c .before .before .before .before .before .before .before .before .before .before .before .before .before .room .ensures) (c .before .before .before .before .before .before .before .before .before .before .before .before .if3 .left) (c .before .before .before .before .before .before .before .fill .ensures)
+    call-done _ _ _ _ _ _ _ _ _ _ _ _ _ _ (c .before .before .before .before .before .before .before .before .before .before .before .before
+    .before .before .before .before .before .before .before .before .before .before .before .sound-over .ensures)
+    (c .before .before .before .before .before .before .before .before .before .before .before .before .before .before .before .before
+    .before .before .before .before .if1 .left) _
+    (toZ-ofZ (c .before .before .before .before .before .before .before .before .before .before .before .before .before .before .before
+    .before .before .before .before .before .before .before .before .before .before .before .before .before .before .before .before
+    .before .fits .iterations)) _ (c .before .before .before .before .before .before .before .before .before .before .before .before
+    .before .before .before .before .before .before .before .allowed .ensures)
+    (c .before .before .before .before .before .before .before .before .before .before .before .before .before .before .before .before
+    .before .before .if2 .left)
+    _ (c .before .before .before .before .before .before .before .before .before .before .before .before .before .room .ensures)
+    (c .before .before .before .before .before .before .before .before .before .before .before .before .if3 .left)
+    (c .before .before .before .before .before .before .before .fill .ensures)
 
 pub cdlp-spec : {M : Type 1} → statement M
 cdlp-spec =

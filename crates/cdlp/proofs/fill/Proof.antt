@@ -1,5 +1,6 @@
 use borrow.Author.Needs.{needs}
-use Rattle.cdlp.proofs.Calls.{first-result, first-labels, first-next, first-counts, taken-result, taken-labels, taken-next, taken-counts, ready-of, fill-all}
+use Rattle.cdlp.proofs.Calls.{first-result, first-labels, first-next, first-counts, taken-result}
+use Rattle.cdlp.proofs.Calls.{taken-labels, taken-next, taken-counts, ready-of, fill-all}
 use Rattle.cdlp.proofs.fill.Statement.{statement}
 use Rattle.cdlp.proofs.fill.Tie as tie
 

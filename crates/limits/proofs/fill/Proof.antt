@@ -10,7 +10,8 @@ use Rattle.limits.proofs.fill.Statement.{statement}
 use Rattle.limits.proofs.fill.Tie as tie
 
 -- two writers keep an area's length
-kept : (o o′ o″ : List ℕ) (at p q n : ℕ) (s t : List ℕ) → length o ≡ n → written o′ p ≡ putAt o at s → written o″ q ≡ putAt o′ p t → length o″ ≡ n
+kept : (o o′ o″ : List ℕ) (at p q n : ℕ) (s t : List ℕ) → length o ≡ n → written o′ p ≡ putAt o at s → written o″ q ≡ putAt o′ p t
+    → length o″ ≡ n
 kept o o′ o″ at p q n s t e v w =
     ap (λ (x : Written). length (x .area)) w ∙ put-length o′ p t ∙ ap (λ (x : Written). length (x .area)) v ∙ put-length o at s ∙ e
 

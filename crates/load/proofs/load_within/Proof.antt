@@ -36,8 +36,13 @@ same-length-5 c = search needs
 
 returns : tie.Need-returns
 returns c =
-    let a = c .before .before .before .before .before .before .before .before .before .before .before .before .before .before .before .before .before .before .before .before .before .before .before .before .before .args in
-    load-graph _ (a .mode) (now (a .vertices)) (now (a .edges)) (now (a .ids)) (now (a .out-offsets)) (now (a .out-targets)) (now (a .in-offsets)) (now (a .in-sources)) _ _ _ _ _ _ (c .before .before .before .before .before .before .before .before .before .before .before .before .fill .ensures) _ (c .before .before .before .before .before .before .before .before .before .before .before .before .before .before .before .before .before .before .capped .ensures) _ (c .before .filled .given .1)
+    let a = c .before .before .before .before .before .before .before .before .before .before .before .before .before .before .before
+    .before .before .before .before .before .before .before .before .before .before .args in
+    load-graph _ (a .mode) (now (a .vertices)) (now (a .edges)) (now (a .ids)) (now (a .out-offsets)) (now (a .out-targets))
+    (now (a .in-offsets)) (now (a .in-sources)) _ _ _ _ _ _
+    (c .before .before .before .before .before .before .before .before .before .before .before .before .fill .ensures) _
+    (c .before .before .before .before .before .before .before .before .before .before .before .before .before .before .before .before
+    .before .before .capped .ensures) _ (c .before .filled .given .1)
 
 same-length-6 : tie.Need-same-length-6
 same-length-6 c = search needs
@@ -56,9 +61,20 @@ same-length-10 c = search needs
 
 returns-2 : tie.Need-returns-2
 returns-2 c =
-    let a = c .before .before .before .before .before .before .before .before .before .before .before .before .before .before .before .before .before .before .before .before .before .before .before .before .before .before .before .before .before .before .before .before .before .before .before .before .before .before .before .before .args in
-    let k = c .before .before .before .before .before .before .before .before .before .before .before .before .before .before .before .before .before .before .before .before .before .before .before .before .before .before .before .fill .kept .1 .1 .1 .1 in
-    load-refused _ (a .mode) (now (a .vertices)) (now (a .edges)) (now (a .ids)) (now (a .out-offsets)) (now (a .out-targets)) (now (a .in-offsets)) (now (a .in-sources)) _ _ _ _ _ _ (c .before .before .before .before .before .before .before .before .before .before .before .before .before .before .before .before .before .before .before .before .before .before .before .before .before .before .before .fill .ensures) _ (c .before .before .before .before .before .before .before .before .before .before .before .before .before .before .before .before .before .before .before .before .before .before .before .before .before .before .before .before .before .before .before .before .before .capped .ensures) _ (c .before .before .before .before .before .before .before .before .before .before .before .before .before .before .before .before .filled2 .given .1) (k .0) (k .1 .0) (k .1 .1 .0) (k .1 .1 .1 .0) (k .1 .1 .1 .1 .0) _ _ _ _ _ (c .before .before .before .before .before .before .before .before .before .clear-all .ensures)
+    let a = c .before .before .before .before .before .before .before .before .before .before .before .before .before .before .before
+    .before .before .before .before .before .before .before .before .before .before .before .before .before .before .before .before
+    .before .before .before .before .before .before .before .before .before .args in
+    let k = c .before .before .before .before .before .before .before .before .before .before .before .before .before .before .before
+    .before .before .before .before .before .before .before .before .before .before .before .before .fill .kept .1 .1 .1 .1 in
+    load-refused _ (a .mode) (now (a .vertices)) (now (a .edges)) (now (a .ids)) (now (a .out-offsets)) (now (a .out-targets))
+    (now (a .in-offsets)) (now (a .in-sources)) _ _ _ _ _ _
+    (c .before .before .before .before .before .before .before .before .before .before .before .before .before .before .before .before
+    .before .before .before .before .before .before .before .before .before .before .before .fill .ensures) _
+    (c .before .before .before .before .before .before .before .before .before .before .before .before .before .before .before .before
+    .before .before .before .before .before .before .before .before .before .before .before .before .before .before .before .before
+    .before .capped .ensures) _ (c .before .before .before .before .before .before .before .before .before .before .before .before
+    .before .before .before .before .filled2 .given .1) (k .0) (k .1 .0) (k .1 .1 .0) (k .1 .1 .1 .0) (k .1 .1 .1 .1 .0) _ _ _ _ _
+    (c .before .before .before .before .before .before .before .before .before .clear-all .ensures)
 
 pub load-within-spec : {M : Type 1} → statement M
 load-within-spec =

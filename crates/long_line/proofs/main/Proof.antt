@@ -9,7 +9,8 @@ array-write-s : tie.Need-array-write-s
 array-write-s c = search needs
 
 slice-aggregate-vertex : tie.Need-slice-aggregate-vertex
-slice-aggregate-vertex c = sym (length-set {0} {A = ℕ} (replicate {0} {A = ℕ} 1000001 57) 1000000 10 ∙ length-replicate {0} {A = ℕ} 1000001 57)
+slice-aggregate-vertex c =
+    sym (length-set {0} {A = ℕ} (replicate {0} {A = ℕ} 1000001 57) 1000000 10 ∙ length-replicate {0} {A = ℕ} 1000001 57)
 
 vertex-requires : tie.Need-vertex-requires
 vertex-requires c κs = search needs

@@ -42,7 +42,9 @@ same-length-5 : tie.Need-same-length-5
 same-length-5 c = search needs
 
 returns : tie.Need-returns
-returns c = rw (c .before .before .before .before .before .before .before .before .before .before .before .before .before .before .before .before .before .mode-number .ensures) at (c .before .before .before .before .before .before .before .before .before .load-within .ensures)
+returns c =
+    rw (c .before .before .before .before .before .before .before .before .before .before .before .before .before .before .before .before
+    .before .mode-number .ensures) at (c .before .before .before .before .before .before .before .before .before .load-within .ensures)
 
 pub load-sections-spec : {M : Type 1} → statement M
 load-sections-spec =

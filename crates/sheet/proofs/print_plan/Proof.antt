@@ -35,8 +35,13 @@ enum-known-x-2 c = search needs
 
 array-share-prefix-ids : tie.Need-array-share-prefix-ids
 array-share-prefix-ids c =
-    let a = c .before .before .before .before .before .before .before .before .before .before .before .before .before .before .before .before .before in
-    omega (arith, few-vertices (a .args .s .now) (a .args .plan) _ _ (c .before .before .before .before .before .before .before .before .load-sections .ensures) (c .before .x2 .given .1))
+    let a = c .before .before .before .before .before .before .before .before .before .before .before .before .before .before .before
+    .before .before in
+    omega (
+      arith,
+      few-vertices (a .args .s .now) (a .args .plan) _ _
+          (c .before .before .before .before .before .before .before .before .load-sections .ensures) (c .before .x2 .given .1),
+    )
 
 slice-aggregate-run-jobs : tie.Need-slice-aggregate-run-jobs
 slice-aggregate-run-jobs c = sym (length-take-le _ _ (omega (arith, array-share-prefix-ids (c .before))))
@@ -61,16 +66,24 @@ same-length c = search needs
 
 returns : tie.Need-returns
 returns c =
-    let a = c .before .before .before .before .before .before .before .before .before .before .before .before .before .before .before .before .before .before .before .before .before in
-    load-refused (a .args .s .now) (a .args .plan) _ _ _ _ _ _ (c .before .before .before .before .before .before .before .before .before .before .before .before .load-sections .ensures) _ _ _ _ _ (c .before .before .before .before .before .x .given .1) (c .before .before .put-refused .ensures)
+    let a = c .before .before .before .before .before .before .before .before .before .before .before .before .before .before .before
+    .before .before .before .before .before .before in
+    load-refused (a .args .s .now) (a .args .plan) _ _ _ _ _ _
+    (c .before .before .before .before .before .before .before .before .before .before .before .before .load-sections .ensures) _ _ _ _
+    _ (c .before .before .before .before .before .x .given .1) (c .before .before .put-refused .ensures)
 
 same-length-2 : tie.Need-same-length-2
 same-length-2 c = search needs
 
 returns-2 : tie.Need-returns-2
 returns-2 c =
-    let a = c .before .before .before .before .before .before .before .before .before .before .before .before .before .before .before .before .before .before .before .before .before .before .before .before .before .before in
-    load-good (a .args .s .now) (a .args .plan) _ _ _ _ _ _ (c .before .before .before .before .before .before .before .before .before .before .before .before .before .before .before .before .before .load-sections .ensures) _ _ _ _ _ (c .before .before .before .before .before .before .before .before .before .before .x2 .given .1) (c .before .before .run-jobs .ensures)
+    let a = c .before .before .before .before .before .before .before .before .before .before .before .before .before .before .before
+    .before .before .before .before .before .before .before .before .before .before .before in
+    load-good (a .args .s .now) (a .args .plan) _ _ _ _ _ _
+    (c .before .before .before .before .before .before .before .before .before .before .before .before .before .before .before .before
+    .before .load-sections .ensures) _ _ _ _ _
+    (c .before .before .before .before .before .before .before .before .before .before .x2 .given .1)
+    (c .before .before .run-jobs .ensures)
 
 pub print-plan-spec : {M : Type 1} → statement M
 print-plan-spec =

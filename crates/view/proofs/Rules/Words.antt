@@ -1,4 +1,5 @@
--- The library's words that the walks of this crate are written with, named once. It stands below `Rules.antt` because a file takes all the names of
+-- The library's words that the walks of this crate are written with, named once.
+-- It stands below `Rules.antt` because a file takes all the names of
 -- another only from below itself; whoever else wants them imports them from there. Assumes nothing: these are names.
 pub use mathlib.Core.Path.{_≡_, refl, subst, ap}
 pub use mathlib.Core.List.{List, [], _∷_}

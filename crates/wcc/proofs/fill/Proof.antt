@@ -1,5 +1,6 @@
 use borrow.Author.Needs.{needs}
-use Rattle.wcc.proofs.Calls.{first-result, first-parents, first-sizes, taken-ids, taken-result, taken-parents, taken-sizes, exact-of, fill-all}
+use Rattle.wcc.proofs.Calls.{first-result, first-parents, first-sizes, taken-ids}
+use Rattle.wcc.proofs.Calls.{taken-result, taken-parents, taken-sizes, exact-of, fill-all}
 use Rattle.wcc.proofs.fill.Statement.{statement}
 use Rattle.wcc.proofs.fill.Tie as tie
 

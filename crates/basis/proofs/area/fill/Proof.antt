@@ -33,8 +33,12 @@ loop-less c = search needs
 
 loop-again : tie.Need-loop-again Inv-loop μ-loop
 loop-again c =
-    let l = c .before .loop in
-    (omega arith, rw length-set (l .inv .1), column-more (λ k. c .before .before .args .value) (l .i) _ (l .area) _ (omega arith) (l .inv .2) refl)
+    let l = c .before .loop in (
+      omega arith,
+      rw length-set (l .inv .1),
+      column-more (λ k. c .before .before .args .value) (l .i) _ (l .area) _ (omega arith)
+          (l .inv .2) refl,
+    )
 
 same-length : tie.Need-same-length Inv-loop μ-loop
 same-length c = search needs

@@ -14,7 +14,8 @@ use Rattle.basis.proofs.area.fill_signed.Statement.{statement}
 use Rattle.basis.proofs.area.fill_signed.Tie as tie
 
 abbrev Inv-loop : tie.InvT-loop
-Inv-loop area₀ value i₀ area i = (i ≤ length area₀) × (length area ≡ length area₀) × (area ≡ column (λ k. toZ w64 value) 0 i ++ drop i area₀)
+Inv-loop area₀ value i₀ area i =
+    (i ≤ length area₀) × (length area ≡ length area₀) × (area ≡ column (λ k. toZ w64 value) 0 i ++ drop i area₀)
 
 abbrev μ-loop : tie.MeasureT-loop
 μ-loop area₀ value i₀ area i = length area₀ - i

@@ -7,12 +7,15 @@ use Rattle.book.specs.Rules.{behind, joinEach}
 use Rattle.book.specs.Two.{areas, twoBook}
 use Rattle.book.specs.Steps.{Walking}
 use Rattle.book.proofs.Walked.{lent-within}
-use Rattle.book.proofs.Each.{each-none, each-unlent, each-missing, walking-start, walking-on, walking-stays, behind-none, each-merged, each-already, each-refused, each-end}
+use Rattle.book.proofs.Each.{each-none, each-unlent, each-missing, walking-start, walking-on}
+use Rattle.book.proofs.Each.{walking-stays, behind-none, each-merged, each-already, each-refused, each-end}
 use Rattle.book.proofs.joining.join_each.Statement.{statement}
 use Rattle.book.proofs.joining.join_each.Tie as tie
 
 abbrev Inv-loop : tie.InvT-loop
-Inv-loop parents₀ sizes₀ u others at₀ merges₀ i₀ parents sizes at merges i = (i ≤ length others) × (merges ≤ i) × (length parents ≡ length parents₀) × (length sizes ≡ length sizes₀) × Walking parents sizes u at × (behind i merges (joinEach twoBook (areas parents sizes) u (drop i others)) ≡ joinEach twoBook (areas parents₀ sizes₀) u others)
+Inv-loop parents₀ sizes₀ u others at₀ merges₀ i₀ parents sizes at merges i =
+    (i ≤ length others) × (merges ≤ i) × (length parents ≡ length parents₀) × (length sizes ≡ length sizes₀) × Walking parents sizes u at
+    × (behind i merges (joinEach twoBook (areas parents sizes) u (drop i others)) ≡ joinEach twoBook (areas parents₀ sizes₀) u others)
 
 abbrev μ-loop : tie.MeasureT-loop
 μ-loop parents₀ sizes₀ u others at₀ merges₀ i₀ parents sizes at merges i = length others - i
@@ -45,13 +48,28 @@ same-length-4 : tie.Need-same-length-4 Inv-loop μ-loop
 same-length-4 c = search needs
 
 returns-3 : tie.Need-returns-3 Inv-loop μ-loop
-returns-3 c = each-missing _ _ _ (c .before .before .before .well-lent .result) (c .before .before .before .well-lent .ensures) _ (c .before .before .before .before .before .before .if1 .left) _ (c .before .before .if2 .left) (c .before .if3 .taken) (c .plain2 .ensures)
+returns-3 c = each-missing _ _ _ (c .before .before .before .well-lent .result) (c .before .before .before .well-lent .ensures) _
+    (c .before .before .before .before .before .before .if1 .left) _ (c .before .before .if2 .left) (c .before .if3 .taken)
+    (c .plain2 .ensures)
 
 walk-requires : tie.Need-walk-requires Inv-loop μ-loop
-walk-requires c κs = (c .before .if3 .left, lent-within _ _ (c .before .before .before .well-lent .result) (c .before .before .before .well-lent .ensures) (c .before .before .if2 .left))
+walk-requires c κs = (
+  c .before .if3 .left,
+  lent-within _ _ (c .before .before .before .well-lent .result) (c .before .before .before .well-lent .ensures)
+      (c .before .before .if2 .left),
+)
 
 loop-holds : tie.Need-loop-holds Inv-loop μ-loop
-loop-holds c = (omega arith, omega arith, refl, refl, walking-start _ _ _ (c .before .before .before .before .well-lent .result) (c .before .before .before .before .well-lent .ensures) _ (c .before .before .before .if2 .left) (c .before .before .if3 .left) (c .walk .ensures), behind-none _)
+loop-holds c = (
+  omega arith,
+  omega arith,
+  refl,
+  refl,
+  walking-start _ _ _ (c .before .before .before .before .well-lent .result)
+      (c .before .before .before .before .well-lent .ensures) _ (c .before .before .before .if2 .left) (c .before .before .if3 .left)
+      (c .walk .ensures),
+  behind-none _,
+)
 
 mul-join-next : tie.Need-mul-join-next Inv-loop μ-loop
 mul-join-next c = search needs

@@ -1,5 +1,6 @@
 use borrow.Author.Needs.{needs}
-use Rattle.book.proofs.Each.{walking-within, walking-lengths, walking-already, walking-refused, next-missing, next-late, next-late2, next-first, next-first-in, next-second, next-merged, next-already, next-refused, next-top, next-under}
+use Rattle.book.proofs.Each.{walking-within, walking-lengths, walking-already, walking-refused, next-missing, next-late, next-late2}
+use Rattle.book.proofs.Each.{next-first, next-first-in, next-second, next-merged, next-already, next-refused, next-top, next-under}
 use Rattle.book.proofs.joining.join_next.Statement.{statement}
 use Rattle.book.proofs.joining.join_next.Tie as tie
 

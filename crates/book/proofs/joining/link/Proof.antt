@@ -35,7 +35,12 @@ add-hang : tie.Need-add-hang
 add-hang c =
     let a = c .before .before .before .before .before .before .before .before .before .before .before .args in
     let m = c .before .before .before .before .before .may-merge in
-    omega (arith, two-sum (a .parents .now) (a .sizes .now) (a .g) (a .h) (c .before .before .before .before .before .before .before .before .if1 .left) (m .result) (m .ensures) (c .before .before .before .before .if2 .left))
+    omega (
+      arith,
+      two-sum (a .parents .now) (a .sizes .now) (a .g) (a .h)
+          (c .before .before .before .before .before .before .before .before .if1 .left) (m .result) (m .ensures)
+          (c .before .before .before .before .if2 .left),
+    )
 
 hang-requires : tie.Need-hang-requires
 hang-requires c κs = search needs
@@ -53,7 +58,12 @@ add-hang-2 : tie.Need-add-hang-2
 add-hang-2 c =
     let a = c .before .before .before .before .before .before .before .before .before .before .before .args in
     let m = c .before .before .before .before .before .may-merge in
-    omega (arith, two-sum (a .parents .now) (a .sizes .now) (a .g) (a .h) (c .before .before .before .before .before .before .before .before .if1 .left) (m .result) (m .ensures) (c .before .before .before .before .if2 .left))
+    omega (
+      arith,
+      two-sum (a .parents .now) (a .sizes .now) (a .g) (a .h)
+          (c .before .before .before .before .before .before .before .before .if1 .left) (m .result) (m .ensures)
+          (c .before .before .before .before .if2 .left),
+    )
 
 hang-requires-2 : tie.Need-hang-requires-2
 hang-requires-2 c κs = search needs

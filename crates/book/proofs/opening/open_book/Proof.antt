@@ -11,7 +11,8 @@ use Rattle.book.proofs.opening.open_book.Statement.{statement}
 use Rattle.book.proofs.opening.open_book.Tie as tie
 
 abbrev Inv-loop : tie.InvT-loop
-Inv-loop parents₀ sizes₀ n i₀ parents sizes i = (i ≤ n) × (n ≡ length parents₀) × (length sizes₀ ≡ n) × (length parents ≡ n) × (length sizes ≡ n) × (parents ≡ column (λ v. v) 0 i ++ drop i parents₀) × (sizes ≡ column (λ v. 1) 0 i ++ drop i sizes₀)
+Inv-loop parents₀ sizes₀ n i₀ parents sizes i = (i ≤ n) × (n ≡ length parents₀) × (length sizes₀ ≡ n) × (length parents ≡ n)
+    × (length sizes ≡ n) × (parents ≡ column (λ v. v) 0 i ++ drop i parents₀) × (sizes ≡ column (λ v. 1) 0 i ++ drop i sizes₀)
 
 abbrev μ-loop : tie.MeasureT-loop
 μ-loop parents₀ sizes₀ n i₀ parents sizes i = n - i

@@ -50,8 +50,11 @@ loop-less c = search needs
 loop-again : tie.Need-loop-again Inv-loop μ-loop
 loop-again c =
     let ps = c .before .before .before .before .before .before .before .before .args .parents .now in
-    let l = c .before .before .before .loop in
-    (omega arith, ⊎-elim (λ w. omega (arith, w .1, l .inv .1, count-head ps (l .i) (w .0 .taken))) (λ w. omega (arith, w .1, l .inv .1, count-other ps (l .i) (w .0 .left))) (c .if2 .came))
+    let l = c .before .before .before .loop in (
+      omega arith,
+      ⊎-elim (λ w. omega (arith, w .1, l .inv .1, count-head ps (l .i) (w .0 .taken)))
+          (λ w. omega (arith, w .1, l .inv .1, count-other ps (l .i) (w .0 .left))) (c .if2 .came),
+    )
 
 returns-2 : tie.Need-returns-2 Inv-loop μ-loop
 unfolding two

@@ -14,7 +14,8 @@ use Rattle.cdlp.proofs.label.forget.Tie as tie
 
 abbrev Inv-loop : tie.InvT-loop
 Inv-loop part labels counts₀ i₀ counts i =
-    (i ≤ length part) × (length counts ≡ length counts₀) × (forgotten (labelsAt 0 labels (drop i part)) counts ≡ forgotten (labelsAt 0 labels part) counts₀)
+    (i ≤ length part) × (length counts ≡ length counts₀)
+    × (forgotten (labelsAt 0 labels (drop i part)) counts ≡ forgotten (labelsAt 0 labels part) counts₀)
 
 abbrev μ-loop : tie.MeasureT-loop
 μ-loop part labels counts₀ i₀ counts i = length part - i
@@ -40,7 +41,8 @@ u-low c = let l = c .before in below-at (length (labelsOf l)) (partOf l) (startO
 l-low : (c : tie.In-loop Inv-loop μ-loop) → label (c .before) < length (c .before .loop .counts)
 l-low c =
     let l = c .before in
-    let h = below-at (length (now (startOf l .args .counts))) (labelsOf l) (startOf l .pre .lowLabels) (getD (partOf l) (l .loop .i) 0) (u-low c) in
+    let h = below-at (length (now (startOf l .args .counts))) (labelsOf l) (startOf l .pre .lowLabels) (getD (partOf l) (l .loop .i) 0)
+    (u-low c) in
     rw (l .loop .inv .1) h
 
 loop-holds : tie.Need-loop-holds Inv-loop μ-loop

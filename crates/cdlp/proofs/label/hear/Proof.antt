@@ -41,7 +41,8 @@ u-low c = let l = c .before in below-at (length (labelsOf l)) (partOf l) (startO
 l-low : (c : tie.In-loop Inv-loop μ-loop) → label (c .before) < length (c .before .loop .counts)
 l-low c =
     let l = c .before in
-    let h = below-at (length (now (startOf l .args .counts))) (labelsOf l) (startOf l .pre .walk .lowLabels) (getD (partOf l) (l .loop .i) 0) (u-low c) in
+    let h = below-at (length (now (startOf l .args .counts))) (labelsOf l) (startOf l .pre .walk .lowLabels)
+    (getD (partOf l) (l .loop .i) 0) (u-low c) in
     rw (l .loop .inv .1) h
 
 loop-holds : tie.Need-loop-holds Inv-loop μ-loop
@@ -90,14 +91,17 @@ loop-again c =
       omega arith,
       length-set (l .loop .counts) (label l) _ ∙ l .loop .inv .1,
       under-more 65536 (l .loop .i) (l .loop .counts) (label l) (l-low n) (l .loop .inv .2),
-      hear-more (labelsOf l) (partOf l) (l .loop .i) (l .loop .counts) (l .loop .best) (c .lead .result) _ (n .loop-test .taken) (l .loop .inv .3) (c .lead .ensures),
+      hear-more (labelsOf l) (partOf l) (l .loop .i) (l .loop .counts) (l .loop .best) (c .lead .result) _ (n .loop-test .taken)
+          (l .loop .inv .3) (c .lead .ensures),
     )
 
 same-length : tie.Need-same-length Inv-loop μ-loop
 same-length c = search needs
 
 returns : tie.Need-returns Inv-loop μ-loop
-returns c = let l = c .before in hear-end (labelsOf l) (partOf l) (l .loop .i) (tally (l .loop .counts) (l .loop .best)) _ (c .loop-test .left) (l .loop .inv .3)
+returns c =
+    let l = c .before in hear-end (labelsOf l) (partOf l) (l .loop .i) (tally (l .loop .counts) (l .loop .best)) _ (c .loop-test .left)
+    (l .loop .inv .3)
 
 pub hear-spec : {M : Type 1} → statement M
 hear-spec =

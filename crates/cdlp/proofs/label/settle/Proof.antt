@@ -11,10 +11,16 @@ hear-requires-2 : tie.Need-hear-requires-2
 hear-requires-2 c κs = search settle-second
 
 forget-requires : tie.Need-forget-requires
-forget-requires c κs = walk-in (c .before .before .before .before .before .before .before .before .before .before .before .before .before .pre) (c .before .before .before .hear2 .kept .1 .1 .0 ∙ c .before .before .before .before .before .before .before .hear .kept .1 .1 .0)
+forget-requires c κs =
+    walk-in (c .before .before .before .before .before .before .before .before .before .before .before .before .before .pre)
+    (c .before .before .before .hear2 .kept .1 .1 .0 ∙ c .before .before .before .before .before .before .before .hear .kept .1 .1 .0)
 
 forget-requires-2 : tie.Need-forget-requires-2
-forget-requires-2 c κs = walk-out (c .before .before .before .before .before .before .before .before .before .before .before .before .before .before .before .before .before .pre) (c .before .before .before .forget .kept .1 .1 .0 ∙ c .before .before .before .before .before .before .before .hear2 .kept .1 .1 .0 ∙ c .before .before .before .before .before .before .before .before .before .before .before .hear .kept .1 .1 .0)
+forget-requires-2 c κs =
+    walk-out (c .before .before .before .before .before .before .before .before .before .before .before .before .before .before .before
+    .before .before .pre) (c .before .before .before .forget .kept .1 .1 .0
+    ∙ c .before .before .before .before .before .before .before .hear2 .kept .1 .1 .0
+    ∙ c .before .before .before .before .before .before .before .before .before .before .before .hear .kept .1 .1 .0)
 
 same-length : tie.Need-same-length
 same-length c = search needs

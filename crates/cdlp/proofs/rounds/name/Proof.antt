@@ -22,8 +22,11 @@ Inv-loop ids labels result₀ v₀ result v =
 abbrev μ-loop : tie.MeasureT-loop
 μ-loop ids labels result₀ v₀ result v = length result₀ - v
 
-l-low : (c : tie.In-loop Inv-loop μ-loop) → getD (now (c .before .before .args .labels)) (c .before .loop .v) 0 < length (now (c .before .before .args .ids))
-l-low c = let s = c .before .before in below-at (length (now (s .args .ids))) (now (s .args .labels)) (s .pre .lowLabels) (c .before .loop .v) (c .loop-test .taken)
+l-low : (c : tie.In-loop Inv-loop μ-loop) → getD (now (c .before .before .args .labels)) (c .before .loop .v) 0
+    < length (now (c .before .before .args .ids))
+l-low c =
+    let s = c .before .before in below-at (length (now (s .args .ids))) (now (s .args .labels)) (s .pre .lowLabels) (c .before .loop .v)
+    (c .loop-test .taken)
 
 loop-holds : tie.Need-loop-holds Inv-loop μ-loop
 loop-holds c = (refl, omega arith, column-none (look (pos 0) (now (c .args .ids)) (now (c .args .labels))) (now (c .args .result)))
@@ -55,8 +58,12 @@ loop-less c = search needs
 loop-again : tie.Need-loop-again Inv-loop μ-loop
 loop-again c =
     let l = c .before .before .before .loop in
-    let a = c .before .before .before .before .args in
-    (length-set (l .result) (l .v) _ ∙ l .inv .0, omega arith, column-more (look (pos 0) (now (a .ids)) (now (a .labels))) (l .v) (now (a .result)) (l .result) _ (omega arith) (l .inv .2) (toZ-ofZ {w = w64} {z = getD (now (a .ids)) (getD (now (a .labels)) (l .v) 0) (pos 0)} (record { sfits = c .result .given })))
+    let a = c .before .before .before .before .args in (
+      length-set (l .result) (l .v) _ ∙ l .inv .0,
+      omega arith,
+      column-more (look (pos 0) (now (a .ids)) (now (a .labels))) (l .v) (now (a .result)) (l .result) _ (omega arith) (l .inv .2)
+          (toZ-ofZ {w = w64} {z = getD (now (a .ids)) (getD (now (a .labels)) (l .v) 0) (pos 0)} (record { sfits = c .result .given })),
+    )
 
 same-length : tie.Need-same-length Inv-loop μ-loop
 same-length c = c .before .loop .inv .0
@@ -65,7 +72,8 @@ returns : tie.Need-returns Inv-loop μ-loop
 returns c =
     let l = c .before .loop in
     let a = c .before .before .args in
-    column-end (look (pos 0) (now (a .ids)) (now (a .labels))) (l .v) (length (now (a .labels))) (now (a .result)) (l .result) (omega arith) (omega arith) (l .inv .2)
+    column-end (look (pos 0) (now (a .ids)) (now (a .labels))) (l .v) (length (now (a .labels))) (now (a .result)) (l .result) (omega arith)
+    (omega arith) (l .inv .2)
     ∙ column-look (pos 0) (now (a .ids)) (now (a .labels))
 
 pub name-spec : {M : Type 1} → statement M

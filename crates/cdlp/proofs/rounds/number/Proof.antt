@@ -36,8 +36,11 @@ loop-less c = search needs
 loop-again : tie.Need-loop-again Inv-loop μ-loop
 loop-again c =
     let l = c .before .loop in
-    let d = now (c .before .before .args .labels) in
-    (length-set (l .labels) (l .v) (l .v) ∙ l .inv .0, omega arith, column-more itself (l .v) d (l .labels) (l .v) (omega arith) (l .inv .2) refl)
+    let d = now (c .before .before .args .labels) in (
+      length-set (l .labels) (l .v) (l .v) ∙ l .inv .0,
+      omega arith,
+      column-more itself (l .v) d (l .labels) (l .v) (omega arith) (l .inv .2) refl,
+    )
 
 same-length : tie.Need-same-length Inv-loop μ-loop
 same-length c = c .before .loop .inv .0

@@ -46,8 +46,15 @@ loop-less c = search needs
 
 loop-again : tie.Need-loop-again Inv-loop μ-loop
 loop-again c =
-    let l = c .before .before .before .before .before .before .before .before .loop in
-    (omega arith, length-set (l .next) (l .v) _ ∙ l .inv .1, c .before .before .settle .ensures .1 ∙ l .inv .2, filled-more (c .before .before .before .before .before .before .before .before .before .before .before .before .before .before .before .before .pre) (c .before .before .before .before .before .before .before .loop-test .taken) (l .inv .3) (c .before .before .before .before .before .neighbours .ensures) (c .before .before .before .before .neighbours2 .ensures) (c .before .before .settle .ensures .0))
+    let l = c .before .before .before .before .before .before .before .before .loop in (
+      omega arith,
+      length-set (l .next) (l .v) _ ∙ l .inv .1,
+      c .before .before .settle .ensures .1 ∙ l .inv .2,
+      filled-more (c .before .before .before .before .before .before .before .before .before .before .before .before .before .before
+          .before .before .pre) (c .before .before .before .before .before .before .before .loop-test .taken) (l .inv .3)
+          (c .before .before .before .before .before .neighbours .ensures) (c .before .before .before .before .neighbours2 .ensures)
+          (c .before .before .settle .ensures .0),
+    )
 
 same-length : tie.Need-same-length Inv-loop μ-loop
 same-length c = c .before .loop .inv .1

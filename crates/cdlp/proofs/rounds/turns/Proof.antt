@@ -49,7 +49,8 @@ returns c =
     let l = c .before .loop in
     let a = c .before .before .before .before .before .before .before .before .before .args in
     let e : l .done ≡ a .k = omega arith in
-    l .inv .4 ∙ ap (numbersAfter (now (a .in-offsets)) (now (a .in-sources)) (now (a .out-offsets)) (now (a .out-targets)) (now (a .labels))) e
+    l .inv .4
+    ∙ ap (numbersAfter (now (a .in-offsets)) (now (a .in-sources)) (now (a .out-offsets)) (now (a .out-targets)) (now (a .labels))) e
 
 pub turns-spec : {M : Type 1} → statement M
 turns-spec =

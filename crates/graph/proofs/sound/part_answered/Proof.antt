@@ -13,7 +13,8 @@ use Rattle.graph.proofs.sound.part_answered.Statement.{statement}
 use Rattle.graph.proofs.sound.part_answered.Tie as tie
 
 abbrev Inv-loop : tie.InvT-loop
-Inv-loop members u targets offsets n i₀ i = (i ≤ length members) × (every i (λ i. mem u (partOf n offsets targets (getD members i 0))) ≡ true)
+Inv-loop members u targets offsets n i₀ i =
+    (i ≤ length members) × (every i (λ i. mem u (partOf n offsets targets (getD members i 0))) ≡ true)
 
 abbrev μ-loop : tie.MeasureT-loop
 μ-loop members u targets offsets n i₀ i = length members - i

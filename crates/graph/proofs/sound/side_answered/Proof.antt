@@ -13,7 +13,8 @@ use Rattle.graph.proofs.sound.side_answered.Statement.{statement}
 use Rattle.graph.proofs.sound.side_answered.Tie as tie
 
 abbrev Inv-loop : tie.InvT-loop
-Inv-loop from from-offsets back back-offsets n u₀ u = (u ≤ n) × (every u (λ u. answered n back-offsets back u (partOf n from-offsets from u)) ≡ true)
+Inv-loop from from-offsets back back-offsets n u₀ u =
+    (u ≤ n) × (every u (λ u. answered n back-offsets back u (partOf n from-offsets from u)) ≡ true)
 
 abbrev μ-loop : tie.MeasureT-loop
 μ-loop from from-offsets back back-offsets n u₀ u = n - u

@@ -17,7 +17,8 @@ returns-2 : tie.Need-returns-2
 returns-2 c = search (graph-back, failed, held)
 
 side-answered-requires-2 : tie.Need-side-answered-requires-2
-side-answered-requires-2 c κs = sides-outward _ _ _ _ _ _ (held _ _ (c .before .before .before .sides-sound .ensures) (c .before .before .if1 .left))
+side-answered-requires-2 c κs =
+    sides-outward _ _ _ _ _ _ (held _ _ (c .before .before .before .sides-sound .ensures) (c .before .before .if1 .left))
 
 returns-3 : tie.Need-returns-3
 returns-3 c = search (graph-forth, held)

@@ -11,7 +11,8 @@ use Rattle.graph.proofs.walk.all_walked.Statement.{statement}
 use Rattle.graph.proofs.walk.all_walked.Tie as tie
 
 abbrev Inv-loop : tie.InvT-loop
-Inv-loop out-targets out-offsets in-sources n cursors₀ u₀ cursors u = (u ≤ n) × (length cursors ≡ length cursors₀) × (walked in-sources (partOf n out-offsets out-targets) u cursors₀ ≡ checked true cursors)
+Inv-loop out-targets out-offsets in-sources n cursors₀ u₀ cursors u =
+    (u ≤ n) × (length cursors ≡ length cursors₀) × (walked in-sources (partOf n out-offsets out-targets) u cursors₀ ≡ checked true cursors)
 
 abbrev μ-loop : tie.MeasureT-loop
 μ-loop out-targets out-offsets in-sources n cursors₀ u₀ cursors u = n - u

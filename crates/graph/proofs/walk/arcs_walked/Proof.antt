@@ -9,13 +9,16 @@ use Rattle.graph.proofs.walk.arcs_walked.Statement.{statement}
 use Rattle.graph.proofs.walk.arcs_walked.Tie as tie
 
 abbrev Inv-loop : tie.InvT-loop
-Inv-loop targets in-sources u cursors₀ i₀ cursors i = (i ≤ length targets) × (length cursors ≡ length cursors₀) × (stepped in-sources u (drop i targets) cursors ≡ stepped in-sources u targets cursors₀)
+Inv-loop targets in-sources u cursors₀ i₀ cursors i =
+    (i ≤ length targets) × (length cursors ≡ length cursors₀)
+    × (stepped in-sources u (drop i targets) cursors ≡ stepped in-sources u targets cursors₀)
 
 abbrev μ-loop : tie.MeasureT-loop
 μ-loop targets in-sources u cursors₀ i₀ cursors i = length targets - i
 
 -- the target of an arc has a cursor
-low : (c : tie.After-shared-slice-known Inv-loop μ-loop) → getD (c .before .before .before .args .targets .now) (c .before .before .loop .i) 0 < length (c .before .before .loop .cursors)
+low : (c : tie.After-shared-slice-known Inv-loop μ-loop)
+    → getD (c .before .before .before .args .targets .now) (c .before .before .loop .i) 0 < length (c .before .before .loop .cursors)
 low c = search target-low
 
 loop-holds : tie.Need-loop-holds Inv-loop μ-loop

@@ -31,7 +31,8 @@ gcd-gcd-requires : (t : ℕ) → gcd-lts.Need-gcd-requires (gcd-below t, gcd.Pos
 gcd-gcd-requires t c κs = (omega (arith, mod-lt (c .before .args .a) (pos-of-ne-zero (c .if1 .left)), c .before .pre .0), tt)
 
 gcd-returns-2 : (t : ℕ) → gcd-lts.Need-returns-2 (gcd-below t, gcd.Post) (gcd-at t) gcd.Post
-gcd-returns-2 t c = c .gcd .ensures ∙ sym (gcd-step (c .before .before .args .a) (c .before .before .args .b) (pos-of-ne-zero (c .before .if1 .left)))
+gcd-returns-2 t c =
+    c .gcd .ensures ∙ sym (gcd-step (c .before .before .args .a) (c .before .before .args .b) (pos-of-ne-zero (c .before .if1 .left)))
 
 pub +gcd-spec : {M : Type 1} → statement M
 +gcd-spec =

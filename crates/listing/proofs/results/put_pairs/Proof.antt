@@ -11,7 +11,8 @@ use Rattle.listing.proofs.results.put_pairs.Statement.{statement}
 use Rattle.listing.proofs.results.put_pairs.Tie as tie
 
 abbrev Inv-loop : tie.InvT-loop
-Inv-loop out₀ at ids values next₀ i₀ out next i = putAt out next (pairLines (drop i ids) (drop i values)) ≡ putAt out₀ at (pairLines ids values)
+Inv-loop out₀ at ids values next₀ i₀ out next i =
+    putAt out next (pairLines (drop i ids) (drop i values)) ≡ putAt out₀ at (pairLines ids values)
 
 abbrev μ-loop : tie.MeasureT-loop
 μ-loop out₀ at ids values next₀ i₀ out next i = length ids - i

@@ -11,7 +11,9 @@ use Rattle.listing.proofs.results.put_ratios.Statement.{statement}
 use Rattle.listing.proofs.results.put_ratios.Tie as tie
 
 abbrev Inv-loop : tie.InvT-loop
-Inv-loop out₀ at ids numerators denominators next₀ i₀ out next i = putAt out next (ratioLines (drop i ids) (drop i numerators) (drop i denominators)) ≡ putAt out₀ at (ratioLines ids numerators denominators)
+Inv-loop out₀ at ids numerators denominators next₀ i₀ out next i =
+    putAt out next (ratioLines (drop i ids) (drop i numerators) (drop i denominators))
+    ≡ putAt out₀ at (ratioLines ids numerators denominators)
 
 abbrev μ-loop : tie.MeasureT-loop
 μ-loop out₀ at ids numerators denominators next₀ i₀ out next i = length ids - i
@@ -59,7 +61,10 @@ loop-less : tie.Need-loop-less Inv-loop μ-loop
 loop-less c = omega arith
 
 loop-again : tie.Need-loop-again Inv-loop μ-loop
-loop-again c = ratios-more _ _ _ _ _ _ (c .before .before .before .before .before .before .before .before .before .before .loop .inv) _ (c .before .before .before .before .before .before .before .before .before .loop-test .taken) (c .before .before .before .before .before .before .before .before .if1 .left) (c .before .before .before .before .before .before .before .if2 .left) (search needs) (c .before .before .put-ratio .ensures)
+loop-again c = ratios-more _ _ _ _ _ _ (c .before .before .before .before .before .before .before .before .before .before .loop .inv) _
+    (c .before .before .before .before .before .before .before .before .before .loop-test .taken)
+    (c .before .before .before .before .before .before .before .before .if1 .left)
+    (c .before .before .before .before .before .before .before .if2 .left) (search needs) (c .before .before .put-ratio .ensures)
 
 same-length-3 : tie.Need-same-length-3 Inv-loop μ-loop
 same-length-3 c = search putting-length

@@ -22,7 +22,8 @@ less-requires-2 c κs = search needs
 returns-3 : tie.Need-returns-3
 returns-3 c =
     let f = c .before .before .before .before .before .before .fits in
-    above-second _ _ _ _ _ (c .before .before .before .before .before .if1 .left) _ _ (toZ-ofZ (f .p)) (toZ-ofZ (f .a)) _ (c .before .before .before .before .less .ensures) (c .before .before .before .if2 .left)
+    above-second _ _ _ _ _ (c .before .before .before .before .before .if1 .left) _ _ (toZ-ofZ (f .p)) (toZ-ofZ (f .a)) _
+    (c .before .before .before .before .less .ensures) (c .before .before .before .if2 .left)
     _ (c .before .before .same .ensures) (c .before .if3 .taken) _ _ (toZ-ofZ (f .q)) (toZ-ofZ (f .b)) _ (c .less2 .ensures)
 
 returns-4 : tie.Need-returns-4

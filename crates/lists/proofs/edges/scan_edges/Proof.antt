@@ -28,7 +28,8 @@ number-at-requires c κs = search needs
 
 add-put : tie.Need-add-put Inv-loop μ-loop
 add-put c =
-    let h : length (now (c .before .before .before .before .before .before .before .before .before .before .before .args .s)) < 2 ^ 64 = omega arith in
+    let h : length (now (c .before .before .before .before .before .before .before .before .before .before .before .args .s))
+    < 2 ^ 64 = omega arith in
     record { fits = search gathering-few }
 
 put-requires : tie.Need-put-requires Inv-loop μ-loop

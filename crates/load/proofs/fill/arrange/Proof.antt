@@ -28,9 +28,14 @@ same-length-2 c = search needs
 
 returns : tie.Need-returns
 returns c =
-    let p = c .before .before .before .before .before .before .before .before .before .before .before .before .before .before .before .before .before .before in
+    let p = c .before .before .before .before .before .before .before .before .before .before .before .before .before .before .before
+    .before .before .before in
     let a = p .args in
-    arrange-short _ _ _ _ (now (a .offsets)) (now (a .targets)) (now (a .back)) (now (a .sources)) (p .pre) _ _ _ (c .before .before .before .before .before .before .before .before .before .before .read-edges .ensures) _ (c .before .before .before .before .listed2 .given .1) _ (c .before .before .before .before .before .before .before .before .before .before .read-edges .kept .1 .1 .1 .1 .1 .0) _ (c .before .before .lacks .ensures) (c .before .if1 .taken) _ (c .plain .ensures)
+    arrange-short _ _ _ _ (now (a .offsets)) (now (a .targets)) (now (a .back)) (now (a .sources)) (p .pre) _ _ _
+    (c .before .before .before .before .before .before .before .before .before .before .read-edges .ensures) _
+    (c .before .before .before .before .listed2 .given .1) _
+    (c .before .before .before .before .before .before .before .before .before .before .read-edges .kept .1 .1 .1 .1 .1 .0) _
+    (c .before .before .lacks .ensures) (c .before .if1 .taken) _ (c .plain .ensures)
 
 lacks-requires-2 : tie.Need-lacks-requires-2
 lacks-requires-2 c κs = search needs
@@ -46,9 +51,15 @@ same-length-4 c = search needs
 
 returns-2 : tie.Need-returns-2
 returns-2 c =
-    let p = c .before .before .before .before .before .before .before .before .before .before .before .before .before .before .before .before .before .before .before .before in
+    let p = c .before .before .before .before .before .before .before .before .before .before .before .before .before .before .before
+    .before .before .before .before .before in
     let a = p .args in
-    arrange-short-back _ _ _ _ (now (a .offsets)) (now (a .targets)) (now (a .back)) (now (a .sources)) (p .pre) _ _ _ (c .before .before .before .before .before .before .before .before .before .before .before .before .read-edges .ensures) _ (c .before .before .before .before .before .before .listed2 .given .1) _ (c .before .before .before .before .before .before .before .before .before .before .before .before .read-edges .kept .1 .1 .1 .1 .1 .0) _ (c .before .before .before .before .lacks .ensures) (c .before .before .before .if1 .left) _ (c .before .before .lacks2 .ensures) (c .before .if2 .taken) _ (c .plain2 .ensures)
+    arrange-short-back _ _ _ _ (now (a .offsets)) (now (a .targets)) (now (a .back)) (now (a .sources)) (p .pre) _ _ _
+    (c .before .before .before .before .before .before .before .before .before .before .before .before .read-edges .ensures) _
+    (c .before .before .before .before .before .before .listed2 .given .1) _
+    (c .before .before .before .before .before .before .before .before .before .before .before .before .read-edges .kept .1 .1 .1 .1 .1
+    .0) _ (c .before .before .before .before .lacks .ensures) (c .before .before .before .if1 .left) _
+    (c .before .before .lacks2 .ensures) (c .before .if2 .taken) _ (c .plain2 .ensures)
 
 add-sum-up : tie.Need-add-sum-up
 add-sum-up c = search needs
@@ -69,7 +80,8 @@ returns-3 : tie.Need-returns-3
 returns-3 c =
     let p = c .before .before .before .before .before .before .before .before .before .before .before .before .before .before .before in
     let a = p .args in
-    arrange-refused _ _ _ _ (now (a .offsets)) (now (a .targets)) (now (a .back)) (now (a .sources)) (p .pre) _ _ _ (c .before .before .before .before .before .before .before .read-edges .ensures) _ (c .before .listed .given .1)
+    arrange-refused _ _ _ _ (now (a .offsets)) (now (a .targets)) (now (a .back)) (now (a .sources)) (p .pre) _ _ _
+    (c .before .before .before .before .before .before .before .read-edges .ensures) _ (c .before .listed .given .1)
 
 same-length-7 : tie.Need-same-length-7
 same-length-7 c = search needs
@@ -85,9 +97,23 @@ same-length-10 c = search needs
 
 returns-4 : tie.Need-returns-4
 returns-4 c =
-    let p = c .before .before .before .before .before .before .before .before .before .before .before .before .before .before .before .before .before .before .before .before .before .before .before .before .before .before .before .before .before .before .before .before in
+    let p = c .before .before .before .before .before .before .before .before .before .before .before .before .before .before .before
+    .before .before .before .before .before .before .before .before .before .before .before .before .before .before .before .before
+    .before in
     let a = p .args in
-    arrange-end _ _ _ _ (now (a .offsets)) (now (a .targets)) (now (a .back)) (now (a .sources)) (p .pre) _ _ _ (c .before .before .before .before .before .before .before .before .before .before .before .before .before .before .before .before .before .before .before .before .before .before .before .before .read-edges .ensures) _ (c .before .before .before .before .before .before .before .before .before .before .before .before .before .before .before .before .before .before .listed2 .given .1) _ (c .before .before .before .before .before .before .before .before .before .before .before .before .before .before .before .before .before .before .before .before .before .before .before .before .read-edges .kept .1 .1 .1 .1 .1 .0) _ (c .before .before .before .before .before .before .before .before .before .before .before .before .before .before .before .before .lacks .ensures) (c .before .before .before .before .before .before .before .before .before .before .before .before .before .before .before .if1 .left) _ (c .before .before .before .before .before .before .before .before .before .before .before .before .before .before .lacks2 .ensures) (c .before .before .before .before .before .before .before .before .before .before .before .before .before .if2 .left) (omega arith) _ (c .before .before .before .before .before .before .before .before .before .before .before .sum-up .ensures) _ _ _ (c .before .before .before .before .spread .ensures)
+    arrange-end _ _ _ _ (now (a .offsets)) (now (a .targets)) (now (a .back)) (now (a .sources)) (p .pre) _ _ _
+    (c .before .before .before .before .before .before .before .before .before .before .before .before .before .before .before .before
+    .before .before .before .before .before .before .before .before .read-edges .ensures) _
+    (c .before .before .before .before .before .before .before .before .before .before .before .before .before .before .before .before
+    .before .before .listed2 .given .1) _ (c .before .before .before .before .before .before .before .before .before .before .before
+    .before .before .before .before .before .before .before .before .before .before .before .before .before .read-edges .kept .1 .1 .1
+    .1 .1 .0) _ (c .before .before .before .before .before .before .before .before .before .before .before .before .before .before
+    .before .before .lacks .ensures) (c .before .before .before .before .before .before .before .before .before .before .before .before
+    .before .before .before .if1 .left) _ (c .before .before .before .before .before .before .before .before .before .before .before
+    .before .before .before .lacks2 .ensures) (c .before .before .before .before .before .before .before .before .before .before .before
+    .before .before .if2 .left) (omega arith) _
+    (c .before .before .before .before .before .before .before .before .before .before .before .sum-up .ensures) _ _ _
+    (c .before .before .before .before .spread .ensures)
 
 pub arrange-spec : {M : Type 1} → statement M
 arrange-spec =

@@ -14,7 +14,15 @@ enum-known-listed-2 : tie.Need-enum-known-listed-2
 enum-known-listed-2 c = search needs
 
 add-arcs : tie.Need-add-arcs
-add-arcs c = omega (arith, undirected-fits _ _ _ _ _ _ _ (c .before .before .before .before .before .before .before .before .before .before .before .before .before .before .before .before .before .before .before .before .before .pre .rise) _ _ _ _ _ (c .before .before .before .before .before .before .before .before .before .before .before .arrange .ensures) _ (c .before .listed2 .given .1))
+add-arcs c =
+    omega (
+      arith,
+      undirected-fits _ _ _ _ _ _ _ (c .before .before .before .before .before .before .before .before .before .before .before .before
+          .before
+          .before .before .before .before .before .before .before .before .pre .rise) _ _ _ _ _
+          (c .before .before .before .before .before .before .before .before .before .before .before .arrange .ensures) _
+          (c .before .listed2 .given .1),
+    )
 
 add-copy : tie.Need-add-copy
 add-copy c = search needs

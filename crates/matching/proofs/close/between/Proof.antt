@@ -14,7 +14,8 @@ is-greater-requires c κs = search needs
 returns : tie.Need-returns
 returns c =
     let a = c .before .before .before .args in
-    let h : a .d * a .n < a .low * 10 ^ a .k = greater-yes (a .low * 10 ^ a .k) (a .d * a .n) (c .before .before .order-scaled .ensures) (c .before .is-greater .ensures) (c .if1 .taken) in
+    let h : a .d * a .n < a .low * 10 ^ a .k = greater-yes (a .low * 10 ^ a .k) (a .d * a .n) (c .before .before .order-scaled .ensures)
+    (c .before .is-greater .ensures) (c .if1 .taken) in
     simp (lt-leb _ _ h)
 
 order-scaled-requires-2 : tie.Need-order-scaled-requires-2
@@ -26,15 +27,21 @@ is-less-requires c κs = search needs
 returns-2 : tie.Need-returns-2
 returns-2 c =
     let a = c .before .before .before .before .before .before .args in
-    let g : a .low * 10 ^ a .k ≤ a .d * a .n = greater-no (a .low * 10 ^ a .k) (a .d * a .n) (c .before .before .before .before .before .order-scaled .ensures) (c .before .before .before .before .is-greater .ensures) (c .before .before .before .if1 .left) in
-    let h : a .high * 10 ^ a .k < a .d * a .n = less-yes (a .high * 10 ^ a .k) (a .d * a .n) (c .before .before .order-scaled2 .ensures) (c .before .is-less .ensures) (c .if2 .taken) in
+    let g : a .low * 10 ^ a .k ≤ a .d * a .n = greater-no (a .low * 10 ^ a .k) (a .d * a .n)
+    (c .before .before .before .before .before .order-scaled .ensures) (c .before .before .before .before .is-greater .ensures)
+    (c .before .before .before .if1 .left) in
+    let h : a .high * 10 ^ a .k < a .d * a .n = less-yes (a .high * 10 ^ a .k) (a .d * a .n) (c .before .before .order-scaled2 .ensures)
+    (c .before .is-less .ensures) (c .if2 .taken) in
     simp (le-leb _ _ g, lt-leb _ _ h)
 
 returns-3 : tie.Need-returns-3
 returns-3 c =
     let a = c .before .before .before .before .before .before .args in
-    let g : a .low * 10 ^ a .k ≤ a .d * a .n = greater-no (a .low * 10 ^ a .k) (a .d * a .n) (c .before .before .before .before .before .order-scaled .ensures) (c .before .before .before .before .is-greater .ensures) (c .before .before .before .if1 .left) in
-    let h : a .d * a .n ≤ a .high * 10 ^ a .k = less-no (a .high * 10 ^ a .k) (a .d * a .n) (c .before .before .order-scaled2 .ensures) (c .before .is-less .ensures) (c .if2 .left) in
+    let g : a .low * 10 ^ a .k ≤ a .d * a .n = greater-no (a .low * 10 ^ a .k) (a .d * a .n)
+    (c .before .before .before .before .before .order-scaled .ensures) (c .before .before .before .before .is-greater .ensures)
+    (c .before .before .before .if1 .left) in
+    let h : a .d * a .n ≤ a .high * 10 ^ a .k = less-no (a .high * 10 ^ a .k) (a .d * a .n) (c .before .before .order-scaled2 .ensures)
+    (c .before .is-less .ensures) (c .if2 .left) in
     simp (le-leb _ _ g, le-leb _ _ h)
 
 pub between-spec : {M : Type 1} → statement M

@@ -28,7 +28,8 @@ returns : tie.Need-returns Inv-loop μ-loop
 returns c =
     let a = c .before .before .before .args in
     let l = c .before .before .loop in
-    sym (above (a .y) (a .n) (a .d) (l .quo * 10 + l .rem * 10 / a .n) (l .rem * 10 % a .n) (l .j + 1) (a .k) (c .before .before .before .pre .0)
+    sym (above (a .y) (a .n) (a .d) (l .quo * 10 + l .rem * 10 / a .n) (l .rem * 10 % a .n) (l .j + 1) (a .k)
+    (c .before .before .before .pre .0)
     (next-digit (a .y) (a .n) (l .quo) (l .rem) (l .j) (l .inv .1)) (omega arith) (search needs))
 
 mul-next : tie.Need-mul-next Inv-loop μ-loop
@@ -47,7 +48,8 @@ returns-2 : tie.Need-returns-2 Inv-loop μ-loop
 returns-2 c =
     let a = c .before .before .before .before .args in
     let l = c .before .before .before .loop in
-    sym (above (a .y) (a .n) (a .d) (l .quo * 10 + l .rem * 10 / a .n) (l .rem * 10 % a .n) (l .j + 1) (a .k) (c .before .before .before .before .pre .0)
+    sym (above (a .y) (a .n) (a .d) (l .quo * 10 + l .rem * 10 / a .n) (l .rem * 10 % a .n) (l .j + 1) (a .k)
+    (c .before .before .before .before .pre .0)
     (next-digit (a .y) (a .n) (l .quo) (l .rem) (l .j) (l .inv .1)) (omega arith) (search needs))
 
 add-quo : tie.Need-add-quo Inv-loop μ-loop
@@ -68,14 +70,18 @@ loop-less c = search needs
 loop-again : tie.Need-loop-again Inv-loop μ-loop
 loop-again c =
     let a = c .before .before .before .before .args in
-    let l = c .before .before .before .loop in
-    (search needs, next-digit (a .y) (a .n) (l .quo) (l .rem) (l .j) (l .inv .1), mod-lt (l .rem * 10) (c .before .before .before .before .pre .0))
+    let l = c .before .before .before .loop in (
+      search needs,
+      next-digit (a .y) (a .n) (l .quo) (l .rem) (l .j) (l .inv .1),
+      mod-lt (l .rem * 10) (c .before .before .before .before .pre .0),
+    )
 
 returns-3 : tie.Need-returns-3 Inv-loop μ-loop
 returns-3 c =
     let a = c .before .before .before .args in
     let l = c .before .before .loop in
-    sym (above (a .y) (a .n) (a .d) (l .quo) (l .rem) (l .j) (a .k) (c .before .before .before .pre .0) (l .inv .1) (search needs) (search needs))
+    sym (above (a .y) (a .n) (a .d) (l .quo) (l .rem) (l .j) (a .k) (c .before .before .before .pre .0) (l .inv .1) (search needs)
+    (search needs))
 
 returns-4 : tie.Need-returns-4 Inv-loop μ-loop
 returns-4 c =

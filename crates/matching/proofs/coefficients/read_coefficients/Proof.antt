@@ -1,6 +1,7 @@
 use borrow.Author.Needs.{needs}
 use Prim.Native.Nat.{_-_}
-use Rattle.matching.proofs.DecimalLines.{Decimals, decimals-none, decimals-next, decimals-end, decimals-fault, decimals-over, decimals-full}
+use Rattle.matching.proofs.DecimalLines.{Decimals, decimals-none, decimals-next, decimals-end}
+use Rattle.matching.proofs.DecimalLines.{decimals-fault, decimals-over, decimals-full}
 use Rattle.matching.proofs.coefficients.read_coefficients.Statement.{statement}
 use Rattle.matching.proofs.coefficients.read_coefficients.Tie as tie
 

@@ -84,7 +84,11 @@ returns : tie.Need-returns Inv-loop μ-loop Inv-lines μ-lines
 returns c = search unlike-end
 
 returns-2 : tie.Need-returns-2 Inv-loop μ-loop Inv-lines μ-lines
-returns-2 c = unlike-here _ _ _ _ (c .before .before .before .before .before .before .before .before .before .lines .inv .1) (search needs) _ (c .before .before .before .before .before .before .before .loop .inv .1) (bits-back _ (c .before .before .before .before .before .unlike-arg .given)) (bits-back _ (c .before .before .before .before .unlike-arg2 .given)) (bits-back _ (c .before .before .before .unlike-arg3 .given)) (bits-back _ (c .before .before .unlike-arg4 .given)) (c .before .unlike .ensures) (search needs) (c .if2 .taken)
+returns-2 c = unlike-here _ _ _ _ (c .before .before .before .before .before .before .before .before .before .lines .inv .1) (search needs)
+    _ (c .before .before .before .before .before .before .before .loop .inv .1)
+    (bits-back _ (c .before .before .before .before .before .unlike-arg .given))
+    (bits-back _ (c .before .before .before .before .unlike-arg2 .given)) (bits-back _ (c .before .before .before .unlike-arg3 .given))
+    (bits-back _ (c .before .before .unlike-arg4 .given)) (c .before .unlike .ensures) (search needs) (c .if2 .taken)
 
 pub first-unlike-spec : {M : Type 1} → statement M
 first-unlike-spec =

@@ -6,7 +6,8 @@ use Rattle.matching.proofs.reading.read_numbers.Statement.{statement}
 use Rattle.matching.proofs.reading.read_numbers.Tie as tie
 
 abbrev Inv-loop : tie.InvT-loop
-Inv-loop most ids claim claimed₀ n cursor₀ k₀ incomplete₀ claimed cursor k incomplete = Numbers most ids claim (length claimed₀) claimed (cursor .at) k incomplete
+Inv-loop most ids claim claimed₀ n cursor₀ k₀ incomplete₀ claimed cursor k incomplete =
+    Numbers most ids claim (length claimed₀) claimed (cursor .at) k incomplete
 
 abbrev μ-loop : tie.MeasureT-loop
 μ-loop most ids claim claimed₀ n cursor₀ k₀ incomplete₀ claimed cursor k incomplete = most - k

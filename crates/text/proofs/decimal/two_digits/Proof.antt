@@ -14,7 +14,14 @@ mul-result : tie.Need-mul-result
 mul-result c = omega (arith, c .before .digit-of .ensures, digit-small (c .before .before .args .x))
 
 add-result : tie.Need-add-result
-add-result c = omega (arith, c .before .digit-of .ensures, c .digit-of2 .ensures, digit-small (c .before .before .args .x), digit-small (c .before .before .args .y))
+add-result c =
+    omega (
+      arith,
+      c .before .digit-of .ensures,
+      c .digit-of2 .ensures,
+      digit-small (c .before .before .args .x),
+      digit-small (c .before .before .args .y),
+    )
 
 returns : tie.Need-returns
 returns c = search needs

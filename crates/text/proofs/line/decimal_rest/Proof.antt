@@ -25,7 +25,13 @@ enum-known-x : tie.Need-enum-known-x
 enum-known-x c = search needs
 
 add-t12 : tie.Need-add-t12
-add-t12 c = omega (arith, rest-inside _ _ _ (c .before .before .before .before .before .line-end .ensures) _ (c .before .before .before .decimal-of .ensures) (c .before .before .before .before .before .before .before .pre) _ (c .before .x .given .1))
+add-t12 c =
+    omega (
+      arith,
+      rest-inside _ _ _ (c .before .before .before .before .before .line-end .ensures) _
+          (c .before .before .before .decimal-of .ensures) (c .before .before .before .before .before .before .before .pre) _
+          (c .before .x .given .1),
+    )
 
 enum-known-x-2 : tie.Need-enum-known-x-2
 enum-known-x-2 c = search needs

@@ -70,7 +70,14 @@ returns-2 c = search host-refused
 
 returns-3 : tie.Need-returns-3
 returns-3 c =
-    host-judged _ _ _ _ _ _ _ (c .before .before .before .before .before .before .before .before .before .before .before .before .before .before .before .before .before .before .before .before .before .is-known .ensures) (c .before .before .before .before .before .before .before .before .before .before .before .before .before .before .before .before .before .before .before .before .if1 .left) _ _ _ _ _ _ (c .before .before .before .before .before .before .before .before .before .before .before .before .before .before .load-within .ensures) _ (c .before .before .before .before .before .before .before .loaded2 .given .1) _ (toZ-ofZ (c .before .before .before .before .before .before .before .before .before .before .before .before .before .before .before .before .before .before .before .before .before .before .before .before .before .fits .parameter)) _ (c .judge-loaded .ensures)
+    host-judged _ _ _ _ _ _ _ (c .before .before .before .before .before .before .before .before .before .before .before .before .before
+    .before .before .before .before .before .before .before .before .is-known .ensures)
+    (c .before .before .before .before .before .before .before .before .before .before .before .before .before .before .before .before
+    .before .before .before .before .if1 .left) _ _ _ _ _ _
+    (c .before .before .before .before .before .before .before .before .before .before .before .before .before .before .load-within
+    .ensures) _ (c .before .before .before .before .before .before .before .loaded2 .given .1) _
+    (toZ-ofZ (c .before .before .before .before .before .before .before .before .before .before .before .before .before .before .before
+    .before .before .before .before .before .before .before .before .before .before .fits .parameter)) _ (c .judge-loaded .ensures)
 
 pub trace-verdict-spec : {M : Type 1} → statement M
 trace-verdict-spec =

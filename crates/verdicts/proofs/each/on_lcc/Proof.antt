@@ -8,7 +8,8 @@ lcc-requires c κs = search needs
 
 terms-on-requires : tie.Need-terms-on-requires
 terms-on-requires c κs =
-    let a = c .before .before .before .before .before .before .before .before .before .before .before .before .before .before .before .before .before .before .before .before in
+    let a = c .before .before .before .before .before .before .before .before .before .before .before .before .before .before .before
+    .before .before .before .before .before in
     let e = c .before .before .before .before .before .before .before .before .lcc .ensures in
     (lcc-known _ _ _ _ e, lcc-roomy _ _ _ _ e (a .pre .0))
 

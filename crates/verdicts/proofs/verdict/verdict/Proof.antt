@@ -23,7 +23,8 @@ same-length-5 c = search needs
 
 returns : tie.Need-returns
 returns c =
-    let a = c .before .before .before .before .before .before .before .before .before .before .before .before .before .before .before .before .before .before .before .before .before .before in
+    let a = c .before .before .before .before .before .before .before .before .before .before .before .before .before .before .before
+    .before .before .before .before .before .before .before in
     rw (toZ-ofZ (a .fits .parameter)) at (c .before .before .before .before .before .before .before .before .verdict-within .ensures)
 
 pub verdict-spec : {M : Type 1} → statement M

@@ -14,7 +14,9 @@ clear-requires-2 : tie.Need-clear-requires-2
 clear-requires-2 c κs = search needs
 
 on-bfs-requires : tie.Need-on-bfs-requires
-on-bfs-requires c κs = let h = roomy _ _ _ _ _ _ (c .before .before .before .before .before .before .before .before .before .before .before .before .has-room .ensures) in (h .0, h .1 .0)
+on-bfs-requires c κs =
+    let h = roomy _ _ _ _ _ _ (c .before .before .before .before .before .before .before .before .before .before .before .before .has-room
+    .ensures) in (h .0, h .1 .0)
 
 same-length : tie.Need-same-length
 same-length c = search needs
@@ -32,13 +34,23 @@ same-length-5 : tie.Need-same-length-5
 same-length-5 c = search needs
 
 returns : tie.Need-returns
-returns c = verdict-bfs _ _ _ _ _ _ _ _ _ _ (c .before .before .before .before .before .before .before .before .before .before .before .before .before .before .before .before .before .has-room .ensures) (toZ-ofZ (c .before .before .before .before .before .before .before .before .before .before .before .before .before .before .before .before .before .before .before .before .before .before .before .before .before .before .fits .parameter)) (c .before .before .before .before .before .before .before .before .before .before .before .before .before .before .before .before .if1 .taken) (c .before .before .before .before .on-bfs .ensures .0) (c .before .before .before .before .on-bfs .ensures .1) (c .before .before .before .before .before .before .before .before .before .before .before .before .before .before .clear .ensures) (c .before .before .before .before .before .before .before .before .before .before .clear2 .ensures)
+returns c =
+    verdict-bfs _ _ _ _ _ _ _ _ _ _ (c .before .before .before .before .before .before .before .before .before .before .before .before
+    .before .before .before .before .before .has-room .ensures)
+    (toZ-ofZ (c .before .before .before .before .before .before .before .before .before .before .before .before .before .before .before
+    .before .before .before .before .before .before .before .before .before .before .before .fits .parameter))
+    (c .before .before .before .before .before .before .before .before .before .before .before .before .before .before .before .before .if1
+    .taken) (c .before .before .before .before .on-bfs .ensures .0) (c .before .before .before .before .on-bfs .ensures .1)
+    (c .before .before .before .before .before .before .before .before .before .before .before .before .before .before .clear .ensures)
+    (c .before .before .before .before .before .before .before .before .before .before .clear2 .ensures)
 
 clear-requires-3 : tie.Need-clear-requires-3
 clear-requires-3 c κs = search needs
 
 on-wcc-requires : tie.Need-on-wcc-requires
-on-wcc-requires c κs = let h = roomy _ _ _ _ _ _ (c .before .before .before .before .before .before .before .before .before .before .has-room .ensures) in (h .0, (h .1 .0, h .1 .1))
+on-wcc-requires c κs =
+    let h = roomy _ _ _ _ _ _ (c .before .before .before .before .before .before .before .before .before .before .has-room .ensures) in
+    (h .0, (h .1 .0, h .1 .1))
 
 same-length-6 : tie.Need-same-length-6
 same-length-6 c = search needs
@@ -56,10 +68,18 @@ same-length-10 : tie.Need-same-length-10
 same-length-10 c = search needs
 
 returns-2 : tie.Need-returns-2
-returns-2 c = verdict-wcc _ _ _ _ _ _ _ _ _ _ (c .before .before .before .before .before .before .before .before .before .before .before .before .before .before .before .before .before .has-room .ensures) (c .before .before .before .before .before .before .before .before .before .before .before .before .before .before .before .before .if1 .left) (c .before .before .before .before .before .before .before .before .before .before .before .before .before .before .before .if2 .taken) (c .before .before .before .before .before .before .on-wcc .ensures .0) (c .before .before .before .before .before .before .on-wcc .ensures .1) (c .before .before .before .before .before .before .before .before .before .before .before .before .before .clear3 .ensures)
+returns-2 c =
+    verdict-wcc _ _ _ _ _ _ _ _ _ _ (c .before .before .before .before .before .before .before .before .before .before .before .before
+    .before .before .before .before .before .has-room .ensures)
+    (c .before .before .before .before .before .before .before .before .before .before .before .before .before .before .before .before .if1
+    .left) (c .before .before .before .before .before .before .before .before .before .before .before .before .before .before .before .if2
+    .taken) (c .before .before .before .before .before .before .on-wcc .ensures .0)
+    (c .before .before .before .before .before .before .on-wcc .ensures .1)
+    (c .before .before .before .before .before .before .before .before .before .before .before .before .before .clear3 .ensures)
 
 on-cdlp-requires : tie.Need-on-cdlp-requires
-on-cdlp-requires c κs = let h = roomy _ _ _ _ _ _ (c .before .before .before .before .before .before .before .before .has-room .ensures) in (h .0, h .1)
+on-cdlp-requires c κs =
+    let h = roomy _ _ _ _ _ _ (c .before .before .before .before .before .before .before .before .has-room .ensures) in (h .0, h .1)
 
 same-length-11 : tie.Need-same-length-11
 same-length-11 c = search needs
@@ -77,7 +97,16 @@ same-length-15 : tie.Need-same-length-15
 same-length-15 c = search needs
 
 returns-3 : tie.Need-returns-3
-returns-3 c = verdict-cdlp _ _ _ _ _ _ _ _ _ _ (c .before .before .before .before .before .before .before .before .before .before .before .before .before .before .before .before .before .has-room .ensures) (toZ-ofZ (c .before .before .before .before .before .before .before .before .before .before .before .before .before .before .before .before .before .before .before .before .before .before .before .before .before .before .fits .parameter)) (c .before .before .before .before .before .before .before .before .before .before .before .before .before .before .before .before .if1 .left) (c .before .before .before .before .before .before .before .before .before .before .before .before .before .before .before .if2 .left) (c .before .before .before .before .before .before .before .before .before .before .before .before .before .before .if3 .taken) (c .before .before .before .before .before .before .before .before .on-cdlp .ensures .0) (c .before .before .before .before .before .before .before .before .on-cdlp .ensures .1)
+returns-3 c =
+    verdict-cdlp _ _ _ _ _ _ _ _ _ _ (c .before .before .before .before .before .before .before .before .before .before .before .before
+    .before .before .before .before .before .has-room .ensures)
+    (toZ-ofZ (c .before .before .before .before .before .before .before .before .before .before .before .before .before .before .before
+    .before .before .before .before .before .before .before .before .before .before .before .fits .parameter))
+    (c .before .before .before .before .before .before .before .before .before .before .before .before .before .before .before .before .if1
+    .left) (c .before .before .before .before .before .before .before .before .before .before .before .before .before .before .before .if2
+    .left) (c .before .before .before .before .before .before .before .before .before .before .before .before .before .before .if3 .taken)
+    (c .before .before .before .before .before .before .before .before .on-cdlp .ensures .0)
+    (c .before .before .before .before .before .before .before .before .on-cdlp .ensures .1)
 
 clear-signed-requires : tie.Need-clear-signed-requires
 clear-signed-requires c κs = search needs
@@ -86,7 +115,9 @@ clear-signed-requires-2 : tie.Need-clear-signed-requires-2
 clear-signed-requires-2 c κs = search needs
 
 on-lcc-requires : tie.Need-on-lcc-requires
-on-lcc-requires c κs = let h = roomy _ _ _ _ _ _ (c .before .before .before .before .before .before .before .before .before .before .before .before .before .has-room .ensures) in ((h .1 .0, h .1 .1), h .1 .2)
+on-lcc-requires c κs =
+    let h = roomy _ _ _ _ _ _ (c .before .before .before .before .before .before .before .before .before .before .before .before .before
+    .has-room .ensures) in ((h .1 .0, h .1 .1), h .1 .2)
 
 same-length-16 : tie.Need-same-length-16
 same-length-16 c = search needs
@@ -104,7 +135,18 @@ same-length-20 : tie.Need-same-length-20
 same-length-20 c = search needs
 
 returns-4 : tie.Need-returns-4
-returns-4 c = verdict-lcc _ _ _ _ _ _ _ _ _ _ (c .before .before .before .before .before .before .before .before .before .before .before .before .before .before .before .before .before .before .before .before .has-room .ensures) (c .before .before .before .before .before .before .before .before .before .before .before .before .before .before .before .before .before .before .before .if1 .left) (c .before .before .before .before .before .before .before .before .before .before .before .before .before .before .before .before .before .before .if2 .left) (c .before .before .before .before .before .before .before .before .before .before .before .before .before .before .before .before .before .if3 .left) (c .before .before .before .before .before .before .before .before .before .before .before .before .before .before .before .before .if4 .taken) (c .before .before .before .before .before .before .on-lcc .ensures .0) (c .before .before .before .before .before .before .before .before .before .before .before .before .before .before .clear-signed .ensures) (c .before .before .before .before .before .before .before .before .before .before .before .clear-signed2 .ensures) (c .before .before .before .before .before .before .on-lcc .ensures .1)
+returns-4 c =
+    verdict-lcc _ _ _ _ _ _ _ _ _ _ (c .before .before .before .before .before .before .before .before .before .before .before .before
+    .before .before .before .before .before .before .before .before .has-room .ensures)
+    (c .before .before .before .before .before .before .before .before .before .before .before .before .before .before .before .before
+    .before .before .before .if1 .left) (c .before .before .before .before .before .before .before .before .before .before .before .before
+    .before .before .before .before .before .before .if2 .left)
+    (c .before .before .before .before .before .before .before .before .before .before .before .before .before .before .before .before
+    .before .if3 .left) (c .before .before .before .before .before .before .before .before .before .before .before .before .before .before
+    .before .before .if4 .taken) (c .before .before .before .before .before .before .on-lcc .ensures .0)
+    (c .before .before .before .before .before .before .before .before .before .before .before .before .before .before .clear-signed
+    .ensures) (c .before .before .before .before .before .before .before .before .before .before .before .clear-signed2 .ensures)
+    (c .before .before .before .before .before .before .on-lcc .ensures .1)
 
 refuse-unknown-requires : tie.Need-refuse-unknown-requires
 refuse-unknown-requires c κs = search needs
@@ -125,7 +167,13 @@ same-length-25 : tie.Need-same-length-25
 same-length-25 c = search needs
 
 returns-5 : tie.Need-returns-5
-returns-5 c = verdict-unknown _ _ _ _ _ _ _ _ _ _ (c .before .before .before .before .before .before .before .before .before .before .before .before .before .before .before .before .before .if1 .left) (c .before .before .before .before .before .before .before .before .before .before .before .before .before .before .before .before .if2 .left) (c .before .before .before .before .before .before .before .before .before .before .before .before .before .before .before .if3 .left) (c .before .before .before .before .before .before .before .before .before .before .before .before .before .before .if4 .left) (c .before .before .before .before .before .before .before .before .refuse-unknown .ensures)
+returns-5 c =
+    verdict-unknown _ _ _ _ _ _ _ _ _ _ (c .before .before .before .before .before .before .before .before .before .before .before .before
+    .before .before .before .before .before .if1 .left)
+    (c .before .before .before .before .before .before .before .before .before .before .before .before .before .before .before .before .if2
+    .left) (c .before .before .before .before .before .before .before .before .before .before .before .before .before .before .before .if3
+    .left) (c .before .before .before .before .before .before .before .before .before .before .before .before .before .before .if4 .left)
+    (c .before .before .before .before .before .before .before .before .refuse-unknown .ensures)
 
 pub verdict-within-spec : {M : Type 1} → statement M
 verdict-within-spec =

@@ -11,7 +11,9 @@ use Rattle.wcc.proofs.groups.join_arcs.Statement.{statement}
 use Rattle.wcc.proofs.groups.join_arcs.Tie as tie
 
 abbrev Inv-loop : tie.InvT-loop
-Inv-loop n offsets targets parents₀ sizes₀ u₀ parents sizes u = (u ≤ n) × (length parents ≡ length parents₀) × (length sizes ≡ length sizes₀) × (areas parents sizes ≡ joinArcs (partOf n offsets targets) u (areas parents₀ sizes₀))
+Inv-loop n offsets targets parents₀ sizes₀ u₀ parents sizes u =
+    (u ≤ n) × (length parents ≡ length parents₀) × (length sizes ≡ length sizes₀)
+    × (areas parents sizes ≡ joinArcs (partOf n offsets targets) u (areas parents₀ sizes₀))
 
 abbrev μ-loop : tie.MeasureT-loop
 μ-loop n offsets targets parents₀ sizes₀ u₀ parents sizes u = n - u

@@ -10,13 +10,17 @@ use Rattle.wcc.proofs.labels.mark.Statement.{statement}
 use Rattle.wcc.proofs.labels.mark.Tie as tie
 
 abbrev Inv-loop : tie.InvT-loop
-Inv-loop parents sizes ids result₀ n i₀ result i = (i ≤ n) × (length result ≡ length result₀) × (marked (headHere parents sizes) ids (n - i) result ≡ marked (headHere parents sizes) ids (length result₀) result₀)
+Inv-loop parents sizes ids result₀ n i₀ result i =
+    (i ≤ n) × (length result ≡ length result₀) × (marked (headHere parents sizes) ids (n - i) result
+    ≡ marked (headHere parents sizes) ids (length result₀) result₀)
 
 abbrev μ-loop : tie.MeasureT-loop
 μ-loop parents sizes ids result₀ n i₀ result i = n - i
 
 below : (c : tie.After-head-of Inv-loop μ-loop) → c .head-of .result < length (c .before .before .loop .result)
-below c = head-below _ _ _ _ _ (c .before .before .before .before .before .pre .0) (c .before .before .loop .inv .1) (c .head-of .ensures) (omega arith)
+below c =
+    head-below _ _ _ _ _ (c .before .before .before .before .before .pre .0) (c .before .before .loop .inv .1) (c .head-of .ensures)
+    (omega arith)
 
 loop-holds : tie.Need-loop-holds Inv-loop μ-loop
 loop-holds c = (omega arith, refl, search mark-none)

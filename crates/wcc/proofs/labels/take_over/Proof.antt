@@ -10,13 +10,16 @@ use Rattle.wcc.proofs.labels.take_over.Statement.{statement}
 use Rattle.wcc.proofs.labels.take_over.Tie as tie
 
 abbrev Inv-loop : tie.InvT-loop
-Inv-loop parents sizes result₀ v₀ result v = (v ≤ length result₀) × (length result ≡ length result₀) × (result ≡ takenOver (headHere parents sizes) v result₀)
+Inv-loop parents sizes result₀ v₀ result v =
+    (v ≤ length result₀) × (length result ≡ length result₀) × (result ≡ takenOver (headHere parents sizes) v result₀)
 
 abbrev μ-loop : tie.MeasureT-loop
 μ-loop parents sizes result₀ v₀ result v = length result₀ - v
 
 below : (c : tie.After-head-of Inv-loop μ-loop) → c .head-of .result < length (c .before .before .loop .result)
-below c = head-below _ _ _ _ _ (c .before .before .before .before .before .pre) (c .before .before .loop .inv .1) (c .head-of .ensures) (omega arith)
+below c =
+    head-below _ _ _ _ _ (c .before .before .before .before .before .pre) (c .before .before .loop .inv .1) (c .head-of .ensures)
+    (omega arith)
 
 loop-holds : tie.Need-loop-holds Inv-loop μ-loop
 loop-holds c = (omega arith, refl, search take-none)
