@@ -2,6 +2,8 @@
 pub mod Tests
 pub mod Saids
 pub mod Scans
+pub mod Firsts
+pub mod Closures
 pub mod Orders
 pub mod Sets
 pub mod Areas

@@ -4,7 +4,7 @@ use mathlib.Core.Path.{_≡_, refl, sym, ap, _∙_}
 use mathlib.Core.Logic.{_⊎_, inl, inr}
 use mathlib.Core.Bool.{Bool, true, false, cond}
 use Rattle.basis.specs.declared.refusal.Refusal.{Refusal}
-use Rattle.basis.specs.Refusal.{Said, gives, refuses, plain, onward, said, check}
+use Rattle.basis.specs.Refusal.{Said, gives, refuses, plain, onward, mapped, check}
 use Rattle.basis.proofs.Tests.{no-case}
 
 -- what has a way back is injective: an answer is determined by what it says
@@ -43,13 +43,13 @@ module _ {A B : Type 0} where
   onward-refused (gives x) f r e = inr (x, refl, e)
   onward-refused (refuses q) f r e = inl (cc)
 
-  pub said-gives : (f : A → B) (s : Said A) (y : B) → gives y ≡ said f s → (x : A) × (s ≡ gives x) × (y ≡ f x)
-  said-gives f (gives x) y e = (x, refl, given-one e)
-  said-gives f (refuses r) y e = refused-given (sym e)
+  pub mapped-gives : (f : A → B) (s : Said A) (y : B) → gives y ≡ mapped f s → (x : A) × (s ≡ gives x) × (y ≡ f x)
+  mapped-gives f (gives x) y e = (x, refl, given-one e)
+  mapped-gives f (refuses r) y e = refused-given (sym e)
 
-  pub said-refuses : (f : A → B) (s : Said A) (r : Refusal) → refuses r ≡ said f s → s ≡ refuses r
-  said-refuses f (gives x) r e = refused-given e
-  said-refuses f (refuses q) r e = cc
+  pub mapped-refuses : (f : A → B) (s : Said A) (r : Refusal) → refuses r ≡ mapped f s → s ≡ refuses r
+  mapped-refuses f (gives x) r e = refused-given e
+  mapped-refuses f (refuses q) r e = cc
 
 -- ---- what is given has P, a refusal has R
 abbrev pub Either : {A : Type 0} → (A → Type 0) → (Refusal → Type 0) → Said A → Type 0

@@ -2,13 +2,21 @@
 use Prim.Native.Nat.{ℕ, zero, suc, _-_}
 use mathlib.Core.List.{List, [], _∷_, _++_}
 use lib.IntN.{ℤ, pos}
-use lib.ListN.{length, replicate}
+use lib.ListN.{length, take, drop, replicate}
 use Rattle.basis.specs.Refusal.{Said, gives, refuses}
 
 -- f s, f (s + 1), .. : n values
 unfoldable pub column : {A : Type 0} → (ℕ → A) → ℕ → ℕ → List A
 column f s zero = []
 column f s (suc n) = f s ∷ column f (suc s) n
+
+-- each of n places holds its own number
+abbrev pub ownNumbers : ℕ → List ℕ
+ownNumbers n = column (λ v. v) 0 n
+
+-- what stands from one place of a list up to another
+abbrev pub between : {A : Type 0} → ℕ → ℕ → List A → List A
+between from to l = take (to - from) (drop from l)
 
 -- "places beyond the ones used are zero": a list in an area of the given size, with z behind it
 abbrev pub padWith : {A : Type 0} → A → ℕ → List A → List A

@@ -2,5 +2,6 @@
 pub mod Refusal
 pub mod Order
 pub mod Scan
+pub mod Closure
 pub mod Area
 pub mod Limits

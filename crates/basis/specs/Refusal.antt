@@ -86,8 +86,8 @@ onward (gives x) f = f x
 onward (refuses r) f = refuses r
 
 -- the same where nothing more is refused
-abbrev pub said : {A B : Type 0} → (A → B) → Said A → Said B
-said f x = onward x (λ a. gives (f a))
+abbrev pub mapped : {A B : Type 0} → (A → B) → Said A → Said B
+mapped f x = onward x (λ a. gives (f a))
 
 -- a check: what a call says where the test holds, else the refusal with its number, which "meets no line"
 abbrev pub check : {A : Type 0} → Bool → ℕ → Said A → Said A

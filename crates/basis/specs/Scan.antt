@@ -1,5 +1,6 @@
--- Tests of many: of every number below a bound, of each member of a list.
-use Prim.Native.Nat.{ℕ, zero, suc}
+-- Tests of many: of every number below a bound, of each member of a list; and the first number that passes one.
+use Prim.Native.Nat.{ℕ, zero, suc, _<_}
+use mathlib.Core.Path.{_≡_}
 use mathlib.Core.Bool.{Bool, true, false, _&&_, _||_}
 use mathlib.Core.List.{List, [], _∷_}
 use lib.Dec.{eqb, ltb}
@@ -18,6 +19,10 @@ each p (x ∷ l) = p x && each p l
 abbrev pub allBelow : ℕ → List ℕ → Bool
 allBelow n l = each (λ x. ltb x n) l
 
+-- numbers u below n have lists of numbers below n: arcs that stay among n vertices
+abbrev pub Inside : ℕ → (ℕ → List ℕ) → Type 0
+Inside n out = (u : ℕ) → u < n → allBelow n (out u) ≡ true
+
 -- x is a member of a list
 unfoldable pub mem : ℕ → List ℕ → Bool
 mem x [] = false
@@ -27,3 +32,13 @@ mem x (y ∷ l) = eqb x y || mem x l
 abbrev pub orElse : ℕ → ℕ → ℕ
 orElse zero y = y
 orElse (suc n) y = suc n
+
+-- a test as a number to count with: 1 where it holds, else 0
+abbrev pub bit : Bool → ℕ
+bit true = 1
+bit false = 0
+
+-- the first of k, k + 1, .. (f of them) that passes a test, else k + f
+unfoldable pub firstFrom : (ℕ → Bool) → ℕ → ℕ → ℕ
+firstFrom p zero k = k
+firstFrom p (suc f) k = elim (p k) [ true ↦ k | false ↦ firstFrom p f (suc k) ]

@@ -7,7 +7,7 @@ use Rattle.text.specs.Decimal.{digitOf, pastPoint, wholeIsGood, signedPower, po
 use Rattle.text.specs.Line.{lineBy, twoOf}
 use Rattle.text.specs.File.{linesFrom, valuesFrom}
 use Rattle.graph.specs.Find.{placeFrom}
-use Rattle.graph.specs.Part.{between, partOf}
+use Rattle.graph.specs.Part.{targetsBetween, partOf}
 use Rattle.graph.specs.Sound.{soundIds, soundOffsets, soundSide, mirrored, soundSides, soundGraph}
 use Rattle.kernels.specs.Answer.{kernelSays}
 use Rattle.bfs.specs.Depth.{leastFrom, ends, ring, depthOf}
@@ -34,7 +34,7 @@ use Rattle.cases.specs.Cases.{cases, computeds, expecteds}
 
 pub checked : computeds cases ≡ expecteds cases
 unfolding column every each mem within digitOf pastPoint wholeIsGood signedPower powerAt partsOf fractionOf decimalOf lineBy twoOf edgeTest
-    linesFrom valuesFrom arcsRead listsRead loaded outcomeOf loadCall placeFrom between partOf soundIds soundOffsets soundSide mirrored
+    linesFrom valuesFrom arcsRead listsRead loaded outcomeOf loadCall placeFrom targetsBetween partOf soundIds soundOffsets soundSide mirrored
     soundSides soundGraph kernelSays leastFrom ends ring depthOf bfsSays bfsCall beside chain firstFrom first labelOf wcc-roomFor wcc-leftBy
     wccCall times mostTimes standing mostCommon smallest smallestOr nextLabel around labelsAt nextAt oneRound rounds cdlpOf goodRounds
     cdlp-roomFor cdlp-leftBy cdlpCall commonCount euclid gcdOf lowest those neighbours arcsFrom coefficientAmong numerator denominator room

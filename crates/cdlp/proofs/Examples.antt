@@ -5,7 +5,7 @@ use lib.IntN.{pos, negsuc}
 use Rattle.basis.specs.Refusal.{gives, refuses, plain}
 use Rattle.basis.specs.Area.{column}
 use Rattle.basis.specs.Scan.{every, each, mem}
-use Rattle.graph.specs.Part.{between, partOf}
+use Rattle.graph.specs.Part.{targetsBetween, partOf}
 use Rattle.graph.specs.Sound.{soundIds, soundOffsets, soundSide, mirrored, soundSides, soundGraph}
 use Rattle.graph.proofs.Examples.{sheetGraph}
 use Rattle.kernels.specs.Answer.{kernelSays}
@@ -14,12 +14,12 @@ use Rattle.cdlp.specs.Rounds.{around, labelsAt, nextAt, oneRound, rounds
 use Rattle.cdlp.specs.Promise.{goodRounds, roomFor, outcome, leftBy, cdlpCall}
 
 pub p6 : cdlpOf sheetGraph 2 ≡ negsuc 2 ∷ pos 2 ∷ pos 5 ∷ pos 2 ∷ pos 2 ∷ []
-unfolding between partOf column times mostTimes standing mostCommon smallest smallestOr nextLabel around labelsAt nextAt oneRound rounds
+unfolding targetsBetween partOf column times mostTimes standing mostCommon smallest smallestOr nextLabel around labelsAt nextAt oneRound rounds
     cdlpOf
 p6 = refl
 
 pub p8 : cdlpOf sheetGraph 1 ≡ negsuc 2 ∷ pos 5 ∷ pos 2 ∷ pos 2 ∷ pos 9 ∷ []
-unfolding between partOf column times mostTimes standing mostCommon smallest smallestOr nextLabel around labelsAt nextAt oneRound rounds
+unfolding targetsBetween partOf column times mostTimes standing mostCommon smallest smallestOr nextLabel around labelsAt nextAt oneRound rounds
     cdlpOf
 p8 = refl
 
@@ -29,15 +29,15 @@ pub p6-call : cdlpCall sheetGraph (pos 2) (pos 7 ∷ pos 7 ∷ pos 7 ∷ pos 7 �
     ≡ outcome (gives tt) (negsuc 2 ∷ pos 2 ∷ pos 5 ∷ pos 2 ∷ pos 2 ∷ pos 0 ∷ []) (0 ∷ 0 ∷ 0 ∷ 0 ∷ 0 ∷ []) (0 ∷ 0 ∷ 0 ∷ 0 ∷ 0 ∷ [])
     (0 ∷ 0 ∷ 0 ∷ 0 ∷ 0 ∷ 0 ∷ [])
 unfolding cdlpCall leftBy kernelSays goodRounds roomFor soundSides soundGraph soundIds soundSide soundOffsets mirrored every each mem
-    between partOf column times mostTimes standing mostCommon smallest smallestOr nextLabel around labelsAt nextAt oneRound rounds cdlpOf
+    targetsBetween partOf column times mostTimes standing mostCommon smallest smallestOr nextLabel around labelsAt nextAt oneRound rounds cdlpOf
 p6-call = refl
 
 -- a round too many comes before an area too short: 11, then 8; zero rounds of no vertices are answered
 pub too-many : cdlpCall sheetGraph (pos 1001) (pos 7 ∷ []) [] [] [] ≡ outcome (refuses (plain 11)) (pos 0 ∷ []) [] [] []
-unfolding cdlpCall leftBy kernelSays goodRounds soundSides soundGraph soundIds soundSide soundOffsets mirrored every each mem between partOf
+unfolding cdlpCall leftBy kernelSays goodRounds soundSides soundGraph soundIds soundSide soundOffsets mirrored every each mem targetsBetween partOf
 too-many = refl
 
 pub too-short : cdlpCall sheetGraph (pos 1000) (pos 7 ∷ []) (3 ∷ []) [] [] ≡ outcome (refuses (plain 8)) (pos 0 ∷ []) (0 ∷ []) [] []
 unfolding cdlpCall leftBy kernelSays goodRounds roomFor soundSides soundGraph soundIds soundSide soundOffsets mirrored every each mem
-    between partOf
+    targetsBetween partOf
 too-short = refl

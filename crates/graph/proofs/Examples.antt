@@ -6,7 +6,7 @@ use mathlib.Core.List.{List, [], _∷_}
 use lib.IntN.{pos, negsuc}
 use Rattle.basis.specs.Area.{column}
 use Rattle.basis.specs.Scan.{every, each, mem}
-use Rattle.graph.specs.Part.{between, partOf}
+use Rattle.graph.specs.Part.{targetsBetween, partOf}
 use Rattle.graph.specs.Arcs.{Arc, arcs, backward, parts, offsets}
 use Rattle.graph.specs.Sound.{Graph, soundIds, soundOffsets, soundSide, mirrored, soundSides, soundGraph}
 
@@ -27,7 +27,7 @@ sheetGraph =
     }
 
 pub sheet-sound : soundGraph sheetGraph ≡ true
-unfolding soundSides soundGraph soundIds soundOffsets soundSide mirrored every each mem partOf between
+unfolding soundSides soundGraph soundIds soundOffsets soundSide mirrored every each mem partOf targetsBetween
 sheet-sound = refl
 
 -- its areas store its arcs, and their reverse
@@ -62,7 +62,7 @@ pathGraph =
     }
 
 path-sound : soundGraph pathGraph ≡ true
-unfolding column soundSides soundGraph soundIds soundOffsets soundSide mirrored every each mem partOf between
+unfolding column soundSides soundGraph soundIds soundOffsets soundSide mirrored every each mem partOf targetsBetween
 path-sound = refl
 
 -- ---- the sheet's graph without the inward arc 9 20, and with 5 20 in its place
@@ -79,9 +79,9 @@ damagedGraph offsets sources =
     }
 
 missing-unsound : soundGraph (damagedGraph (0 ∷ 0 ∷ 1 ∷ 2 ∷ 4 ∷ 4 ∷ []) (2 ∷ 1 ∷ 1 ∷ 2 ∷ 0 ∷ [])) ≡ false
-unfolding soundSides soundGraph soundIds soundOffsets soundSide mirrored every each mem partOf between
+unfolding soundSides soundGraph soundIds soundOffsets soundSide mirrored every each mem partOf targetsBetween
 missing-unsound = refl
 
 changed-unsound : soundGraph (damagedGraph (0 ∷ 0 ∷ 1 ∷ 2 ∷ 4 ∷ 5 ∷ []) (2 ∷ 1 ∷ 1 ∷ 2 ∷ 2 ∷ [])) ≡ false
-unfolding soundSides soundGraph soundIds soundOffsets soundSide mirrored every each mem partOf between
+unfolding soundSides soundGraph soundIds soundOffsets soundSide mirrored every each mem partOf targetsBetween
 changed-unsound = refl

@@ -17,8 +17,8 @@ edgeArcs true e = e ∷ (e .1, e .0) ∷ []
 
 -- the arcs of an edge list, in order
 abbrev pub arcs : Bool → List Arc → List Arc
-arcs both [] = []
-arcs both (e ∷ es) = edgeArcs both e ++ arcs both es
+arcs undirected [] = []
+arcs undirected (e ∷ es) = edgeArcs undirected e ++ arcs undirected es
 
 -- "the inward arcs are exactly the outward ones reversed"
 abbrev pub backward : List Arc → List Arc

@@ -9,17 +9,17 @@ use lib.Seq.{drop-cons}
 use Rattle.basis.specs.declared.refusal.Refusal.{Refusal}
 use Rattle.text.specs.Line.{lf, space}
 use Rattle.write.specs.Put.{Written, written, putAt}
-use Rattle.write.specs.Decimal.{decimal, signedText}
+use Rattle.write.specs.Number.{countText, signedText}
 use Rattle.write.proofs.Puts.{put-then, putting-more, putting-end}
 use Rattle.listing.specs.Listing.{slash, refusedWord, spacedText, numbersText, refusedText, headText}
 use Rattle.listing.specs.Listing.{namedText, pairText, fractionText, ratioText, pairLines, ratioLines}
 
 -- ---- two texts or three, one after another
 module _ (o : List ℕ) (at : ℕ) {o₁ o₂ : List ℕ} {p₁ p₂ : ℕ} where
-  pub spaced-put : (n : ℕ) → written o₁ p₁ ≡ putAt o at (space ∷ []) → written o₂ p₂ ≡ putAt o₁ p₁ (decimal n)
+  pub spaced-put : (n : ℕ) → written o₁ p₁ ≡ putAt o at (space ∷ []) → written o₂ p₂ ≡ putAt o₁ p₁ (countText n)
       → written o₂ p₂ ≡ putAt o at (spacedText n)
   unfolding spacedText
-  spaced-put n x y = put-then o at (space ∷ []) x (decimal n) y
+  spaced-put n x y = put-then o at (space ∷ []) x (countText n) y
 
   pub named-put : (id x : ℤ) → x ≡ id → written o₁ p₁ ≡ putAt o at (signedText x) → written o₂ p₂ ≡ putAt o₁ p₁ (space ∷ [])
       → written o₂ p₂ ≡ putAt o at (namedText id)
@@ -41,15 +41,15 @@ module _ (o : List ℕ) (at : ℕ) {o₁ o₂ o₃ : List ℕ} {p₁ p₂ p₃ :
   unfolding refusedText
   refused-put r = three refusedWord (numbersText r) (lf ∷ [])
 
-  pub head-put : (line : List ℕ) (n : ℕ) → written o₁ p₁ ≡ putAt o at line → written o₂ p₂ ≡ putAt o₁ p₁ (decimal n)
+  pub head-put : (line : List ℕ) (n : ℕ) → written o₁ p₁ ≡ putAt o at line → written o₂ p₂ ≡ putAt o₁ p₁ (countText n)
       → written o₃ p₃ ≡ putAt o₂ p₂ (lf ∷ []) → written o₃ p₃ ≡ putAt o at (headText line n)
   unfolding headText
-  head-put line n = three line (decimal n) (lf ∷ [])
+  head-put line n = three line (countText n) (lf ∷ [])
 
-  pub fraction-put : (n d : ℕ) → written o₁ p₁ ≡ putAt o at (decimal n) → written o₂ p₂ ≡ putAt o₁ p₁ (slash ∷ [])
-      → written o₃ p₃ ≡ putAt o₂ p₂ (decimal d) → written o₃ p₃ ≡ putAt o at (fractionText n d)
+  pub fraction-put : (n d : ℕ) → written o₁ p₁ ≡ putAt o at (countText n) → written o₂ p₂ ≡ putAt o₁ p₁ (slash ∷ [])
+      → written o₃ p₃ ≡ putAt o₂ p₂ (countText d) → written o₃ p₃ ≡ putAt o at (fractionText n d)
   unfolding fractionText
-  fraction-put n d = three (decimal n) (slash ∷ []) (decimal d)
+  fraction-put n d = three (countText n) (slash ∷ []) (countText d)
 
   pub pair-put : (id x v y : ℤ) → x ≡ id → y ≡ v → written o₁ p₁ ≡ putAt o at (namedText x) → written o₂ p₂ ≡ putAt o₁ p₁ (signedText y)
       → written o₃ p₃ ≡ putAt o₂ p₂ (lf ∷ []) → written o₃ p₃ ≡ putAt o at (pairText id v)

@@ -4,7 +4,7 @@ use mathlib.Core.List.{List, [], _∷_, _++_}
 use lib.IntN.{ℤ}
 use Rattle.basis.specs.declared.refusal.Refusal.{Refusal}
 use Rattle.text.specs.Line.{lf, space}
-use Rattle.write.specs.Decimal.{decimal, signedText}
+use Rattle.write.specs.Number.{countText, signedText}
 
 -- the byte of `/`
 abbrev pub slash : ℕ
@@ -16,7 +16,7 @@ refusedWord = 114 ∷ 101 ∷ 102 ∷ 117 ∷ 115 ∷ 101 ∷ 100 ∷ []
 
 -- one space and a number
 unfoldable pub spacedText : ℕ → List ℕ
-spacedText n = space ∷ decimal n
+spacedText n = space ∷ countText n
 
 -- "the three numbers, one space apart": number, file and line, with a space before each
 unfoldable pub numbersText : Refusal → List ℕ
@@ -28,7 +28,7 @@ refusedText r = refusedWord ++ (numbersText r ++ (lf ∷ []))
 
 -- "Each job prints its line, a count line": the line is given with its LF
 unfoldable pub headText : List ℕ → ℕ → List ℕ
-headText line n = line ++ (decimal n ++ (lf ∷ []))
+headText line n = line ++ (countText n ++ (lf ∷ []))
 
 -- "then identifier and value for each vertex": the identifier, and one space before the value
 unfoldable pub namedText : ℤ → List ℕ
@@ -40,7 +40,7 @@ pairText id value = namedText id ++ (signedText value ++ (lf ∷ []))
 
 -- a coefficient, as in `1/2`: numerator, `/`, denominator
 unfoldable pub fractionText : ℕ → ℕ → List ℕ
-fractionText numerator denominator = decimal numerator ++ (slash ∷ decimal denominator)
+fractionText numerator denominator = countText numerator ++ (slash ∷ countText denominator)
 
 -- a vertex's line where the value is a coefficient: identifier, one space, coefficient, LF
 unfoldable pub ratioText : ℤ → ℕ → ℕ → List ℕ

@@ -9,11 +9,11 @@ use native.Mathlib.Nat.{zero-add}
 use lib.IntN.{ℤ, pos}
 use lib.ListN.{length, take, drop, set, replicate, length-replicate, length-take, take-append-drop, drop-of-length-le}
 use lib.Seq.{sets, sets-eq, length-sets, set-out}
-use Rattle.basis.specs.Refusal.{gives, refuses, said}
+use Rattle.basis.specs.Refusal.{gives, refuses, mapped}
 use Rattle.basis.specs.declared.refusal.Refusal.{Refusal}
 use Rattle.basis.specs.Area.{pad, padZ, padWith}
 use Rattle.basis.proofs.Areas.{pad-lent}
-use Rattle.basis.proofs.Saids.{said-gives, said-refuses}
+use Rattle.basis.proofs.Saids.{mapped-gives, mapped-refuses}
 use Rattle.graph.specs.declared.find.Found.{Found}
 use Rattle.store.specs.Held.{seconds}
 use Rattle.store.specs.Steps.{bumps}
@@ -67,10 +67,10 @@ again : {A : Type 0} (z : A) (size : ℕ) (a b : List A) → a ≡ replicate siz
 again z size a b e k = ap (λ (j : ℕ). replicate j z) (k ∙ ap length e ∙ length-replicate size z)
 
 module _ (most : ℕ) (s : List ℕ) (size : ℕ) (a : List ℤ) (e : a ≡ replicate size (pos 0)) (x : Listed) (b : List ℤ)
-    (told : idsLeft x b ≡ said (idsInto a 0) (identifiers most s)) where
+    (told : idsLeft x b ≡ mapped (idsInto a 0) (identifiers most s)) where
   pub vertices-lines : (n : ℕ) → x ≡ Lines n → vertexOutcome (gives n) b ≡ vertexCall most s size
   vertices-lines n q =
-      let g = said-gives (idsInto a 0) (identifiers most s) (n, b) (ap (λ y. idsLeft y b) (sym q) ∙ told) in
+      let g = mapped-gives (idsInto a 0) (identifiers most s) (n, b) (ap (λ y. idsLeft y b) (sym q) ∙ told) in
       let c : n ≡ length (g .0) = ap (λ (y : ℕ × List ℤ). y .0) (g .2) ∙ zero-add (length (g .0)) in
       let d : b ≡ padZ size (take size (g .0)) = ap (λ (y : ℕ × List ℤ). y .1) (g .2) ∙ ap (λ (l : List ℤ). sets l 0 (g .0)) e
       ∙ put-front (pos 0) size (g .0) in
@@ -79,15 +79,15 @@ module _ (most : ℕ) (s : List ℕ) (size : ℕ) (a : List ℤ) (e : a ≡ repl
   pub vertices-refused : (r : Refusal) → x ≡ Refused r → length b ≡ length a → (c : List ℤ) → c ≡ replicate (length b) (pos 0)
       → vertexOutcome (refuses r) c ≡ vertexCall most s size
   vertices-refused r q k c f =
-      rw (said-refuses (idsInto a 0) (identifiers most s) r (ap (λ y. idsLeft y b) (sym q) ∙ told))
+      rw (mapped-refuses (idsInto a 0) (identifiers most s) r (ap (λ y. idsLeft y b) (sym q) ∙ told))
       (ap (vertexOutcome (refuses r)) (f ∙ again (pos 0) size a b e k))
 
-module _ (both : Bool) (most : ℕ) (place : ℤ → Found) (s : List ℕ) (sc st : ℕ) (a b : List ℕ) (ea : a ≡ replicate sc 0)
+module _ (undirected : Bool) (most : ℕ) (place : ℤ → Found) (s : List ℕ) (sc st : ℕ) (a b : List ℕ) (ea : a ≡ replicate sc 0)
     (eb : b ≡ replicate st 0)
-    (x : Listed) (c t : List ℕ) (told : edgesLeft x c t ≡ said (numberedInto place a b 0) (edgesOf both most place s)) where
-  pub edges-lines : (n : ℕ) → x ≡ Lines n → edgeOutcome (gives n) c t ≡ edgeCall both most place s sc st
+    (x : Listed) (c t : List ℕ) (told : edgesLeft x c t ≡ mapped (numberedInto place a b 0) (edgesOf undirected most place s)) where
+  pub edges-lines : (n : ℕ) → x ≡ Lines n → edgeOutcome (gives n) c t ≡ edgeCall undirected most place s sc st
   edges-lines n q =
-      let g = said-gives (numberedInto place a b 0) (edgesOf both most place s) (n, c, t) (ap (λ y. edgesLeft y c t) (sym q) ∙ told) in
+      let g = mapped-gives (numberedInto place a b 0) (edgesOf undirected most place s) (n, c, t) (ap (λ y. edgesLeft y c t) (sym q) ∙ told) in
       let es = allNumbered place (g .0) in
       let k : n ≡ length (g .0) = ap (λ (y : ℕ × List ℕ × List ℕ). y .0) (g .2) ∙ zero-add (length es) ∙ length-numbered place (g .0) in
       let u : c ≡ bumps (replicate sc 0) es = ap (λ (y : ℕ × List ℕ × List ℕ). y .1) (g .2) ∙ ap (λ (l : List ℕ). bumps l es) ea in
@@ -104,9 +104,9 @@ module _ (both : Bool) (most : ℕ) (place : ℤ → Found) (s : List ℕ) (sc s
 
   pub edges-refused : (r : Refusal) → x ≡ Refused r → length c ≡ length a → length t ≡ length b → (d u : List ℕ)
       → d ≡ replicate (length c) 0 → u ≡ replicate (length t) 0
-      → edgeOutcome (refuses r) d u ≡ edgeCall both most place s sc st
+      → edgeOutcome (refuses r) d u ≡ edgeCall undirected most place s sc st
   edges-refused r q kc kt d u ed eu =
-      rw (said-refuses (numberedInto place a b 0) (edgesOf both most place s) r (ap (λ y. edgesLeft y c t) (sym q) ∙ told))
+      rw (mapped-refuses (numberedInto place a b 0) (edgesOf undirected most place s) r (ap (λ y. edgesLeft y c t) (sym q) ∙ told))
       (ap₂ (λ (l m : List ℕ). edgeOutcome (refuses r) l m) (ed ∙ again 0 sc a c ea kc) (eu ∙ again 0 st b t eb kt))
 
 pub stays-clear : (a e : List ℕ) → a ≡ replicate (length e) 0 → length a ≡ length e → a ≡ replicate (length a) 0

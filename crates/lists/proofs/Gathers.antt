@@ -10,7 +10,7 @@ use native.Mathlib.Numerals.{add-one}
 use lib.ListN.{length, getD, set, replicate, length-set}
 use lib.Seq.{sets, getD-set-same, getD-set-other, set-out}
 use lib.IntN.{ℤ, pos}
-use Rattle.basis.specs.Refusal.{Said, gives, refuses, edgeFile, said}
+use Rattle.basis.specs.Refusal.{Said, gives, refuses, edgeFile, mapped}
 use Rattle.basis.proofs.Tests.{no-case}
 use Rattle.basis.proofs.Areas.{replicate-at}
 use Rattle.text.specs.Word.{identOf}
@@ -44,8 +44,8 @@ bump-few counts u k h i =
     ]
 
 into-more : (place : ℤ → Found) (counts targets : List ℕ) (k : ℕ) (e : ℤ × ℤ) (x : Said (List (ℤ × ℤ)))
-    → said (numberedInto place (bump counts (numbered place e .0)) (set targets k (numbered place e .1)) (k + 1)) x
-    ≡ said (numberedInto place counts targets k) (said (λ es. e ∷ es) x)
+    → mapped (numberedInto place (bump counts (numbered place e .0)) (set targets k (numbered place e .1)) (k + 1)) x
+    ≡ mapped (numberedInto place counts targets k) (mapped (λ es. e ∷ es) x)
 into-more place counts targets k e (refuses r) = refl
 into-more place counts targets k e (gives es) =
     let n : k + 1 + length (allNumbered place es) ≡ k + suc (length (allNumbered place es)) = omega arith in
@@ -65,9 +65,9 @@ numbers-stop : (place : ℤ → Found) (x : Step (ℤ × ℤ)) (r : Said ℕ) �
 numbers-stop place (stop q) r h = cc
 numbers-stop place (more d n m) r h = no-case cc
 
-module _ (s : List ℕ) (most : ℕ) (both : Bool) (place : ℤ → Found) (counts₀ targets₀ : List ℕ) where
+module _ (s : List ℕ) (most : ℕ) (undirected : Bool) (place : ℤ → Found) (counts₀ targets₀ : List ℕ) where
   abbrev edgeLeft : Edges → Said (List (ℤ × ℤ))
-  edgeLeft c = left (twoOf identOf identOf) edgeFile most (edgeTest both place) s (c .lines) (beforeBy (c .lines) (pairOf c)) (c .at .at)
+  edgeLeft c = left (twoOf identOf identOf) edgeFile most (edgeTest undirected place) s (c .lines) (beforeBy (c .lines) (pairOf c)) (c .at .at)
 
   -- with the lines that are left, its count and its areas come out as the file says
   pub record Gathering (c : Edges) (counts targets : List ℕ) : Type 0 where
@@ -76,8 +76,8 @@ module _ (s : List ℕ) (most : ℕ) (both : Bool) (place : ℤ → Found) (coun
     pub longCounts : length counts ≡ length counts₀
     pub longTargets : length targets ≡ length targets₀
     pub few : (i : ℕ) → getD counts i 0 ≤ c .lines
-    pub same : said (numberedInto place counts targets (c .lines)) (edgeLeft c)
-        ≡ said (numberedInto place counts₀ targets₀ 0) (edgesOf both most place s)
+    pub same : mapped (numberedInto place counts targets (c .lines)) (edgeLeft c)
+        ≡ mapped (numberedInto place counts₀ targets₀ 0) (edgesOf undirected most place s)
 
   pub gathering-start : counts₀ ≡ replicate (length counts₀) 0
       → Gathering (record { at = record { at = 0 }; lines = 0; first = pos 0; second = pos 0 }) counts₀ targets₀
@@ -88,20 +88,20 @@ module _ (s : List ℕ) (most : ℕ) (both : Bool) (place : ℤ → Found) (coun
         longCounts = refl;
         longTargets = refl;
         few = λ i. subst (λ (l : List ℕ). getD l i 0 ≤ 0) (sym a) (let e = replicate-at {A = ℕ} 0 (length counts₀) i in omega arith);
-        same = ap (said (numberedInto place counts₀ targets₀ 0)) (left-start (twoOf identOf identOf) edgeFile most (edgeTest both place) s);
+        same = ap (mapped (numberedInto place counts₀ targets₀ 0)) (left-start (twoOf identOf identOf) edgeFile most (edgeTest undirected place) s);
       }
 
   module _ (c : Edges) (counts targets : List ℕ) (g : Gathering c counts targets) (x : EdgeStep)
-      (told : edgeStepSays x ≡ withNumbers place (edgeStep both most place s c)) where
+      (told : edgeStepSays x ≡ withNumbers place (edgeStep undirected most place s c)) where
     module _ (u v : ℕ) (d : Edges) (e : x ≡ ES.More u v d) where
-      stepped : (more (pairOf d) (d .at .at) (d .lines) ≡ edgeStep both most place s c) × ((u, v) ≡ numbered place (pairOf d))
-      stepped = numbers-more place (edgeStep both most place s c) (pairOf d) (u, v) (d .at .at) (d .lines) (ap edgeStepSays (sym e) ∙ told)
+      stepped : (more (pairOf d) (d .at .at) (d .lines) ≡ edgeStep undirected most place s c) × ((u, v) ≡ numbered place (pairOf d))
+      stepped = numbers-more place (edgeStep undirected most place s c) (pairOf d) (u, v) (d .at .at) (d .lines) (ap edgeStepSays (sym e) ∙ told)
 
-      moved : Moved (twoOf identOf identOf) edgeFile most (edgeTest both place) s (c .lines) (beforeBy (c .lines) (pairOf c)) (c .at .at)
+      moved : Moved (twoOf identOf identOf) edgeFile most (edgeTest undirected place) s (c .lines) (beforeBy (c .lines) (pairOf c)) (c .at .at)
           (pairOf d) (d .at .at) (d .lines)
       unfolding edgeStep
       moved =
-          left-more (twoOf identOf identOf) edgeFile most (edgeTest both place) s (c .lines) (beforeBy (c .lines) (pairOf c)) (c .at .at)
+          left-more (twoOf identOf identOf) edgeFile most (edgeTest undirected place) s (c .lines) (beforeBy (c .lines) (pairOf c)) (c .at .at)
           (g .low) (pairOf d) (d .at .at) (d .lines) (stepped .0)
 
       first-end : u ≡ numbered place (pairOf d) .0
@@ -132,23 +132,23 @@ module _ (s : List ℕ) (most : ℕ) (both : Bool) (place : ℤ → Found) (coun
             same =
                 rw (p′, q′, m .counted, before-next (c .lines + 1) (c .lines) (pairOf d) refl)
                 (into-more place counts targets (c .lines) (pairOf d)
-                (left (twoOf identOf identOf) edgeFile most (edgeTest both place) s (c .lines + 1) (after (pairOf d)) (d .at .at))
-                ∙ ap (said (numberedInto place counts targets (c .lines))) (sym (m .same)) ∙ g .same);
+                (left (twoOf identOf identOf) edgeFile most (edgeTest undirected place) s (c .lines + 1) (after (pairOf d)) (d .at .at))
+                ∙ ap (mapped (numberedInto place counts targets (c .lines))) (sym (m .same)) ∙ g .same);
           }
 
     pub gathering-stop : (out : Listed) → x ≡ ES.Stop out
-        → edgesLeft out counts targets ≡ said (numberedInto place counts₀ targets₀ 0) (edgesOf both most place s)
+        → edgesLeft out counts targets ≡ mapped (numberedInto place counts₀ targets₀ 0) (edgesOf undirected most place s)
     unfolding edgeStep
-    gathering-stop out e = go out (numbers-stop place (edgeStep both most place s c) (listedSays out) (ap edgeStepSays (sym e) ∙ told))
+    gathering-stop out e = go out (numbers-stop place (edgeStep undirected most place s c) (listedSays out) (ap edgeStepSays (sym e) ∙ told))
       where
-        go : (out : Listed) → stop (listedSays out) ≡ edgeStep both most place s c
-            → edgesLeft out counts targets ≡ said (numberedInto place counts₀ targets₀ 0) (edgesOf both most place s)
+        go : (out : Listed) → stop (listedSays out) ≡ edgeStep undirected most place s c
+            → edgesLeft out counts targets ≡ mapped (numberedInto place counts₀ targets₀ 0) (edgesOf undirected most place s)
         go (Lines n) e =
-            let l = left-lines (twoOf identOf identOf) edgeFile most (edgeTest both place) s (c .lines) (beforeBy (c .lines) (pairOf c))
+            let l = left-lines (twoOf identOf identOf) edgeFile most (edgeTest undirected place) s (c .lines) (beforeBy (c .lines) (pairOf c))
             (c .at .at) n e in
-            (let a = l .0 in let b = add-zero (c .lines) in cc) ∙ ap (said (numberedInto place counts targets (c .lines))) (sym (l .1))
+            (let a = l .0 in let b = add-zero (c .lines) in cc) ∙ ap (mapped (numberedInto place counts targets (c .lines))) (sym (l .1))
             ∙ g .same
         go (Refused o) e =
-            ap (said (numberedInto place counts targets (c .lines)))
-            (sym (left-refused (twoOf identOf identOf) edgeFile most (edgeTest both place) s (c .lines) (beforeBy (c .lines) (pairOf c))
+            ap (mapped (numberedInto place counts targets (c .lines)))
+            (sym (left-refused (twoOf identOf identOf) edgeFile most (edgeTest undirected place) s (c .lines) (beforeBy (c .lines) (pairOf c))
             (c .at .at) o (g .low) e)) ∙ g .same

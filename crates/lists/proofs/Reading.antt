@@ -61,8 +61,8 @@ module _ (most k : ℕ) (last z : ℤ) where
       vertex-falls g = rw (lt-leb most k h, later, ← p, ← q, ← e, g)
 
 -- ---- the order of edge lines; a number that is handed on as another is marked
-module _ (both : Bool) (a b : ℤ) where
-  pub way-both : both ≡ true → (a′ b′ : ℤ) → a′ ≡ a → b′ ≡ b → (t : Bool) → t ≡ ltZ b′ a′ → t ≡ (both && ltZ b a)
+module _ (undirected : Bool) (a b : ℤ) where
+  pub way-both : undirected ≡ true → (a′ b′ : ℤ) → a′ ≡ a → b′ ≡ b → (t : Bool) → t ≡ ltZ b′ a′ → t ≡ (undirected && ltZ b a)
   way-both e a′ b′ p q t h = rw (e, ← p, ← q) h
 
 module _ (k : ℕ) (p q a b : ℤ) where
@@ -86,19 +86,19 @@ module _ (k : ℕ) (p q a b : ℤ) where
       pub above-none : u ≡ false → false ≡ isAbove (beforeBy k (p, q)) (a, b)
       above-none h = rw (second, h)
 
-module _ (both : Bool) (k : ℕ) (p q a b a′ b′ : ℤ) (ha : a′ ≡ a) (hb : b′ ≡ b) (t : Bool) (e : t ≡ sameZ a′ b′) where
+module _ (undirected : Bool) (k : ℕ) (p q a b a′ b′ : ℤ) (ha : a′ ≡ a) (hb : b′ ≡ b) (t : Bool) (e : t ≡ sameZ a′ b′) where
   self : sameZ a b ≡ t
   self = rw (← ha, ← hb) (sym e)
 
-  pub order-self : t ≡ true → 5 ≡ orderFault both (beforeBy k (p, q)) (a, b)
+  pub order-self : t ≡ true → 5 ≡ orderFault undirected (beforeBy k (p, q)) (a, b)
   unfolding orderFault
   order-self f = rw (self, f)
 
-  module _ (f : t ≡ false) (u : Bool) (g : u ≡ (both && ltZ b′ a′)) where
-    way : (both && ltZ b a) ≡ u
+  module _ (f : t ≡ false) (u : Bool) (g : u ≡ (undirected && ltZ b′ a′)) where
+    way : (undirected && ltZ b a) ≡ u
     way = rw (← ha, ← hb) (sym g)
 
-    pub order-way : u ≡ true → 6 ≡ orderFault both (beforeBy k (p, q)) (a, b)
+    pub order-way : u ≡ true → 6 ≡ orderFault undirected (beforeBy k (p, q)) (a, b)
     unfolding orderFault
     order-way h = rw (self, f, way, h)
 
@@ -106,11 +106,11 @@ module _ (both : Bool) (k : ℕ) (p q a b a′ b′ : ℤ) (ha : a′ ≡ a) (hb
       ordered : isAbove (beforeBy k (p, q)) (a, b) ≡ v
       ordered = rw (← hp, ← hq, ← ha, ← hb) (sym o)
 
-      pub order-rises : v ≡ true → 0 ≡ orderFault both (beforeBy k (p, q)) (a, b)
+      pub order-rises : v ≡ true → 0 ≡ orderFault undirected (beforeBy k (p, q)) (a, b)
       unfolding orderFault
       order-rises j = rw (self, f, way, h, ordered, j)
 
-      pub order-falls : v ≡ false → 4 ≡ orderFault both (beforeBy k (p, q)) (a, b)
+      pub order-falls : v ≡ false → 4 ≡ orderFault undirected (beforeBy k (p, q)) (a, b)
       unfolding orderFault
       order-falls j = rw (self, f, way, h, ordered, j)
 
@@ -186,10 +186,10 @@ abbrev lookFault : Looked → ℕ
 lookFault (found e) = 0
 lookFault unknown = 7
 
-test-by : (both : Bool) (place : ℤ → Found) (before : Before (ℤ × ℤ)) (e : ℤ × ℤ)
-    → edgeTest both place before e ≡ orElse (orderFault both before e) (lookFault (lookedBy (place (e .0)) (place (e .1))))
+test-by : (undirected : Bool) (place : ℤ → Found) (before : Before (ℤ × ℤ)) (e : ℤ × ℤ)
+    → edgeTest undirected place before e ≡ orElse (orderFault undirected before e) (lookFault (lookedBy (place (e .0)) (place (e .1))))
 unfolding edgeTest orderFault
-test-by both place before e = go (sameZ (e .0) (e .1)) (both && ltZ (e .1) (e .0)) (isAbove before e) (place (e .0)) (place (e .1))
+test-by undirected place before e = go (sameZ (e .0) (e .1)) (undirected && ltZ (e .1) (e .0)) (isAbove before e) (place (e .0)) (place (e .1))
   where
     go : (p q r : Bool) (x y : Found)
         → cond p 5 (cond q 6 (cond r (cond (isThere x && isThere y) 0 7) 4))
@@ -209,45 +209,45 @@ limit-none most k o e = go (leb most k) refl e
     go true q h = absurd (let z : ⊥ = omega arith in z)
     go false q h = (q, h)
 
-module _ (both : Bool) (most : ℕ) (place : ℤ → Found) (s : List ℕ) (c : Edges) (x : EdgeLine)
+module _ (undirected : Bool) (most : ℕ) (place : ℤ → Found) (s : List ℕ) (c : Edges) (x : EdgeLine)
     (e : edgeSays x ≡ edgeLine s (c .at .at)) where
   abbrev step : LineSaid (ℤ × ℤ) → Step (ℤ × ℤ)
-  step = stepBy edgeFile most (edgeTest both place) (c .lines) (beforeBy (c .lines) (pairOf c))
+  step = stepBy edgeFile most (edgeTest undirected place) (c .lines) (beforeBy (c .lines) (pairOf c))
 
-  by-edge : (y : EdgeLine) → x ≡ y → withNumbers place (step (edgeSays y)) ≡ withNumbers place (edgeStep both most place s c)
+  by-edge : (y : EdgeLine) → x ≡ y → withNumbers place (step (edgeSays y)) ≡ withNumbers place (edgeStep undirected most place s c)
   unfolding edgeStep
   by-edge y q = ap (λ l. withNumbers place (step l)) (ap edgeSays (sym q) ∙ e)
 
-  pub edge-end : (p : Cursor) → x ≡ EL.End p → stop (gives (c .lines)) ≡ withNumbers place (edgeStep both most place s c)
+  pub edge-end : (p : Cursor) → x ≡ EL.End p → stop (gives (c .lines)) ≡ withNumbers place (edgeStep undirected most place s c)
   edge-end p q = by-edge (EL.End p) q
 
   pub edge-bad : (n : ℕ) (p : Cursor) → x ≡ EL.Fault n p → (f : ℕ) → f ≡ cond (leb most (c .lines)) tooMany n → (r : Refusal)
       → r ≡ at f edgeFile (c .lines + 1)
-      → stop (refuses r) ≡ withNumbers place (edgeStep both most place s c)
+      → stop (refuses r) ≡ withNumbers place (edgeStep undirected most place s c)
   edge-bad n p q f g r h =
-      ap (withNumbers place) (by-bad edgeFile most (edgeTest both place) (c .lines) (beforeBy (c .lines) (pairOf c)) n (p .at) f g r h)
+      ap (withNumbers place) (by-bad edgeFile most (edgeTest undirected place) (c .lines) (beforeBy (c .lines) (pairOf c)) n (p .at) f g r h)
       ∙ by-edge (EL.Fault n p) q
 
   -- the edge from a to b, handed on as a′ and b′, and the one before it
   module _ (a b : ℤ) (p : Cursor) (q : x ≡ EL.Line a b p) (a′ b′ d′ e′ : ℤ) (ha : a′ ≡ a) (hb : b′ ≡ b) (hd : d′ ≡ c .first)
       (he : e′ ≡ c .second)
-      (o : ℕ) (h : o ≡ orderFault both (beforeBy (c .lines) (d′, e′)) (a′, b′)) (f : ℕ) (g : f ≡ cond (leb most (c .lines)) tooMany o) where
+      (o : ℕ) (h : o ≡ orderFault undirected (beforeBy (c .lines) (d′, e′)) (a′, b′)) (f : ℕ) (g : f ≡ cond (leb most (c .lines)) tooMany o) where
     abbrev before : Before (ℤ × ℤ)
     before = beforeBy (c .lines) (pairOf c)
 
     abbrev lineFault : ℕ
-    lineFault = faultOf edgeFile most (edgeTest both place) (c .lines) before (good (a, b))
+    lineFault = faultOf edgeFile most (edgeTest undirected place) (c .lines) before (good (a, b))
 
-    order-is : orderFault both before (a, b) ≡ o
+    order-is : orderFault undirected before (a, b) ≡ o
     order-is = rw (← ha, ← hb, ← hd, ← he) (sym h)
 
-    tested : edgeTest both place before (a, b) ≡ orElse o (lookFault (lookedBy (place a) (place b)))
-    tested = test-by both place before (a, b) ∙ rw order-is
+    tested : edgeTest undirected place before (a, b) ≡ orElse o (lookFault (lookedBy (place a) (place b)))
+    tested = test-by undirected place before (a, b) ∙ rw order-is
 
     pub edge-fault : (f ≡ 0 → ⊥) → (r : Refusal) → r ≡ at f edgeFile (c .lines + 1)
-        → stop (refuses r) ≡ withNumbers place (edgeStep both most place s c)
+        → stop (refuses r) ≡ withNumbers place (edgeStep undirected most place s c)
     edge-fault d r j =
-        ap (withNumbers place) (by-fault edgeFile most (edgeTest both place) (c .lines) before (a, b) (p .at) f same d r j)
+        ap (withNumbers place) (by-fault edgeFile most (edgeTest undirected place) (c .lines) before (a, b) (p .at) f same d r j)
         ∙ by-edge (EL.Line a b p) q
       where
         go : (t : Bool) (m : ℕ) → (cond t tooMany o ≡ 0 → ⊥) → cond t tooMany o ≡ cond t tooMany (orElse o m)
@@ -269,18 +269,18 @@ module _ (both : Bool) (most : ℕ) (place : ℤ → Found) (s : List ℕ) (c : 
       by-look = let n = limit-none most (c .lines) o (sym g ∙ z) in rw (tested, n .0, n .1, looked)
 
       pub edge-unknown : y ≡ EN.Unknown → (r : Refusal) → r ≡ at 7 edgeFile (c .lines + 1)
-          → stop (refuses r) ≡ withNumbers place (edgeStep both most place s c)
+          → stop (refuses r) ≡ withNumbers place (edgeStep undirected most place s c)
       edge-unknown u r j =
           let l : 7 ≡ lineFault = ap (λ t. lookFault (endsSays t)) (sym u) ∙ by-look in
-          ap (withNumbers place) (by-fault edgeFile most (edgeTest both place) (c .lines) before (a, b) (p .at) 7 l (λ i. omega arith) r j)
+          ap (withNumbers place) (by-fault edgeFile most (edgeTest undirected place) (c .lines) before (a, b) (p .at) 7 l (λ i. omega arith) r j)
           ∙ by-edge (EL.Line a b p) q
 
       pub edge-more : (u v : ℕ) → y ≡ EN.Known u v
-          → more ((a′, b′), (u, v)) (p .at) (c .lines + 1) ≡ withNumbers place (edgeStep both most place s c)
+          → more ((a′, b′), (u, v)) (p .at) (c .lines + 1) ≡ withNumbers place (edgeStep undirected most place s c)
       edge-more u v k =
           let l : 0 ≡ lineFault = ap (λ t. lookFault (endsSays t)) (sym k) ∙ by-look in
           let n : numbered place (a, b) ≡ (u, v) = numbers (place a) (place b) (looked ∙ ap endsSays k) in
-          rw (ha, hb, ← n) (ap (withNumbers place) (by-more edgeFile most (edgeTest both place) (c .lines) before (a, b) (p .at) 0 l refl)
+          rw (ha, hb, ← n) (ap (withNumbers place) (by-more edgeFile most (edgeTest undirected place) (c .lines) before (a, b) (p .at) 0 l refl)
           ∙ by-edge (EL.Line a b p) q)
         where
           numbers : (x y : Found) → lookedBy x y ≡ found (u, v) → _≡_ {A = ℕ × ℕ} (numberOf x, numberOf y) (u, v)

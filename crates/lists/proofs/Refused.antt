@@ -25,10 +25,10 @@ vertex-low (after y) z = go (ltZ y z)
     go true = omega arith
     go false = omega arith
 
-edge-low : (both : Bool) (place : ℤ → Found) (before : Before (ℤ × ℤ)) (e : ℤ × ℤ) → edgeTest both place before e ≤ 7
+edge-low : (undirected : Bool) (place : ℤ → Found) (before : Before (ℤ × ℤ)) (e : ℤ × ℤ) → edgeTest undirected place before e ≤ 7
 unfolding edgeTest
-edge-low both place before e =
-    go (sameZ (e .0) (e .1)) (both && ltZ (e .1) (e .0)) (isAbove before e) (isThere (place (e .0)) && isThere (place (e .1)))
+edge-low undirected place before e =
+    go (sameZ (e .0) (e .1)) (undirected && ltZ (e .1) (e .0)) (isAbove before e) (isThere (place (e .0)) && isThere (place (e .1)))
   where
     go : (a b c d : Bool) → cond a 5 (cond b 6 (cond c (cond d 0 7) 4)) ≤ 7
     go true b c d = omega arith
@@ -40,5 +40,5 @@ edge-low both place before e =
 pub vertices-met : (most : ℕ) (s : List ℕ) → Either Any (Met vertexFile most) (identifiers most s)
 vertices-met most s = file-met identOf vertexFile most vertexTest vertex-low s
 
-pub edges-met : (both : Bool) (most : ℕ) (place : ℤ → Found) (s : List ℕ) → Either Any (Met edgeFile most) (edgesOf both most place s)
-edges-met both most place s = file-met (twoOf identOf identOf) edgeFile most (edgeTest both place) (edge-low both place) s
+pub edges-met : (undirected : Bool) (most : ℕ) (place : ℤ → Found) (s : List ℕ) → Either Any (Met edgeFile most) (edgesOf undirected most place s)
+edges-met undirected most place s = file-met (twoOf identOf identOf) edgeFile most (edgeTest undirected place) (edge-low undirected place) s

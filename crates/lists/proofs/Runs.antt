@@ -9,7 +9,7 @@ use borrow.Author.Tests.{lt-ltb}
 use lib.ListN.{length, set, length-set}
 use lib.Seq.{sets}
 use lib.IntN.{ℤ, pos}
-use Rattle.basis.specs.Refusal.{Said, gives, refuses, at, vertexFile, said}
+use Rattle.basis.specs.Refusal.{Said, gives, refuses, at, vertexFile, mapped}
 use Rattle.basis.specs.declared.refusal.Refusal.{Refusal}
 use Rattle.basis.proofs.Tests.{no-case}
 use Rattle.text.specs.Word.{Word, identOf}
@@ -54,7 +54,7 @@ module _ {A : Type 0} (word : List ℕ → Word A) (file most : ℕ) (test : Bef
       go (line v next) q h = left-good word file most test s k before place v next q low ∙ by (faultOf file most test k before (good v)) h
         where
           by : (f : ℕ) → stop (refuses r) ≡ byFault file most test k v next f
-              → unless f file (k + 1) (said (λ vs. v ∷ vs) (left word file most test s (k + 1) (after v) next)) ≡ refuses r
+              → unless f file (k + 1) (mapped (λ vs. v ∷ vs) (left word file most test s (k + 1) (after v) next)) ≡ refuses r
           by zero h = no-case cc
           by (suc f) h = cc
 
@@ -62,7 +62,7 @@ module _ {A : Type 0} (word : List ℕ → Word A) (file most : ℕ) (test : Bef
     pub counted : m ≡ k + 1
     pub onward : place < next
     pub within : next ≤ length s
-    pub same : left word file most test s k before place ≡ said (λ vs. v ∷ vs) (left word file most test s (k + 1) (after v) next)
+    pub same : left word file most test s k before place ≡ mapped (λ vs. v ∷ vs) (left word file most test s (k + 1) (after v) next)
 
   pub left-more : k ≤ place → (v : A) (next m : ℕ) → more v next m ≡ stepBy file most test k before (lineBy word s place) → Moved v next m
   left-more low v next m e = go (lineBy word s place) refl e
@@ -88,7 +88,7 @@ module _ {A : Type 0} (word : List ℕ → Word A) (file most : ℕ) (test : Bef
 
 -- ---- the vertex file
 into-more : (ids : List ℤ) (k : ℕ) (v : ℤ) (x : Said (List ℤ))
-    → said (idsInto (set ids k v) (k + 1)) x ≡ said (idsInto ids k) (said (λ vs. v ∷ vs) x)
+    → mapped (idsInto (set ids k v) (k + 1)) x ≡ mapped (idsInto ids k) (mapped (λ vs. v ∷ vs) x)
 into-more ids k v (refuses r) = refl
 into-more ids k v (gives vs) =
     let n : k + 1 + length vs ≡ k + suc (length vs) = omega arith in
@@ -107,7 +107,7 @@ module _ (s : List ℕ) (most : ℕ) (ids₀ : List ℤ) where
     pub low : c .lines ≤ c .at .at
     pub within : c .at .at ≤ length s
     pub long : length ids ≡ length ids₀
-    pub same : said (idsInto ids (c .lines)) (vertexLeft c) ≡ said (idsInto ids₀ 0) (identifiers most s)
+    pub same : mapped (idsInto ids (c .lines)) (vertexLeft c) ≡ mapped (idsInto ids₀ 0) (identifiers most s)
 
   pub listing-start : Listing (record { at = record { at = 0 }; lines = 0; last = pos 0 }) ids₀
   listing-start =
@@ -115,7 +115,7 @@ module _ (s : List ℕ) (most : ℕ) (ids₀ : List ℤ) where
         low = omega arith;
         within = omega arith;
         long = refl;
-        same = ap (said (idsInto ids₀ 0)) (left-start identOf vertexFile most vertexTest s);
+        same = ap (mapped (idsInto ids₀ 0)) (left-start identOf vertexFile most vertexTest s);
       }
 
   module _ (c : Vertices) (ids : List ℤ) (r : Listing c ids) (x : VertexStep) (told : vertexStepSays x ≡ vertexStep s most c) where
@@ -137,22 +137,22 @@ module _ (s : List ℕ) (most : ℕ) (ids₀ : List ℤ) where
           same =
               rw (g′, m .counted, before-next (c .lines + 1) (c .lines) (d .last) refl)
               (into-more ids (c .lines) (d .last) (left identOf vertexFile most vertexTest s (c .lines + 1) (after (d .last)) (d .at .at))
-              ∙ ap (said (idsInto ids (c .lines))) (sym (m .same)) ∙ r .same);
+              ∙ ap (mapped (idsInto ids (c .lines))) (sym (m .same)) ∙ r .same);
         }
 
     pub listing-less : (d : Vertices) → x ≡ VS.More d → length s - d .at .at < length s - c .at .at
     listing-less d e = let m = listing-moved d e in omega (arith, m .onward, m .within)
 
-    pub listing-stop : (out : Listed) → x ≡ VS.Stop out → idsLeft out ids ≡ said (idsInto ids₀ 0) (identifiers most s)
+    pub listing-stop : (out : Listed) → x ≡ VS.Stop out → idsLeft out ids ≡ mapped (idsInto ids₀ 0) (identifiers most s)
     unfolding vertexStep
     listing-stop out e = go out (ap vertexStepSays (sym e) ∙ told)
       where
         go : (out : Listed) → vertexStepSays (VS.Stop out) ≡ vertexStep s most c
-            → idsLeft out ids ≡ said (idsInto ids₀ 0) (identifiers most s)
+            → idsLeft out ids ≡ mapped (idsInto ids₀ 0) (identifiers most s)
         go (Lines n) e =
             let l = left-lines identOf vertexFile most vertexTest s (c .lines) (beforeBy (c .lines) (c .last)) (c .at .at) n e in
-            (let a = l .0 in let b = add-zero (c .lines) in cc) ∙ ap (said (idsInto ids (c .lines))) (sym (l .1)) ∙ r .same
+            (let a = l .0 in let b = add-zero (c .lines) in cc) ∙ ap (mapped (idsInto ids (c .lines))) (sym (l .1)) ∙ r .same
         go (Refused o) e =
-            ap (said (idsInto ids (c .lines))) (sym
+            ap (mapped (idsInto ids (c .lines))) (sym
             (left-refused identOf vertexFile most vertexTest s (c .lines) (beforeBy (c .lines) (c .last)) (c .at .at) o (r .low) e))
             ∙ r .same

@@ -4,7 +4,7 @@ use mathlib.Core.Bool.{Bool}
 use mathlib.Core.List.{List}
 use lib.IntN.{ℤ, pos}
 use lib.ListN.{length, take, replicate}
-use Rattle.basis.specs.Refusal.{Said, gives, refuses, said}
+use Rattle.basis.specs.Refusal.{Said, gives, refuses, mapped}
 use Rattle.basis.specs.Area.{areaOf}
 use Rattle.graph.specs.declared.find.Found.{Found}
 use Rattle.store.specs.Held.{seconds}
@@ -33,7 +33,7 @@ idsArea size s = areaOf (pos 0) size (take size) s
 
 -- the reading of a vertex file of at most so many lines into an area of the given length
 abbrev pub vertexCall : ℕ → List ℕ → ℕ → Vertexes
-vertexCall most s size = vertexOutcome (said length (identifiers most s)) (idsArea size (identifiers most s))
+vertexCall most s size = vertexOutcome (mapped length (identifiers most s)) (idsArea size (identifiers most s))
 
 -- the same of an edge file: the answer, how many edges begin at each vertex, and their second ends
 pub record EdgesRead : Type 0 where
@@ -56,5 +56,5 @@ targetsArea place size s = areaOf 0 size (λ es. take size (seconds (allNumbered
 
 -- the reading of an edge file of at most so many lines between the vertices that `place` finds, into areas of the given lengths
 abbrev pub edgeCall : Bool → ℕ → (ℤ → Found) → List ℕ → ℕ → ℕ → EdgesRead
-edgeCall both most place s c t =
-    edgeOutcome (said length (edgesOf both most place s)) (countsArea place c (edgesOf both most place s)) (targetsArea place t (edgesOf both most place s))
+edgeCall undirected most place s c t =
+    edgeOutcome (mapped length (edgesOf undirected most place s)) (countsArea place c (edgesOf undirected most place s)) (targetsArea place t (edgesOf undirected most place s))

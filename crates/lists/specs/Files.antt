@@ -38,14 +38,14 @@ numberOf Missing = 0
 
 -- "an edge joins a vertex to itself"; "undirected, and the first number is the larger"; "not above the one before it"; "names a vertex not in the vertex file"
 unfoldable pub edgeTest : Bool → (ℤ → Found) → Before (ℤ × ℤ) → ℤ × ℤ → ℕ
-edgeTest both place before e =
+edgeTest undirected place before e =
     cond (sameZ (e .0) (e .1)) selfEdge
-    (cond (both && ltZ (e .1) (e .0)) largerFirst
+    (cond (undirected && ltZ (e .1) (e .0)) largerFirst
     (cond (isAbove before e) (cond (isThere (place (e .0)) && isThere (place (e .1))) 0 unknownVertex) notAbove))
 
 -- "the edge file line by line (1, 2, 3, 5, 6, 4, 7)"
 abbrev pub edgesOf : Bool → ℕ → (ℤ → Found) → List ℕ → Said (List (ℤ × ℤ))
-edgesOf both most place s = valuesOf edgeFile most (edgeTest both place) (linesOf edgeLine s)
+edgesOf undirected most place s = valuesOf edgeFile most (edgeTest undirected place) (linesOf edgeLine s)
 
 -- an edge, by the numbers of its vertices
 abbrev pub numbered : (ℤ → Found) → ℤ × ℤ → Arc

@@ -74,8 +74,8 @@ pairOf c = (c .first, c .second)
 
 -- the fault of an edge whose vertices are not looked up yet
 unfoldable pub orderFault : Bool → Before (ℤ × ℤ) → ℤ × ℤ → ℕ
-orderFault both before e =
-    cond (sameZ (e .0) (e .1)) selfEdge (cond (both && ltZ (e .1) (e .0)) largerFirst (cond (isAbove before e) 0 notAbove))
+orderFault undirected before e =
+    cond (sameZ (e .0) (e .1)) selfEdge (cond (undirected && ltZ (e .1) (e .0)) largerFirst (cond (isAbove before e) 0 notAbove))
 
 -- the vertices of an edge, where both are there
 pub data Looked : Type 0 where
@@ -100,7 +100,7 @@ withNumbers place (stop r) = stop r
 
 -- one edge line more, read at the reader's place and tested after the edge that it passed last
 unfoldable pub edgeStep : Bool → ℕ → (ℤ → Found) → List ℕ → Edges → Step (ℤ × ℤ)
-edgeStep both most place s c = stepBy edgeFile most (edgeTest both place) (c .lines) (beforeBy (c .lines) (pairOf c)) (edgeLine s (c .at .at))
+edgeStep undirected most place s c = stepBy edgeFile most (edgeTest undirected place) (c .lines) (beforeBy (c .lines) (pairOf c)) (edgeLine s (c .at .at))
 
 -- the code's answer as a step: the edge by identifiers and by numbers, the place past its line and the lines so far, or the end of the reading
 abbrev pub edgeStepSays : EdgeStep → Step ((ℤ × ℤ) × Arc)

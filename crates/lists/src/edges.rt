@@ -20,7 +20,7 @@ ghost use mathlib.Core.Bool.{_&&_};
 ghost use Prim.Native.Nat.{_+_, _-_, _<_, _^_};
 ghost use lib.ListN.{length, set};
 ghost use lib.Signed.{ltZ};
-ghost use Rattle.basis.specs.Refusal.{said};
+ghost use Rattle.basis.specs.Refusal.{mapped};
 ghost use Rattle.basis.specs.Area.{cleared};
 ghost use Rattle.graph.specs.Find.{bisected};
 ghost use Rattle.lists.specs.Files.{isAbove, edgesOf};
@@ -48,10 +48,10 @@ enum EdgeStep {
 }
 
 // Undirected, and the first number is the larger.
-fn wrong_way(both: bool, a: i64, b: i64) -> bool
-    ensures { λ r. ⌜ r ≡ (both && ltZ b a) ⌝ }
+fn wrong_way(undirected: bool, a: i64, b: i64) -> bool
+    ensures { λ r. ⌜ r ≡ (undirected && ltZ b a) ⌝ }
 {
-    if both {
+    if undirected {
         return less(b, a);
     }
     false
@@ -74,13 +74,13 @@ fn is_above(k: usize, p: i64, q: i64, a: i64, b: i64) -> bool
 }
 
 // The fault of the edge from a to b after the one from p to q, or 0: its vertices are not looked up yet.
-fn order_fault(both: bool, k: usize, p: i64, q: i64, a: i64, b: i64) -> usize
-    ensures { λ r. ⌜ r ≡ orderFault both (beforeBy k (p, q)) (a, b) ⌝ }
+fn order_fault(undirected: bool, k: usize, p: i64, q: i64, a: i64, b: i64) -> usize
+    ensures { λ r. ⌜ r ≡ orderFault undirected (beforeBy k (p, q)) (a, b) ⌝ }
 {
     if same(a, b) {
         return SELF_EDGE;
     }
-    if wrong_way(both, a, b) {
+    if wrong_way(undirected, a, b) {
         return LARGER_FIRST;
     }
     if is_above(k, p, q, a, b) {
@@ -107,9 +107,9 @@ fn look_up(ids: &[i64], a: i64, b: i64) -> Ends
 }
 
 // One edge line more.
-fn edge_step(s: &[u8], most: usize, both: bool, ids: &[i64], c: Edges) -> EdgeStep
+fn edge_step(s: &[u8], most: usize, undirected: bool, ids: &[i64], c: Edges) -> EdgeStep
     requires { ⌜ c .lines < 2 ^ 64 - 1 ⌝ }
-    ensures { λ r. ⌜ edgeStepSays r ≡ withNumbers (bisected (now (ids .entry))) (edgeStep both most (bisected (now (ids .entry))) (now (s .entry)) c) ⌝ }
+    ensures { λ r. ⌜ edgeStepSays r ≡ withNumbers (bisected (now (ids .entry))) (edgeStep undirected most (bisected (now (ids .entry))) (now (s .entry)) c) ⌝ }
 {
     let place = c.at;
     let k = c.lines;
@@ -122,7 +122,7 @@ fn edge_step(s: &[u8], most: usize, both: bool, ids: &[i64], c: Edges) -> EdgeSt
             k + 1,
         ))),
         EdgeLine::Line(a, b, next) => {
-            let fault = limited(most, k, order_fault(both, k, c.first, c.second, a, b));
+            let fault = limited(most, k, order_fault(undirected, k, c.first, c.second, a, b));
             if fault != 0 {
                 return EdgeStep::Stop(Listed::Refused(Refusal::at(fault, EDGE_FILE, k + 1)));
             }
@@ -161,13 +161,13 @@ fn put(area: &mut [usize], i: usize, value: usize)
 fn scan_edges(
     s: &[u8],
     most: usize,
-    both: bool,
+    undirected: bool,
     ids: &[i64],
     counts: &mut [usize],
     targets: &mut [usize],
 ) -> Listed
     requires { ⌜ now counts ≡ cleared (now counts) ⌝ }
-    ensures { λ r. ⌜ edgesLeft r (now (counts .exit)) (now (targets .exit)) ≡ said (numberedInto (bisected (now (ids .entry))) (now (counts .entry)) (now (targets .entry)) 0) (edgesOf both most (bisected (now (ids .entry))) (now (s .entry))) ⌝ }
+    ensures { λ r. ⌜ edgesLeft r (now (counts .exit)) (now (targets .exit)) ≡ mapped (numberedInto (bisected (now (ids .entry))) (now (counts .entry)) (now (targets .entry)) 0) (edgesOf undirected most (bisected (now (ids .entry))) (now (s .entry))) ⌝ }
 {
     let mut c = Edges {
         at: Cursor { at: 0 },
@@ -176,7 +176,7 @@ fn scan_edges(
         second: 0,
     };
     loop {
-        let step = edge_step(s, most, both, ids, c);
+        let step = edge_step(s, most, undirected, ids, c);
         match step {
             EdgeStep::More(u, v, next) => {
                 let degree = number_at(counts, u);
@@ -196,16 +196,16 @@ fn scan_edges(
 pub fn read_edges(
     s: &[u8],
     most: usize,
-    both: bool,
+    undirected: bool,
     ids: &[i64],
     counts: &mut [usize],
     targets: &mut [usize],
 ) -> Listed
-    ensures { λ r. ⌜ edgeOutcome (listedSays r) (now (counts .exit)) (now (targets .exit)) ≡ edgeCall both most (bisected (now (ids .entry))) (now (s .entry)) (length (now (counts .entry))) (length (now (targets .entry))) ⌝ }
+    ensures { λ r. ⌜ edgeOutcome (listedSays r) (now (counts .exit)) (now (targets .exit)) ≡ edgeCall undirected most (bisected (now (ids .entry))) (now (s .entry)) (length (now (counts .entry))) (length (now (targets .entry))) ⌝ }
 {
     clear(counts);
     clear(targets);
-    let listed = scan_edges(s, most, both, ids, counts, targets);
+    let listed = scan_edges(s, most, undirected, ids, counts, targets);
     match listed {
         Listed::Lines(n) => Listed::Lines(n),
         Listed::Refused(r) => {

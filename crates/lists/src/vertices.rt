@@ -12,7 +12,7 @@ use text::line::VertexLine;
 ghost use mathlib.Core.Path.{_≡_};
 ghost use Prim.Native.Nat.{_+_, _-_, _<_, _^_};
 ghost use lib.ListN.{length, set};
-ghost use Rattle.basis.specs.Refusal.{vertexFile, said};
+ghost use Rattle.basis.specs.Refusal.{vertexFile, mapped};
 ghost use Rattle.text.specs.File.{good, faultOf};
 ghost use Rattle.lists.specs.Files.{vertexTest, identifiers};
 ghost use Rattle.lists.specs.Calls.{listedSays, vertexOutcome, vertexCall};
@@ -87,7 +87,7 @@ fn put_id(ids: &mut [i64], i: usize, z: i64)
 
 // The identifiers of a vertex file, stored from the front of an area.
 fn scan_vertices(s: &[u8], most: usize, ids: &mut [i64]) -> Listed
-    ensures { λ r. ⌜ idsLeft r (now (ids .exit)) ≡ said (idsInto (now (ids .entry)) 0) (identifiers most (now (s .entry))) ⌝ }
+    ensures { λ r. ⌜ idsLeft r (now (ids .exit)) ≡ mapped (idsInto (now (ids .entry)) 0) (identifiers most (now (s .entry))) ⌝ }
 {
     let mut c = Vertices {
         at: Cursor { at: 0 },

@@ -46,12 +46,12 @@ vertices-accepted most s ids = (
 )
 
 -- ---- the edge file
-module _ (both : Bool) (ids : List ℤ) where
+module _ (undirected : Bool) (ids : List ℤ) where
   abbrev isApart : ℤ × ℤ → Bool
   isApart e = not (sameZ (e .0) (e .1))
 
   abbrev isSmaller : ℤ × ℤ → Bool
-  isSmaller e = not (both && ltZ (e .1) (e .0))
+  isSmaller e = not (undirected && ltZ (e .1) (e .0))
 
   abbrev areThere : ℤ × ℤ → Bool
   areThere e = isThere (placeIn ids (e .0)) && isThere (placeIn ids (e .1))
@@ -75,30 +75,30 @@ module _ (both : Bool) (ids : List ℤ) where
   not-off : (t : Bool) → t ≡ false → not t ≡ true
   not-off t h = rw h
 
-  clauses-of : (before : Before (ℤ × ℤ)) (es : List (ℤ × ℤ)) → Passes (edgeTest both (placeIn ids)) before es → Clauses before es
+  clauses-of : (before : Before (ℤ × ℤ)) (es : List (ℤ × ℤ)) → Passes (edgeTest undirected (placeIn ids)) before es → Clauses before es
   unfolding each
   clauses-of first [] p = record { above = refl; apart = refl; smaller = refl; there = refl }
   clauses-of (after d) [] p = record { above = refl; apart = refl; smaller = refl; there = refl }
   clauses-of before (e ∷ es) p =
-      let t = test-passed both ids before e (p .0) in
+      let t = test-passed undirected ids before e (p .0) in
       let c = clauses-of (after e) es (p .1) in
       record {
         above = chain-cons before e es ∙ and-both (t .above) (c .above);
         apart = and-both (not-off (sameZ (e .0) (e .1)) (t .apart)) (c .apart);
-        smaller = and-both (not-off (both && ltZ (e .1) (e .0)) (t .smaller)) (c .smaller);
+        smaller = and-both (not-off (undirected && ltZ (e .1) (e .0)) (t .smaller)) (c .smaller);
         there = and-both (and-both (t .from) (t .to)) (c .there);
       }
 
-  passes-of : (before : Before (ℤ × ℤ)) (es : List (ℤ × ℤ)) → Clauses before es → Passes (edgeTest both (placeIn ids)) before es
+  passes-of : (before : Before (ℤ × ℤ)) (es : List (ℤ × ℤ)) → Clauses before es → Passes (edgeTest undirected (placeIn ids)) before es
   unfolding each
   passes-of before [] c = tt
   passes-of before (e ∷ es) c =
       let a = sym (chain-cons before e es) ∙ c .above in
       let t = and-first (areThere e) (each areThere es) (c .there) in (
-        passed-test both ids before e
+        passed-test undirected ids before e
             (record {
               apart = not-true (sameZ (e .0) (e .1)) (and-first (isApart e) (each isApart es) (c .apart));
-              smaller = not-true (both && ltZ (e .1) (e .0)) (and-first (isSmaller e) (each isSmaller es) (c .smaller));
+              smaller = not-true (undirected && ltZ (e .1) (e .0)) (and-first (isSmaller e) (each isSmaller es) (c .smaller));
               above = and-first (isAbove before e) (chain (after e) es) a;
               from = and-first (isThere (placeIn ids (e .0))) (isThere (placeIn ids (e .1))) t;
               to = and-second (isThere (placeIn ids (e .0))) (isThere (placeIn ids (e .1))) t;
@@ -113,11 +113,11 @@ module _ (both : Bool) (ids : List ℤ) where
       )
 
 -- an edge file gives edges exactly where it is a good file of them
-pub edges-accepted : (both : Bool) (most : ℕ) (ids : List ℤ) (s : List ℕ) (es : List (ℤ × ℤ))
-    → (edgesOf both most (placeIn ids) s ≡ gives es) ↔ GoodEdges both most ids s es
-edges-accepted both most ids s es = (
-  (λ e. let a = file-accepted (twoOf identOf identOf) edgeFile most (edgeTest both (placeIn ids)) s es .0 e in
-      let c = clauses-of both ids first es (a .pass) in
+pub edges-accepted : (undirected : Bool) (most : ℕ) (ids : List ℤ) (s : List ℕ) (es : List (ℤ × ℤ))
+    → (edgesOf undirected most (placeIn ids) s ≡ gives es) ↔ GoodEdges undirected most ids s es
+edges-accepted undirected most ids s es = (
+  (λ e. let a = file-accepted (twoOf identOf identOf) edgeFile most (edgeTest undirected (placeIn ids)) s es .0 e in
+      let c = clauses-of undirected ids first es (a .pass) in
       record {
         lines = a .lines;
         few = a .few;
@@ -126,18 +126,18 @@ edges-accepted both most ids s es = (
         smaller = c .smaller;
         there = c .there;
       }),
-  λ g. file-accepted (twoOf identOf identOf) edgeFile most (edgeTest both (placeIn ids)) s es .1
+  λ g. file-accepted (twoOf identOf identOf) edgeFile most (edgeTest undirected (placeIn ids)) s es .1
       (record {
         lines = g .lines;
         few = g .few;
-        pass = passes-of both ids first es (record { above = g .rise; apart = g .apart; smaller = g .smaller; there = g .there });
+        pass = passes-of undirected ids first es (record { above = g .rise; apart = g .apart; smaller = g .smaller; there = g .there });
       }),
 )
 
 -- ---- the load
 module _ (limits : Limits) (mode : ℕ) (room : Room) (vertices edges : List ℕ) (g : Lists) where
-  abbrev both : Bool
-  both = isUndirected mode
+  abbrev undirected : Bool
+  undirected = isUndirected mode
 
   abbrev hasPlaces : List ℤ → Bool
   hasPlaces ids = vertexRoom (room .ids) (room .outOffsets) (room .inOffsets) (length ids)
@@ -145,13 +145,13 @@ module _ (limits : Limits) (mode : ℕ) (room : Room) (vertices edges : List ℕ
   load-good : loaded limits mode room vertices edges ≡ gives g → GoodLoad limits mode room vertices edges g
   unfolding loaded listsRead arcsRead
   load-good h =
-      let m = check-passed (leb mode 1) unknownNumber (listsRead limits both room vertices edges) g h in
+      let m = check-passed (leb mode 1) unknownNumber (listsRead limits undirected room vertices edges) g h in
       let a = onward-passed (identifiers (limits .vertices) vertices) _ g (m .1) in
       let b = onward-passed (withRoom (hasPlaces (a .0)) (a .0)) _ g (a .2) in
       let r = check-passed (hasPlaces (a .0)) noRoom (gives (a .0)) (b .0) (b .1) in
-      let c = onward-passed (arcsRead both (limits .edges) (b .0) edges (room .outTargets) (room .inSources)) _ g (b .2) in
-      let d = onward-passed (edgesOf both (limits .edges) (placeIn (b .0)) edges) _ (c .0) (c .1) in
-      let es = arcs both (allNumbered (placeIn (b .0)) (d .0)) in
+      let c = onward-passed (arcsRead undirected (limits .edges) (b .0) edges (room .outTargets) (room .inSources)) _ g (b .2) in
+      let d = onward-passed (edgesOf undirected (limits .edges) (placeIn (b .0)) edges) _ (c .0) (c .1) in
+      let es = arcs undirected (allNumbered (placeIn (b .0)) (d .0)) in
       let k = check-passed (arcRoom (room .outTargets) (room .inSources) (length es)) noRoom (gives es) (c .0) (d .2) in
       let same-ids : a .0 ≡ b .0 = given-one (r .1) in
       let same-arcs : es ≡ c .0 = given-one (k .1) in
@@ -169,7 +169,7 @@ module _ (limits : Limits) (mode : ℕ) (room : Room) (vertices edges : List ℕ
         outOffsetsFit = ltb-true n (room .outOffsets) (and-first (ltb n (room .outOffsets)) (ltb n (room .inOffsets)) o);
         inOffsetsFit = ltb-true n (room .inOffsets) (and-second (ltb n (room .outOffsets)) (ltb n (room .inOffsets)) o);
         list = d .0;
-        goodEdges = edges-accepted both (limits .edges) (b .0) edges (d .0) .0 (d .1);
+        goodEdges = edges-accepted undirected (limits .edges) (b .0) edges (d .0) .0 (d .1);
         arcsAre = sym same-arcs;
         outTargetsFit =
             leb-true (length (c .0)) (room .outTargets)
@@ -186,14 +186,14 @@ module _ (limits : Limits) (mode : ℕ) (room : Room) (vertices edges : List ℕ
       let p : hasPlaces (g .ids) ≡ true =
       and-both (le-leb n (room .ids) (l .idsFit)) (and-both (lt-ltb n (room .outOffsets) (l .outOffsetsFit))
       (lt-ltb n (room .inOffsets) (l .inOffsetsFit))) in
-      let t : arcRoom (room .outTargets) (room .inSources) (length (arcs both (allNumbered (placeIn (g .ids)) (l .list)))) ≡ true =
+      let t : arcRoom (room .outTargets) (room .inSources) (length (arcs undirected (allNumbered (placeIn (g .ids)) (l .list)))) ≡ true =
       rw (← l .arcsAre) (and-both (le-leb (length (g .arcs)) (room .outTargets) (l .outTargetsFit))
       (le-leb (length (g .arcs)) (room .inSources) (l .inSourcesFit))) in
       rw (
         le-leb mode 1 (l .known),
         vertices-accepted (limits .vertices) vertices (g .ids) .1 (l .goodVertices),
         p,
-        edges-accepted both (limits .edges) (g .ids) edges (l .list) .1 (l .goodEdges),
+        edges-accepted undirected (limits .edges) (g .ids) edges (l .list) .1 (l .goodEdges),
         t,
         ← l .arcsAre,
       )

@@ -10,12 +10,12 @@ use lib.ListN.{length, take, drop, replicate}
 use lib.Seq.{take-all}
 use lib.Dec.{leb, ltb}
 use lib.IntN.{ℤ}
-use Rattle.basis.specs.Refusal.{Said, gives, refuses, plain, noRoom, said}
+use Rattle.basis.specs.Refusal.{Said, gives, refuses, plain, noRoom, mapped}
 use Rattle.basis.specs.declared.refusal.Refusal.{Refusal}
 use Rattle.basis.specs.Area.{pad}
 use Rattle.basis.specs.Scan.{each}
 use Rattle.basis.proofs.Tests.{and-off, and-both}
-use Rattle.basis.proofs.Saids.{said-gives, said-refuses}
+use Rattle.basis.proofs.Saids.{mapped-gives, mapped-refuses}
 use Rattle.graph.specs.Arcs.{Arc, arcs, parts, start, offsets}
 use Rattle.graph.specs.Find.{placeIn, bisected}
 use Rattle.store.specs.Held.{held, Ends, inArcs, inOffsets, inSources, seconds}
@@ -44,7 +44,7 @@ pub length-seconds : (es : List Arc) → length (seconds es) ≡ length es
 length-seconds [] = refl
 length-seconds (e ∷ es) = ap suc (length-seconds es)
 
-edges-fewer : (both : Bool) (m : ℕ) → m ≤ arcCount both m
+edges-fewer : (undirected : Bool) (m : ℕ) → m ≤ arcCount undirected m
 edges-fewer true m = omega arith
 edges-fewer false m = omega arith
 
@@ -68,30 +68,30 @@ sums-offsets l n size h b f =
     rw (c, sums-counted l (n + 1) (replicate (size - (n + 1)) 0) (rw (start-length l (n + 1) b) f), add-one n, k)
 
 -- ---- the edges of a file, read into the areas fo and ft, which hold c and t then
-module _ (both : Bool) (most : ℕ) (ids : List ℤ) (s : List ℕ) (fo ft to tt : List ℕ) (blank : Blank ids fo to)
-    (x : Listed) (c t : List ℕ) (told : edgeOutcome (listedSays x) c t ≡ edgeCall both most (bisected ids) s (length fo) (length ft)) where
+module _ (undirected : Bool) (most : ℕ) (ids : List ℤ) (s : List ℕ) (fo ft to tt : List ℕ) (blank : Blank ids fo to)
+    (x : Listed) (c t : List ℕ) (told : edgeOutcome (listedSays x) c t ≡ edgeCall undirected most (bisected ids) s (length fo) (length ft)) where
   abbrev n : ℕ
   n = length ids
 
   abbrev result : Said Arranged
-  result = said (arrangedBy both n (length fo) (length ft) (length to) (length tt)) (edgesRead both most ids s (length ft) (length tt))
+  result = mapped (arrangedBy undirected n (length fo) (length ft) (length to) (length tt)) (edgesRead undirected most ids s (length ft) (length tt))
 
-  answered : (r : Said ℕ) → listedSays x ≡ r → r ≡ said length (edgesOf both most (placeIn ids) s)
-  answered r q = sym q ∙ ap (λ (y : EdgesRead). y .answer) told ∙ ap (said length) (same-edges ids (blank .rise) both most s)
+  answered : (r : Said ℕ) → listedSays x ≡ r → r ≡ mapped length (edgesOf undirected most (placeIn ids) s)
+  answered r q = sym q ∙ ap (λ (y : EdgesRead). y .answer) told ∙ ap (mapped length) (same-edges ids (blank .rise) undirected most s)
 
   pub arrange-refused : (r : Refusal) → x ≡ Refused r → refuses r ≡ result
   unfolding edgesRead
-  arrange-refused r q = rw (said-refuses length (edgesOf both most (placeIn ids) s) r (answered (refuses r) (ap listedSays q)))
+  arrange-refused r q = rw (mapped-refuses length (edgesOf undirected most (placeIn ids) s) r (answered (refuses r) (ap listedSays q)))
 
   module _ (m : ℕ) (q : x ≡ Lines m) where
-    taken : (es : List (ℤ × ℤ)) × (edgesOf both most (placeIn ids) s ≡ gives es) × (m ≡ length es)
-    taken = said-gives length (edgesOf both most (placeIn ids) s) m (answered (gives m) (ap listedSays q))
+    taken : (es : List (ℤ × ℤ)) × (edgesOf undirected most (placeIn ids) s ≡ gives es) × (m ≡ length es)
+    taken = mapped-gives length (edgesOf undirected most (placeIn ids) s) m (answered (gives m) (ap listedSays q))
 
     abbrev es : List Arc
     es = allNumbered (placeIn ids) (taken .0)
 
-    found : edgesOf both most (bisected ids) s ≡ gives (taken .0)
-    found = same-edges ids (blank .rise) both most s ∙ taken .1
+    found : edgesOf undirected most (bisected ids) s ≡ gives (taken .0)
+    found = same-edges ids (blank .rise) undirected most s ∙ taken .1
 
     count : m ≡ length es
     count = taken .2 ∙ sym (length-numbered ids (taken .0))
@@ -106,46 +106,46 @@ module _ (both : Bool) (most : ℕ) (ids : List ℤ) (s : List ℕ) (fo ft to tt
         ap (λ (y : EdgesRead). y .targets) told ∙ ap (targetsArea (bisected ids) (length ft)) found
         ∙ ap (λ (l : List Arc). pad (length ft) (take (length ft) (seconds l))) (same-numbered ids (blank .rise) (taken .0))
 
-    valid : Valid both n es
+    valid : Valid undirected n es
     valid =
-        valid-file ids (blank .rise) both most s (taken .0) (taken .1)
+        valid-file ids (blank .rise) undirected most s (taken .0) (taken .1)
 
     ends : Ends n es
     ends = valid-ends n es (valid .fine)
 
-    arcs-long : length (arcs both es) ≡ arcCount both m
-    arcs-long = arc-count both es ∙ ap (arcCount both) (sym count)
+    arcs-long : length (arcs undirected es) ≡ arcCount undirected m
+    arcs-long = arc-count undirected es ∙ ap (arcCount undirected) (sym count)
 
-    short : (r : Refusal) → r ≡ plain noRoom → arcRoom (length ft) (length tt) (length (arcs both es)) ≡ false → refuses r ≡ result
+    short : (r : Refusal) → r ≡ plain noRoom → arcRoom (length ft) (length tt) (length (arcs undirected es)) ≡ false → refuses r ≡ result
     unfolding edgesRead
     short r e h = rw (taken .1, h, e)
 
     -- the areas' lengths when they are asked, and the answers
-    module _ (lt : ℕ) (ht : lt ≡ length ft) (a : Bool) (ea : a ≡ ltb lt (arcCount both m)) where
+    module _ (lt : ℕ) (ht : lt ≡ length ft) (a : Bool) (ea : a ≡ ltb lt (arcCount undirected m)) where
       pub arrange-short : a ≡ true → (r : Refusal) → r ≡ plain noRoom → refuses r ≡ result
       arrange-short h r e =
-          let l = ltb-true lt (arcCount both m) (sym ea ∙ h) in
-          short r e (rw (lt-leb (length (arcs both es)) (length ft) (omega (arith, arcs-long))))
+          let l = ltb-true lt (arcCount undirected m) (sym ea ∙ h) in
+          short r e (rw (lt-leb (length (arcs undirected es)) (length ft) (omega (arith, arcs-long))))
 
-      module _ (fa : a ≡ false) (b : Bool) (eb : b ≡ ltb (length tt) (arcCount both m)) where
-        fits : arcCount both m ≤ length ft
-        fits = let l = ltb-false lt (arcCount both m) (sym ea ∙ fa) in omega arith
+      module _ (fa : a ≡ false) (b : Bool) (eb : b ≡ ltb (length tt) (arcCount undirected m)) where
+        fits : arcCount undirected m ≤ length ft
+        fits = let l = ltb-false lt (arcCount undirected m) (sym ea ∙ fa) in omega arith
 
         pub arrange-short-back : b ≡ true → (r : Refusal) → r ≡ plain noRoom → refuses r ≡ result
         arrange-short-back h r e =
-            let l = ltb-true (length tt) (arcCount both m) (sym eb ∙ h) in
+            let l = ltb-true (length tt) (arcCount undirected m) (sym eb ∙ h) in
             short r e
             (rw (
-              lt-leb (length (arcs both es)) (length tt) (omega (arith, arcs-long)),
-              and-off (leb (length (arcs both es)) (length ft)) false refl,
+              lt-leb (length (arcs undirected es)) (length tt) (omega (arith, arcs-long)),
+              and-off (leb (length (arcs undirected es)) (length ft)) false refl,
             ))
 
         module _ (fb : b ≡ false) (small : length ft ≤ largest) (o : List ℕ) (eo : o ≡ sums 0 (take (n + 1) c) ++ drop (n + 1) c) where
-          fits-back : arcCount both m ≤ length tt
-          fits-back = let l = ltb-false (length tt) (arcCount both m) (sym eb ∙ fb) in omega arith
+          fits-back : arcCount undirected m ≤ length tt
+          fits-back = let l = ltb-false (length tt) (arcCount undirected m) (sym eb ∙ fb) in omega arith
 
           edges-fit : length es ≤ length ft
-          edges-fit = let f = edges-fewer both m in let g = fits in let k = count in omega arith
+          edges-fit = let f = edges-fewer undirected m in let g = fits in let k = count in omega arith
 
           offsets-are : o ≡ pad (length fo) (offsets es n)
           offsets-are =
@@ -164,24 +164,24 @@ module _ (both : Bool) (most : ℕ) (ids : List ℤ) (s : List ℕ) (fo ft to tt
           held-is =
               ap₂ (held n) offsets-are targets-are ∙ held-built es n (valid .pairs) ends (length fo) (length ft) (blank .places) start-is
 
-          all-fit : heldFit both n o t (length tt) ≡ true
+          all-fit : heldFit undirected n o t (length tt) ≡ true
           unfolding heldFit
           all-fit =
               rw held-is (and-both (each-ends n es ends)
-              (le-leb (length (inArcs both es)) (length tt) (rw (length-backward (arcs both es), arcs-long) fits-back)))
+              (le-leb (length (inArcs undirected es)) (length tt) (rw (length-backward (arcs undirected es), arcs-long) fits-back)))
 
           -- so the spreading is done
-          pub arrange-end : (d : Bool) (p u : List ℕ) → spreadLeft d p u ≡ spreadCall both n o t (length to) (length tt)
+          pub arrange-end : (d : Bool) (p u : List ℕ) → spreadLeft d p u ≡ spreadCall undirected n o t (length to) (length tt)
               → gives (arranged m o t p u) ≡ result
           unfolding edgesRead spreadCall
           arrange-end d p u e =
-              let l₁ = le-leb (length (arcs both es)) (length ft) (rw arcs-long fits) in
-              let l₂ = le-leb (length (arcs both es)) (length tt) (rw arcs-long fits-back) in
+              let l₁ = le-leb (length (arcs undirected es)) (length ft) (rw arcs-long fits) in
+              let l₂ = le-leb (length (arcs undirected es)) (length tt) (rw arcs-long fits-back) in
               let w = and-both (lt-ltb n (length to) (blank .backPlaces)) all-fit in
-              let f : spreadLeft d p u ≡ spreadLeft true (pad (length to) (inOffsets both n o t))
-              (pad (length tt) (inSources both n o t)) = e ∙ rw w in
-              let h₁ = ap (λ (y : Spread). y .offsets) f ∙ ap (λ (l : List Arc). pad (length to) (offsets (inArcs both l) n)) held-is in
-              let h₂ = ap (λ (y : Spread). y .targets) f ∙ ap (λ (l : List Arc). pad (length tt) (parts (inArcs both l) n)) held-is in
+              let f : spreadLeft d p u ≡ spreadLeft true (pad (length to) (inOffsets undirected n o t))
+              (pad (length tt) (inSources undirected n o t)) = e ∙ rw w in
+              let h₁ = ap (λ (y : Spread). y .offsets) f ∙ ap (λ (l : List Arc). pad (length to) (offsets (inArcs undirected l) n)) held-is in
+              let h₂ = ap (λ (y : Spread). y .targets) f ∙ ap (λ (l : List Arc). pad (length tt) (parts (inArcs undirected l) n)) held-is in
               rw (taken .1, l₁, l₂) (ap gives (arranged-of count offsets-are targets-are h₁ h₂))
             where
               arranged-of : {k j : ℕ} {a b c d a′ b′ c′ d′ : List ℕ} → k ≡ j → a ≡ a′ → b ≡ b′ → c ≡ c′ → d ≡ d′

@@ -10,13 +10,13 @@ use lib.ListN.{length, take, drop, replicate, length-append}
 use lib.Seq.{take-at, drop-append-add}
 use lib.Dec.{leb}
 use lib.IntN.{ℤ}
-use Rattle.basis.specs.Refusal.{Said, gives, refuses, onward, said, noRoom}
+use Rattle.basis.specs.Refusal.{Said, gives, refuses, onward, mapped, noRoom}
 use Rattle.basis.specs.declared.refusal.Refusal.{Refusal}
 use Rattle.basis.specs.Area.{pad, copied}
 use Rattle.basis.specs.Order.{risingZ}
 use Rattle.basis.proofs.Tests.{and-first, no-case, and-swap}
 use Rattle.basis.proofs.Areas.{column-ext, drop-replicate, pad-length, copied-first}
-use Rattle.basis.proofs.Saids.{said-gives, said-refuses, given-one, check-passed}
+use Rattle.basis.proofs.Saids.{mapped-gives, mapped-refuses, given-one, check-passed}
 use Rattle.graph.specs.Find.{placeIn}
 use Rattle.graph.specs.Arcs.{Arc, arcs, parts, start, offsets}
 use Rattle.store.specs.Held.{inArcs}
@@ -35,65 +35,65 @@ use Rattle.store.proofs.Fits.{arc-count}
 use Rattle.load.proofs.Arranges.{length-seconds}
 
 -- ---- the arcs of a file are those of its edges, and the order of the two rooms does not matter
-said-room : {A B : Type 0} (f : A → B) (t : Bool) (x : A) → withRoom t (f x) ≡ said f (withRoom t x)
-said-room f true x = refl
-said-room f false x = refl
+mapped-room : {A B : Type 0} (f : A → B) (t : Bool) (x : A) → withRoom t (f x) ≡ mapped f (withRoom t x)
+mapped-room f true x = refl
+mapped-room f false x = refl
 
-module _ (both : Bool) (most : ℕ) (ids : List ℤ) (s : List ℕ) where
-  pub arcs-edges : (t t′ : ℕ) → arcsRead both most ids s t t′ ≡ said (arcs both) (edgesRead both most ids s t t′)
+module _ (undirected : Bool) (most : ℕ) (ids : List ℤ) (s : List ℕ) where
+  pub arcs-edges : (t t′ : ℕ) → arcsRead undirected most ids s t t′ ≡ mapped (arcs undirected) (edgesRead undirected most ids s t t′)
   unfolding arcsRead edgesRead
-  arcs-edges t t′ = go (edgesOf both most (placeIn ids) s)
+  arcs-edges t t′ = go (edgesOf undirected most (placeIn ids) s)
     where
       go : (x : Said (List (ℤ × ℤ)))
-          → onward x (λ es. withRoom (arcRoom t t′ (length (arcs both (allNumbered (placeIn ids) es))))
-          (arcs both (allNumbered (placeIn ids) es)))
-          ≡ said (arcs both)
-          (onward x (λ es. withRoom (arcRoom t t′ (length (arcs both (allNumbered (placeIn ids) es)))) (allNumbered (placeIn ids) es)))
+          → onward x (λ es. withRoom (arcRoom t t′ (length (arcs undirected (allNumbered (placeIn ids) es))))
+          (arcs undirected (allNumbered (placeIn ids) es)))
+          ≡ mapped (arcs undirected)
+          (onward x (λ es. withRoom (arcRoom t t′ (length (arcs undirected (allNumbered (placeIn ids) es)))) (allNumbered (placeIn ids) es)))
       go (gives es) =
-          said-room (arcs both) (arcRoom t t′ (length (arcs both (allNumbered (placeIn ids) es)))) (allNumbered (placeIn ids) es)
+          mapped-room (arcs undirected) (arcRoom t t′ (length (arcs undirected (allNumbered (placeIn ids) es)))) (allNumbered (placeIn ids) es)
       go (refuses r) = refl
 
-  pub edges-swap : (t t′ : ℕ) → edgesRead both most ids s t t′ ≡ edgesRead both most ids s t′ t
+  pub edges-swap : (t t′ : ℕ) → edgesRead undirected most ids s t t′ ≡ edgesRead undirected most ids s t′ t
   unfolding edgesRead
-  edges-swap t t′ = go (edgesOf both most (placeIn ids) s)
+  edges-swap t t′ = go (edgesOf undirected most (placeIn ids) s)
     where
       go : (x : Said (List (ℤ × ℤ)))
-          → onward x (λ es. withRoom (arcRoom t t′ (length (arcs both (allNumbered (placeIn ids) es)))) (allNumbered (placeIn ids) es))
-          ≡ onward x (λ es. withRoom (arcRoom t′ t (length (arcs both (allNumbered (placeIn ids) es)))) (allNumbered (placeIn ids) es))
+          → onward x (λ es. withRoom (arcRoom t t′ (length (arcs undirected (allNumbered (placeIn ids) es)))) (allNumbered (placeIn ids) es))
+          ≡ onward x (λ es. withRoom (arcRoom t′ t (length (arcs undirected (allNumbered (placeIn ids) es)))) (allNumbered (placeIn ids) es))
       go (gives es) =
           ap (λ (b : Bool). withRoom b (allNumbered (placeIn ids) es))
-          (and-swap (leb (length (arcs both (allNumbered (placeIn ids) es))) t)
-          (leb (length (arcs both (allNumbered (placeIn ids) es))) t′))
+          (and-swap (leb (length (arcs undirected (allNumbered (placeIn ids) es))) t)
+          (leb (length (arcs undirected (allNumbered (placeIn ids) es))) t′))
       go (refuses r) = refl
 
   -- edges that were read with room are valid
-  module _ (rise : risingZ ids ≡ true) (t t′ : ℕ) (es : List Arc) (e : edgesRead both most ids s t t′ ≡ gives es) where
-    taken : (l : List (ℤ × ℤ)) × (edgesOf both most (placeIn ids) s ≡ gives l) × (allNumbered (placeIn ids) l ≡ es)
-        × (arcRoom t t′ (length (arcs both es)) ≡ true)
+  module _ (rise : risingZ ids ≡ true) (t t′ : ℕ) (es : List Arc) (e : edgesRead undirected most ids s t t′ ≡ gives es) where
+    taken : (l : List (ℤ × ℤ)) × (edgesOf undirected most (placeIn ids) s ≡ gives l) × (allNumbered (placeIn ids) l ≡ es)
+        × (arcRoom t t′ (length (arcs undirected es)) ≡ true)
     unfolding edgesRead
-    taken = go (edgesOf both most (placeIn ids) s) refl e
+    taken = go (edgesOf undirected most (placeIn ids) s) refl e
       where
-        go : (x : Said (List (ℤ × ℤ))) → edgesOf both most (placeIn ids) s ≡ x
-            → onward x (λ es. withRoom (arcRoom t t′ (length (arcs both (allNumbered (placeIn ids) es)))) (allNumbered (placeIn ids) es))
+        go : (x : Said (List (ℤ × ℤ))) → edgesOf undirected most (placeIn ids) s ≡ x
+            → onward x (λ es. withRoom (arcRoom t t′ (length (arcs undirected (allNumbered (placeIn ids) es)))) (allNumbered (placeIn ids) es))
             ≡ gives es
-            → (l : List (ℤ × ℤ)) × (edgesOf both most (placeIn ids) s ≡ gives l) × (allNumbered (placeIn ids) l ≡ es)
-            × (arcRoom t t′ (length (arcs both es)) ≡ true)
+            → (l : List (ℤ × ℤ)) × (edgesOf undirected most (placeIn ids) s ≡ gives l) × (allNumbered (placeIn ids) l ≡ es)
+            × (arcRoom t t′ (length (arcs undirected es)) ≡ true)
         go (gives l) q h =
-            let r = check-passed (arcRoom t t′ (length (arcs both (allNumbered (placeIn ids) l)))) noRoom
+            let r = check-passed (arcRoom t t′ (length (arcs undirected (allNumbered (placeIn ids) l)))) noRoom
             (gives (allNumbered (placeIn ids) l)) es h in
             let e = given-one (r .1) in
-            (l, q, e, subst (λ (x : List Arc). arcRoom t t′ (length (arcs both x)) ≡ true) e (r .0))
+            (l, q, e, subst (λ (x : List Arc). arcRoom t t′ (length (arcs undirected x)) ≡ true) e (r .0))
         go (refuses r) q h = no-case cc
 
-    pub read-valid : Valid both (length ids) es
+    pub read-valid : Valid undirected (length ids) es
     read-valid =
-        subst (Valid both (length ids)) (taken .2)
-        (valid-file ids rise both most s (taken .0) (taken .1))
+        subst (Valid undirected (length ids)) (taken .2)
+        (valid-file ids rise undirected most s (taken .0) (taken .1))
 
-    pub read-fits : arcCount both (length es) ≤ t
+    pub read-fits : arcCount undirected (length es) ≤ t
     read-fits =
-        let l = leb-true (length (arcs both es)) t
-        (and-first (leb (length (arcs both es)) t) (leb (length (arcs both es)) t′) (taken .3)) in omega (arith, arc-count both es)
+        let l = leb-true (length (arcs undirected es)) t
+        (and-first (leb (length (arcs undirected es)) t) (leb (length (arcs undirected es)) t′) (taken .3)) in omega (arith, arc-count undirected es)
 
 -- ---- areas, by each
 filled-of : (n : ℕ) {m k : ℕ} {a b c d a′ b′ c′ d′ : List ℕ} → m ≡ k → a ≡ a′ → b ≡ b′ → c ≡ c′ → d ≡ d′
@@ -106,20 +106,20 @@ arcs-one [] = refl
 arcs-one (e ∷ es) = ap (λ (l : List Arc). e ∷ l) (arcs-one es)
 
 module _ (most : ℕ) (ids : List ℤ) (s : List ℕ) (lo lt li ls : ℕ) (x : Listed) (o t b u : List ℕ)
-    (told : arrangedLeft x o t b u ≡ said (arrangedBy false (length ids) lo lt li ls) (edgesRead false most ids s lt ls)) where
+    (told : arrangedLeft x o t b u ≡ mapped (arrangedBy false (length ids) lo lt li ls) (edgesRead false most ids s lt ls)) where
   pub directed-refused : (r : Refusal) → x ≡ Refused r
-      → refuses r ≡ said (filledBy (length ids) lo lt li ls) (arcsRead false most ids s lt ls)
+      → refuses r ≡ mapped (filledBy (length ids) lo lt li ls) (arcsRead false most ids s lt ls)
   directed-refused r q =
       rw (
         arcs-edges false most ids s lt ls,
-        said-refuses (arrangedBy false (length ids) lo lt li ls) (edgesRead false most ids s lt ls) r
+        mapped-refuses (arrangedBy false (length ids) lo lt li ls) (edgesRead false most ids s lt ls) r
             (ap (λ y. arrangedLeft y o t b u) (sym q) ∙ told),
       )
 
   pub directed-lines : (m : ℕ) → x ≡ Lines m → gives (filled (record { vertices = length ids; arcs = m }) o t b u)
-      ≡ said (filledBy (length ids) lo lt li ls) (arcsRead false most ids s lt ls)
+      ≡ mapped (filledBy (length ids) lo lt li ls) (arcsRead false most ids s lt ls)
   directed-lines m q =
-      let g = said-gives (arrangedBy false (length ids) lo lt li ls) (edgesRead false most ids s lt ls) (arranged m o t b u)
+      let g = mapped-gives (arrangedBy false (length ids) lo lt li ls) (edgesRead false most ids s lt ls) (arranged m o t b u)
       (ap (λ y. arrangedLeft y o t b u) (sym q) ∙ told) in
       let a = sym (arcs-one (g .0)) in
       rw (arcs-edges false most ids s lt ls, g .1)
@@ -150,24 +150,24 @@ copy-pad xs ys a b k e h room =
 
 -- ---- an undirected file, arranged in the inward areas i, j and the outward areas o, t
 module _ (most : ℕ) (ids : List ℤ) (s : List ℕ) (lo lt li ls : ℕ) (rise : risingZ ids ≡ true) (x : Listed) (i j o t : List ℕ)
-    (told : arrangedLeft x i j o t ≡ said (arrangedBy true (length ids) li ls lo lt) (edgesRead true most ids s ls lt)) where
+    (told : arrangedLeft x i j o t ≡ mapped (arrangedBy true (length ids) li ls lo lt) (edgesRead true most ids s ls lt)) where
   abbrev n : ℕ
   n = length ids
 
-  swapped : arcsRead true most ids s lt ls ≡ said (arcs true) (edgesRead true most ids s ls lt)
-  swapped = arcs-edges true most ids s lt ls ∙ ap (said (arcs true)) (edges-swap true most ids s lt ls)
+  swapped : arcsRead true most ids s lt ls ≡ mapped (arcs true) (edgesRead true most ids s ls lt)
+  swapped = arcs-edges true most ids s lt ls ∙ ap (mapped (arcs true)) (edges-swap true most ids s lt ls)
 
-  pub undirected-refused : (r : Refusal) → x ≡ Refused r → refuses r ≡ said (filledBy n lo lt li ls) (arcsRead true most ids s lt ls)
+  pub undirected-refused : (r : Refusal) → x ≡ Refused r → refuses r ≡ mapped (filledBy n lo lt li ls) (arcsRead true most ids s lt ls)
   undirected-refused r q =
       rw (
         swapped,
-        said-refuses (arrangedBy true n li ls lo lt) (edgesRead true most ids s ls lt) r
+        mapped-refuses (arrangedBy true n li ls lo lt) (edgesRead true most ids s ls lt) r
             (ap (λ y. arrangedLeft y i j o t) (sym q) ∙ told),
       )
 
   module _ (m : ℕ) (q : x ≡ Lines m) where
     given : (es : List Arc) × (edgesRead true most ids s ls lt ≡ gives es) × (arranged m i j o t ≡ arrangedBy true n li ls lo lt es)
-    given = said-gives (arrangedBy true n li ls lo lt) (edgesRead true most ids s ls lt) (arranged m i j o t)
+    given = mapped-gives (arrangedBy true n li ls lo lt) (edgesRead true most ids s ls lt) (arranged m i j o t)
         (ap (λ y. arrangedLeft y i j o t) (sym q) ∙ told)
 
     abbrev es : List Arc
@@ -199,7 +199,7 @@ module _ (most : ℕ) (ids : List ℤ) (s : List ℕ) (lo lt li ls : ℕ) (rise 
     out-offsets = column-ext (start inward) (start (arcs true es)) (suc n) (λ v l. ap length (both-parts es v n (valid .fine)))
 
     pub undirected-lines : (i′ j′ : List ℕ) → n < li → i′ ≡ copied (n + 1) o i → j′ ≡ copied (m + m) t j
-        → gives (filled (record { vertices = n; arcs = m + m }) o t i′ j′) ≡ said (filledBy n lo lt li ls) (arcsRead true most ids s lt ls)
+        → gives (filled (record { vertices = n; arcs = m + m }) o t i′ j′) ≡ mapped (filledBy n lo lt li ls) (arcsRead true most ids s lt ls)
     undirected-lines i′ j′ room ei ej =
         let a : i ≡ pad li (offsets es n) = ap (λ (y : Arranged). y .offsets) (given .2) in
         let b : j ≡ pad ls (parts es n) = ap (λ (y : Arranged). y .targets) (given .2) in
@@ -217,9 +217,9 @@ module _ (most : ℕ) (ids : List ℤ) (s : List ℕ) (lo lt li ls : ℕ) (rise 
         rw (swapped, given .1) (ap gives (filled-of n (sym arcs-long) h₃ h₄ h₁ h₂))
 
 -- ---- by the mode
-module _ (both : Bool) (most : ℕ) (ids : List ℤ) (s : List ℕ) (t u : ℕ) (f : List Arc → Filled) (x : Said Filled) where
-  pub edges-both : both ≡ true → x ≡ said f (arcsRead true most ids s t u) → x ≡ said f (arcsRead both most ids s t u)
+module _ (undirected : Bool) (most : ℕ) (ids : List ℤ) (s : List ℕ) (t u : ℕ) (f : List Arc → Filled) (x : Said Filled) where
+  pub edges-both : undirected ≡ true → x ≡ mapped f (arcsRead true most ids s t u) → x ≡ mapped f (arcsRead undirected most ids s t u)
   edges-both e h = rw e h
 
-  pub edges-one : both ≡ false → x ≡ said f (arcsRead false most ids s t u) → x ≡ said f (arcsRead both most ids s t u)
+  pub edges-one : undirected ≡ false → x ≡ mapped f (arcsRead false most ids s t u) → x ≡ mapped f (arcsRead undirected most ids s t u)
   edges-one e h = rw e h

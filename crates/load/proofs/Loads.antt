@@ -10,12 +10,12 @@ use lib.Seq.{take-at, take-all}
 use lib.Dec.{eqb, leb, ltb}
 use lib.IntN.{ℤ, pos}
 use lib.Signed.{ltZ}
-use Rattle.basis.specs.Refusal.{Said, gives, refuses, plain, noRoom, unknownNumber, vertexFile, said}
+use Rattle.basis.specs.Refusal.{Said, gives, refuses, plain, noRoom, unknownNumber, vertexFile, mapped}
 use Rattle.basis.specs.declared.refusal.Refusal.{Refusal}
 use Rattle.basis.specs.Area.{padZ}
 use Rattle.basis.specs.Order.{aboveBy, risingZ}
 use Rattle.basis.proofs.Tests.{and-first, and-second, and-both, and-off, no-case}
-use Rattle.basis.proofs.Saids.{said-gives, said-refuses}
+use Rattle.basis.proofs.Saids.{mapped-gives, mapped-refuses}
 use Rattle.text.specs.Word.{identOf}
 use Rattle.text.specs.File.{first, after, Passes}
 use Rattle.text.proofs.Files.{file-accepted}
@@ -65,8 +65,8 @@ ids-rise (z ∷ l) p = above-after z l (p .1)
 -- ---- from the areas of the arcs to all five
 module _ (room : Room) (ids : List ℤ) (a : List ℤ) (h : a ≡ padZ (room .ids) ids) where
   pub five-areas : (r : Loaded) (oo ot io is : List ℕ) (x : Said (List Arc))
-      → filledLeft r oo ot io is ≡ said (filledBy (length ids) (room .outOffsets) (room .outTargets) (room .inOffsets) (room .inSources)) x
-      → outcomeLeft r a oo ot io is ≡ said (outcomeBy room) (said (λ l. record { ids = ids; arcs = l }) x)
+      → filledLeft r oo ot io is ≡ mapped (filledBy (length ids) (room .outOffsets) (room .outTargets) (room .inOffsets) (room .inSources)) x
+      → outcomeLeft r a oo ot io is ≡ mapped (outcomeBy room) (mapped (λ l. record { ids = ids; arcs = l }) x)
   unfolding outcomeOf
   five-areas (L.Refused o) oo ot io is (gives l) e = no-case cc
   five-areas (L.Refused o) oo ot io is (refuses q) e = let p : o ≡ q = cc in ap refuses p
@@ -88,7 +88,7 @@ module _ (limits : Limits) (mode : ℕ) (v e : List ℕ) (ids : List ℤ) (oo ot
   room = roomOf (length ids) (length oo) (length ot) (length io) (length is)
 
   abbrev result : Said Outcome
-  result = said (outcomeBy room) (loaded limits mode room v e)
+  result = mapped (outcomeBy room) (loaded limits mode room v e)
 
   pub fill-mode : 1 < mode → (r : Refusal) → r ≡ plain unknownNumber → refuses r ≡ result
   unfolding loaded
@@ -96,17 +96,17 @@ module _ (limits : Limits) (mode : ℕ) (v e : List ℕ) (ids : List ℤ) (oo ot
 
   module _ (h : mode ≤ 1) (x : Listed) (a : List ℤ)
       (told : vertexOutcome (listedSays x) a ≡ vertexCall (limits .vertices) v (length ids)) where
-    answered : (r : Said ℕ) → listedSays x ≡ r → r ≡ said length (identifiers (limits .vertices) v)
+    answered : (r : Said ℕ) → listedSays x ≡ r → r ≡ mapped length (identifiers (limits .vertices) v)
     answered r q = sym q ∙ ap (λ (y : Vertexes). y .answer) told
 
     pub fill-refused : (r : Refusal) → x ≡ Refused r → refuses r ≡ result
     unfolding loaded listsRead
     fill-refused r q =
-        rw (le-leb mode 1 h, said-refuses length (identifiers (limits .vertices) v) r (answered (refuses r) (ap listedSays q)))
+        rw (le-leb mode 1 h, mapped-refuses length (identifiers (limits .vertices) v) r (answered (refuses r) (ap listedSays q)))
 
     module _ (n : ℕ) (q : x ≡ Lines n) (la : ℕ) (kept : la ≡ length ids) (t : Bool) (et : t ≡ vertexRoom la (length oo) (length io) n) where
       taken : (l : List ℤ) × (identifiers (limits .vertices) v ≡ gives l) × (n ≡ length l)
-      taken = said-gives length (identifiers (limits .vertices) v) n (answered (gives n) (ap listedSays q))
+      taken = mapped-gives length (identifiers (limits .vertices) v) n (answered (gives n) (ap listedSays q))
 
       abbrev list : List ℤ
       list = taken .0
@@ -158,14 +158,14 @@ module _ (limits : Limits) (mode : ℕ) (v e : List ℕ) (ids : List ℤ) (oo ot
 
           pub fill-end : (r : Loaded) (oo′ ot′ io′ is′ : List ℕ)
               → filledLeft r oo′ ot′ io′ is′
-              ≡ said (filledBy (length b) (length oo) (length ot) (length io) (length is))
+              ≡ mapped (filledBy (length b) (length oo) (length ot) (length io) (length is))
               (arcsRead (eqb mode 0) (limits .edges) b e (length ot) (length is))
               → outcomeLeft r a oo′ ot′ io′ is′ ≡ result
           unfolding loaded listsRead
           fill-end r oo′ ot′ io′ is′ g =
               rw (le-leb mode 1 h, taken .1, same-room ∙ f)
               (five-areas room list a padded r oo′ ot′ io′ is′ (arcsRead (eqb mode 0) (limits .edges) list e (length ot) (length is))
-              (g ∙ ap (λ (l : List ℤ). said (filledBy (length l) (length oo) (length ot) (length io) (length is))
+              (g ∙ ap (λ (l : List ℤ). mapped (filledBy (length l) (length oo) (length ot) (length io) (length is))
               (arcsRead (eqb mode 0) (limits .edges) l e (length ot) (length is))) lent))
 
 -- ---- the limits
@@ -177,7 +177,7 @@ capped-both limits v e p q = cc
 module _ (limits : Limits) (mode : ℕ) (v e : List ℕ) (ids : List ℤ) (oo ot io is : List ℕ) (x : Loaded) (ids₁ : List ℤ)
     (oo₁ ot₁ io₁ is₁ : List ℕ)
     (told : outcomeLeft x ids₁ oo₁ ot₁ io₁ is₁
-    ≡ said (outcomeBy (roomOf (length ids) (length oo) (length ot) (length io) (length is)))
+    ≡ mapped (outcomeBy (roomOf (length ids) (length oo) (length ot) (length io) (length is)))
     (loaded limits mode (roomOf (length ids) (length oo) (length ot) (length io) (length is)) v e))
     (most : Limits) (cap : limits ≡ most) where
   abbrev wide : Room
@@ -186,7 +186,7 @@ module _ (limits : Limits) (mode : ℕ) (v e : List ℕ) (ids : List ℤ) (oo ot
   pub load-graph : (size : Size) → x ≡ L.Graph size → outcome (gives size) ids₁ oo₁ ot₁ io₁ is₁ ≡ loadCall most mode wide v e
   unfolding loadCall
   load-graph size q =
-      let g = said-gives (outcomeBy wide) (loaded limits mode wide v e) (outcome (gives size) ids₁ oo₁ ot₁ io₁ is₁)
+      let g = mapped-gives (outcomeBy wide) (loaded limits mode wide v e) (outcome (gives size) ids₁ oo₁ ot₁ io₁ is₁)
       (ap (λ y. outcomeLeft y ids₁ oo₁ ot₁ io₁ is₁) (sym q) ∙ told) in
       g .2 ∙ ap (outcomeOf wide) (sym (g .1)) ∙ ap (λ l. loadCall l mode wide v e) cap
 
@@ -196,6 +196,6 @@ module _ (limits : Limits) (mode : ℕ) (v e : List ℕ) (ids : List ℤ) (oo ot
       → outcome (refuses r) ids₂ oo₂ ot₂ io₂ is₂ ≡ loadCall most mode wide v e
   unfolding loadCall outcomeOf
   load-refused r q li loo lot lio lis ids₂ oo₂ ot₂ io₂ is₂ f =
-      let g = said-refuses (outcomeBy wide) (loaded limits mode wide v e) r (ap (λ y. outcomeLeft y ids₁ oo₁ ot₁ io₁ is₁) (sym q) ∙ told) in
+      let g = mapped-refuses (outcomeBy wide) (loaded limits mode wide v e) r (ap (λ y. outcomeLeft y ids₁ oo₁ ot₁ io₁ is₁) (sym q) ∙ told) in
       rw (f .emptyIds, f .emptyOutOffsets, f .emptyOutTargets, f .emptyInOffsets, f .emptyInSources, li, loo, lot, lio, lis)
       (ap (outcomeOf wide) (sym g) ∙ ap (λ l. loadCall l mode wide v e) cap)

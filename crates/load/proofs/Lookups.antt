@@ -17,14 +17,14 @@ module _ (ids : List ℤ) (rise : risingZ ids ≡ true) where
   same-place : (id : ℤ) → bisected ids id ≡ placeIn ids id
   same-place id = find-rising ids id rise
 
-  same-test : (both : Bool) (before : Before (ℤ × ℤ)) (e : ℤ × ℤ)
-      → edgeTest both (bisected ids) before e ≡ edgeTest both (placeIn ids) before e
+  same-test : (undirected : Bool) (before : Before (ℤ × ℤ)) (e : ℤ × ℤ)
+      → edgeTest undirected (bisected ids) before e ≡ edgeTest undirected (placeIn ids) before e
   unfolding edgeTest
-  same-test both before e = rw (same-place (e .0), same-place (e .1))
+  same-test undirected before e = rw (same-place (e .0), same-place (e .1))
 
-  pub same-edges : (both : Bool) (most : ℕ) (s : List ℕ) → edgesOf both most (bisected ids) s ≡ edgesOf both most (placeIn ids) s
-  same-edges both most s =
-      values-same edgeFile most (edgeTest both (bisected ids)) (edgeTest both (placeIn ids)) (same-test both) 0 first (linesOf edgeLine s)
+  pub same-edges : (undirected : Bool) (most : ℕ) (s : List ℕ) → edgesOf undirected most (bisected ids) s ≡ edgesOf undirected most (placeIn ids) s
+  same-edges undirected most s =
+      values-same edgeFile most (edgeTest undirected (bisected ids)) (edgeTest undirected (placeIn ids)) (same-test undirected) 0 first (linesOf edgeLine s)
 
   pub same-numbered : (es : List (ℤ × ℤ)) → allNumbered (bisected ids) es ≡ allNumbered (placeIn ids) es
   same-numbered [] = refl

@@ -13,13 +13,13 @@ use lib.ListN.{length, getD, replicate}
 use lib.Seq.{take-at}
 use lib.Dec.{eqb, leb}
 use lib.IntN.{ℤ, pos}
-use Rattle.basis.specs.Refusal.{Said, gives, refuses, plain, noRoom, unknownNumber, vertexFile, edgeFile, onward, said, check}
+use Rattle.basis.specs.Refusal.{Said, gives, refuses, plain, noRoom, unknownNumber, vertexFile, edgeFile, onward, mapped, check}
 use Rattle.basis.specs.declared.refusal.Refusal.{Refusal}
 use Rattle.basis.specs.Area.{padZ}
 use Rattle.basis.specs.Order.{sameZ, risingZ}
 use Rattle.basis.specs.Scan.{each, mem}
 use Rattle.basis.proofs.Tests.{and-first, and-second, and-both, eqb-swap, and-swap}
-use Rattle.basis.proofs.Saids.{refused-given, onward-refused, said-refuses}
+use Rattle.basis.proofs.Saids.{refused-given, onward-refused, mapped-refuses}
 use Rattle.basis.proofs.Areas.{pad-length}
 use Rattle.basis.proofs.Orders.{signed-order, same-places}
 use Rattle.text.specs.Word.{identOf}
@@ -50,9 +50,9 @@ pub vertices-refused : (most : ℕ) (s : List ℕ) (r : Refusal)
 vertices-refused most s r = file-refused identOf vertexFile most vertexTest s r
 
 -- an edge file is refused exactly at its first fault, said of its bytes
-pub edges-refused : (both : Bool) (most : ℕ) (ids : List ℤ) (s : List ℕ) (r : Refusal)
-    → (edgesOf both most (placeIn ids) s ≡ refuses r) ↔ FirstFault (twoOf identOf identOf) edgeFile most (edgeTest both (placeIn ids)) s r
-edges-refused both most ids s r = file-refused (twoOf identOf identOf) edgeFile most (edgeTest both (placeIn ids)) s r
+pub edges-refused : (undirected : Bool) (most : ℕ) (ids : List ℤ) (s : List ℕ) (r : Refusal)
+    → (edgesOf undirected most (placeIn ids) s ≡ refuses r) ↔ FirstFault (twoOf identOf identOf) edgeFile most (edgeTest undirected (placeIn ids)) s r
+edges-refused undirected most ids s r = file-refused (twoOf identOf identOf) edgeFile most (edgeTest undirected (placeIn ids)) s r
 
 -- ---- a refused load
 room-refused : {A : Type 0} (t : Bool) (x : A) (r : Refusal) → withRoom t x ≡ refuses r → (t ≡ false) × (r ≡ plain noRoom)
@@ -79,7 +79,7 @@ module _ (limits : Limits) (mode : ℕ) (room : Room) (vertices edges : List ℕ
   arcsSaid ids = arcsRead (isUndirected mode) (limits .edges) ids edges (room .outTargets) (room .inSources)
 
   abbrev listsSaid : List ℤ → Said Lists
-  listsSaid ids = said (λ l. record { ids = ids; arcs = l }) (arcsSaid ids)
+  listsSaid ids = mapped (λ l. record { ids = ids; arcs = l }) (arcsSaid ids)
 
   module _ (m : mode ≤ 1) (ids : List ℤ) (v : GoodVertices (limits .vertices) vertices ids) where
     from-edges : hasPlaces ids ≡ true → arcsSaid ids ≡ refuses r → Why
@@ -94,7 +94,7 @@ module _ (limits : Limits) (mode : ℕ) (room : Room) (vertices edges : List ℕ
             noArcs m ids v p (k .0) (edges-accepted (isUndirected mode) (limits .edges) ids edges (k .0) .0 (k .1)) (w .0) (w .1)
 
     from-places : (t : Bool) → hasPlaces ids ≡ t → onward (withRoom t ids) listsSaid ≡ refuses r → Why
-    from-places true p e = from-edges p (said-refuses (λ l. record { ids = ids; arcs = l }) (arcsSaid ids) r (sym e))
+    from-places true p e = from-edges p (mapped-refuses (λ l. record { ids = ids; arcs = l }) (arcsSaid ids) r (sym e))
     from-places false p e = noPlaces m ids v p (cc)
 
   refused-why : (t : Bool) → leb mode 1 ≡ t → check t unknownNumber (listsRead limits (isUndirected mode) room vertices edges) ≡ refuses r
@@ -165,18 +165,18 @@ module _ (ids : List ℤ) (rise : risingZ ids ≡ true) (u w : ℕ) (hu : u < le
       rw (same-first (e .0) w hw a, same-first (e .1) u hu b, eqb-swap w (numbered (placeIn ids) e .0))
       (and-swap (eqb (numbered (placeIn ids) e .1) u) (eqb (numbered (placeIn ids) e .0) w))
 
-  has-listed : (both : Bool) (es : List (ℤ × ℤ)) → each (λ e. isThere (placeIn ids (e .0)) && isThere (placeIn ids (e .1))) es ≡ true
-      → hasArc (arcs both (allNumbered (placeIn ids) es)) u w ≡ listsArc both es (name u) (name w)
+  has-listed : (undirected : Bool) (es : List (ℤ × ℤ)) → each (λ e. isThere (placeIn ids (e .0)) && isThere (placeIn ids (e .1))) es ≡ true
+      → hasArc (arcs undirected (allNumbered (placeIn ids) es)) u w ≡ listsArc undirected es (name u) (name w)
   unfolding hasArc hasEdge each
   has-listed false [] h = refl
   has-listed true [] h = refl
-  has-listed both (e ∷ es) h =
+  has-listed undirected (e ∷ es) h =
       let t = and-first (isThere (placeIn ids (e .0)) && isThere (placeIn ids (e .1)))
       (each (λ e. isThere (placeIn ids (e .0)) && isThere (placeIn ids (e .1))) es) h in
       let a = and-first (isThere (placeIn ids (e .0))) (isThere (placeIn ids (e .1))) t in
       let b = and-second (isThere (placeIn ids (e .0))) (isThere (placeIn ids (e .1))) t in
-      go both (same-edge e a b) (same-back e a b)
-      (has-listed both es (and-second (isThere (placeIn ids (e .0)) && isThere (placeIn ids (e .1)))
+      go undirected (same-edge e a b) (same-back e a b)
+      (has-listed undirected es (and-second (isThere (placeIn ids (e .0)) && isThere (placeIn ids (e .1)))
       (each (λ e. isThere (placeIn ids (e .0)) && isThere (placeIn ids (e .1))) es) h))
     where
       go : (t : Bool) → (eqb (numbered (placeIn ids) e .0) u && eqb w (numbered (placeIn ids) e .1))
@@ -195,14 +195,14 @@ module _ (ids : List ℤ) (rise : risingZ ids ≡ true) (u w : ℕ) (hu : u < le
           (hasEdge es (name u) (name w)) (hasEdge es (name w) (name u)))
 
 -- ---- an accepted load
-edges-few : (both : Bool) (m : ℕ) → arcCount both m ≤ m + m
+edges-few : (undirected : Bool) (m : ℕ) → arcCount undirected m ≤ m + m
 edges-few true m = omega arith
 edges-few false m = omega arith
 
 module _ (limits : Limits) (mode : ℕ) (room : Room) (vertices edges : List ℕ) (g : Lists)
     (h : loaded limits mode room vertices edges ≡ gives g) where
-  abbrev both : Bool
-  both = isUndirected mode
+  abbrev undirected : Bool
+  undirected = isUndirected mode
 
   abbrev outcome : Outcome
   outcome = loadCall limits mode room vertices edges
@@ -217,20 +217,20 @@ module _ (limits : Limits) (mode : ℕ) (room : Room) (vertices edges : List ℕ
   abbrev es : List Arc
   es = allNumbered (placeIn (g .ids)) (ok .list)
 
-  valid : Valid both (length (g .ids)) es
+  valid : Valid undirected (length (g .ids)) es
   valid =
-      valid-file (g .ids) (ok .goodVertices .rise) both (limits .edges) edges (ok .list)
-      (edges-accepted both (limits .edges) (g .ids) edges (ok .list) .1 (ok .goodEdges))
+      valid-file (g .ids) (ok .goodVertices .rise) undirected (limits .edges) edges (ok .list)
+      (edges-accepted undirected (limits .edges) (g .ids) edges (ok .list) .1 (ok .goodEdges))
 
   abbrev stored : Graph
   stored =
-      storedGraph (length (g .ids)) (arcs both es) (padZ (room .ids) (g .ids)) (room .outOffsets) (room .outTargets) (room .inOffsets)
+      storedGraph (length (g .ids)) (arcs undirected es) (padZ (room .ids) (g .ids)) (room .outOffsets) (room .outTargets) (room .inOffsets)
       (room .inSources)
 
   -- the answer is the graph's size, and the areas hold it
   pub load-answer : outcome .answer ≡ gives (sizeOf g)
   unfolding loadCall outcomeOf
-  load-answer = ap (λ x. said sizeOf x) h
+  load-answer = ap (λ x. mapped sizeOf x) h
 
   left-stored : graph ≡ stored
   unfolding loadCall outcomeOf
@@ -246,52 +246,52 @@ module _ (limits : Limits) (mode : ℕ) (room : Room) (vertices edges : List ℕ
       (subst (λ (l : List ℤ). risingZ l ≡ true) (sym (take-at (g .ids) (replicate (room .ids - n) (pos 0)) n refl))
       (ok .goodVertices .rise))
 
-  out-fits : length (arcs both es) ≤ room .outTargets
+  out-fits : length (arcs undirected es) ≤ room .outTargets
   out-fits = rw (← ok .arcsAre) (ok .outTargetsFit)
 
-  in-fits : length (arcs both es) ≤ room .inSources
+  in-fits : length (arcs undirected es) ≤ room .inSources
   in-fits = rw (← ok .arcsAre) (ok .inSourcesFit)
 
   sound-within : limits .vertices ≤ 65536 → limits .edges ≤ 1048576 → soundGraph graph ≡ true
   sound-within a b =
       let e = ok .goodEdges .few in
       let v = ok .goodVertices .few in
-      let c = arc-count both es in
-      let d = edges-few both (length es) in
+      let c = arc-count undirected es in
+      let d = edges-few undirected (length es) in
       let k = length-numbered (g .ids) (ok .list) in
       ap soundGraph left-stored
-      ∙ stored-sound both (length (g .ids)) es valid (padZ (room .ids) (g .ids)) (room .outOffsets) (room .outTargets) (room .inOffsets)
+      ∙ stored-sound undirected (length (g .ids)) es valid (padZ (room .ids) (g .ids)) (room .outOffsets) (room .outTargets) (room .inOffsets)
       (room .inSources)
       (ok .outOffsetsFit) out-fits (ok .inOffsetsFit) in-fits sound-ids (omega arith) (omega arith)
 
-  same-list : (list : List (ℤ × ℤ)) → GoodEdges both (limits .edges) (g .ids) edges list → ok .list ≡ list
+  same-list : (list : List (ℤ × ℤ)) → GoodEdges undirected (limits .edges) (g .ids) edges list → ok .list ≡ list
   same-list list fine =
-      let a = edges-accepted both (limits .edges) (g .ids) edges (ok .list) .1 (ok .goodEdges) in
-      let b = edges-accepted both (limits .edges) (g .ids) edges list .1 fine in
+      let a = edges-accepted undirected (limits .edges) (g .ids) edges (ok .list) .1 (ok .goodEdges) in
+      let b = edges-accepted undirected (limits .edges) (g .ids) edges list .1 fine in
       cc
 
   -- w is in u's outward part exactly where the edge file has that arc, and u in w's inward part
-  pub load-outward : (list : List (ℤ × ℤ)) → GoodEdges both (limits .edges) (g .ids) edges list → (u w : ℕ) → u < length (g .ids)
+  pub load-outward : (list : List (ℤ × ℤ)) → GoodEdges undirected (limits .edges) (g .ids) edges list → (u w : ℕ) → u < length (g .ids)
       → w < length (g .ids)
-      → mem w (outward graph u) ≡ listsArc both list (getD (g .ids) u (pos 0)) (getD (g .ids) w (pos 0))
+      → mem w (outward graph u) ≡ listsArc undirected list (getD (g .ids) u (pos 0)) (getD (g .ids) w (pos 0))
   load-outward list fine u w hu hw =
       ap (λ (x : Graph). mem w (outward x u)) left-stored
-      ∙ stored-outward both (length (g .ids)) es valid (padZ (room .ids) (g .ids)) (room .outOffsets) (room .outTargets) (room .inOffsets)
+      ∙ stored-outward undirected (length (g .ids)) es valid (padZ (room .ids) (g .ids)) (room .outOffsets) (room .outTargets) (room .inOffsets)
       (room .inSources)
       (ok .outOffsetsFit) out-fits (ok .inOffsetsFit) in-fits u w hu
-      ∙ has-listed (g .ids) (ok .goodVertices .rise) u w hu hw both (ok .list) (ok .goodEdges .there)
-      ∙ ap (λ (l : List (ℤ × ℤ)). listsArc both l (getD (g .ids) u (pos 0)) (getD (g .ids) w (pos 0))) (same-list list fine)
+      ∙ has-listed (g .ids) (ok .goodVertices .rise) u w hu hw undirected (ok .list) (ok .goodEdges .there)
+      ∙ ap (λ (l : List (ℤ × ℤ)). listsArc undirected l (getD (g .ids) u (pos 0)) (getD (g .ids) w (pos 0))) (same-list list fine)
 
-  pub load-inward : (list : List (ℤ × ℤ)) → GoodEdges both (limits .edges) (g .ids) edges list → (u w : ℕ) → u < length (g .ids)
+  pub load-inward : (list : List (ℤ × ℤ)) → GoodEdges undirected (limits .edges) (g .ids) edges list → (u w : ℕ) → u < length (g .ids)
       → w < length (g .ids)
-      → mem u (inward graph w) ≡ listsArc both list (getD (g .ids) u (pos 0)) (getD (g .ids) w (pos 0))
+      → mem u (inward graph w) ≡ listsArc undirected list (getD (g .ids) u (pos 0)) (getD (g .ids) w (pos 0))
   load-inward list fine u w hu hw =
       ap (λ (x : Graph). mem u (inward x w)) left-stored
-      ∙ stored-inward both (length (g .ids)) es valid (padZ (room .ids) (g .ids)) (room .outOffsets) (room .outTargets) (room .inOffsets)
+      ∙ stored-inward undirected (length (g .ids)) es valid (padZ (room .ids) (g .ids)) (room .outOffsets) (room .outTargets) (room .inOffsets)
       (room .inSources)
       (ok .outOffsetsFit) out-fits (ok .inOffsetsFit) in-fits u w hw
-      ∙ has-listed (g .ids) (ok .goodVertices .rise) u w hu hw both (ok .list) (ok .goodEdges .there)
-      ∙ ap (λ (l : List (ℤ × ℤ)). listsArc both l (getD (g .ids) u (pos 0)) (getD (g .ids) w (pos 0))) (same-list list fine)
+      ∙ has-listed (g .ids) (ok .goodVertices .rise) u w hu hw undirected (ok .list) (ok .goodEdges .there)
+      ∙ ap (λ (l : List (ℤ × ℤ)). listsArc undirected l (getD (g .ids) u (pos 0)) (getD (g .ids) w (pos 0))) (same-list list fine)
 
   arc-back : (t p q : Bool) → t ≡ true → (p || (t && q)) ≡ (q || (t && p))
   arc-back t true true e = refl
@@ -305,7 +305,7 @@ module _ (limits : Limits) (mode : ℕ) (room : Room) (vertices edges : List ℕ
       let a = getD (g .ids) u (pos 0) in
       let b = getD (g .ids) w (pos 0) in
       load-outward (ok .list) (ok .goodEdges) w u hw hu
-      ∙ arc-back both (hasEdge (ok .list) b a) (hasEdge (ok .list) a b) (rw e)
+      ∙ arc-back undirected (hasEdge (ok .list) b a) (hasEdge (ok .list) a b) (rw e)
       ∙ sym (load-outward (ok .list) (ok .goodEdges) u w hu hw) ∙ m
 
 -- what a load stores is sound, whatever limits it is given

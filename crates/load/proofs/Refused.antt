@@ -42,17 +42,17 @@ module _ (limits : Limits) where
   pub load-turned : (mode : ℕ) (room : Room) (v e : List ℕ) → Either Any (Turned limits) (loaded limits mode room v e)
   unfolding loaded listsRead arcsRead
   load-turned mode room v e =
-      let both = isUndirected mode in
+      let undirected = isUndirected mode in
       let ids = identifiers (limits .vertices) v in
       either-cond Any (Turned limits) (leb mode 1) _ _
       (λ _. refused-onward (Turned limits) ids _ (of-file vertexFile (limits .vertices) (omega arith) (omega arith) ids
       (vertices-met (limits .vertices) v))
       (λ i. refused-onward (Turned limits) (withRoom (vertexRoom (room .ids) (room .outOffsets) (room .inOffsets) (length i)) i) _
       (of-room (vertexRoom (room .ids) (room .outOffsets) (room .inOffsets) (length i)) i)
-      (λ i. let es = edgesOf both (limits .edges) (placeIn i) e in
-      refused-onward (Turned limits) (arcsRead both (limits .edges) i e (room .outTargets) (room .inSources)) _
+      (λ i. let es = edgesOf undirected (limits .edges) (placeIn i) e in
+      refused-onward (Turned limits) (arcsRead undirected (limits .edges) i e (room .outTargets) (room .inSources)) _
       (refused-onward (Turned limits) es _ (of-file edgeFile (limits .edges) (omega arith) (omega arith) es
-      (edges-met both (limits .edges) (placeIn i) e))
-      (λ es. let l = arcs both (allNumbered (placeIn i) es) in of-room (arcRoom (room .outTargets) (room .inSources) (length l)) l))
+      (edges-met undirected (limits .edges) (placeIn i) e))
+      (λ es. let l = arcs undirected (allNumbered (placeIn i) es) in of-room (arcRoom (room .outTargets) (room .inSources) (length l)) l))
       (λ l. tt))))
       (λ _. record { some = omega arith; low = omega arith; inFile = omega arith; inLines = omega arith })

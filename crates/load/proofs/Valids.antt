@@ -27,23 +27,23 @@ use Rattle.store.proofs.Order.{Fine, Smaller, Lex, Valid, lex-cons}
 use Rattle.lists.specs.Files.{isAbove, numberOf, edgeTest, edgesOf, numbered, allNumbered}
 
 -- ---- what the test of an edge says
-pub record Tested (both : Bool) (ids : List ℤ) (before : Before (ℤ × ℤ)) (e : ℤ × ℤ) : Type 0 where
+pub record Tested (undirected : Bool) (ids : List ℤ) (before : Before (ℤ × ℤ)) (e : ℤ × ℤ) : Type 0 where
   pub apart : sameZ (e .0) (e .1) ≡ false
-  pub smaller : (both && ltZ (e .1) (e .0)) ≡ false
+  pub smaller : (undirected && ltZ (e .1) (e .0)) ≡ false
   pub above : isAbove before e ≡ true
   pub from : isThere (placeIn ids (e .0)) ≡ true
   pub to : isThere (placeIn ids (e .1)) ≡ true
 
-pub test-passed : (both : Bool) (ids : List ℤ) (before : Before (ℤ × ℤ)) (e : ℤ × ℤ) → edgeTest both (placeIn ids) before e ≡ 0
-    → Tested both ids before e
+pub test-passed : (undirected : Bool) (ids : List ℤ) (before : Before (ℤ × ℤ)) (e : ℤ × ℤ) → edgeTest undirected (placeIn ids) before e ≡ 0
+    → Tested undirected ids before e
 unfolding edgeTest
-test-passed both ids before e h =
-    go (sameZ (e .0) (e .1)) (both && ltZ (e .1) (e .0)) (isAbove before e) (isThere (placeIn ids (e .0))) (isThere (placeIn ids (e .1)))
+test-passed undirected ids before e h =
+    go (sameZ (e .0) (e .1)) (undirected && ltZ (e .1) (e .0)) (isAbove before e) (isThere (placeIn ids (e .0))) (isThere (placeIn ids (e .1)))
     refl refl refl refl refl h
   where
-    go : (p q r x y : Bool) → sameZ (e .0) (e .1) ≡ p → (both && ltZ (e .1) (e .0)) ≡ q → isAbove before e ≡ r
+    go : (p q r x y : Bool) → sameZ (e .0) (e .1) ≡ p → (undirected && ltZ (e .1) (e .0)) ≡ q → isAbove before e ≡ r
         → isThere (placeIn ids (e .0)) ≡ x → isThere (placeIn ids (e .1)) ≡ y
-        → _≡_ {A = ℕ} (cond p 5 (cond q 6 (cond r (cond (x && y) 0 7) 4))) 0 → Tested both ids before e
+        → _≡_ {A = ℕ} (cond p 5 (cond q 6 (cond r (cond (x && y) 0 7) 4))) 0 → Tested undirected ids before e
     go true q r x y a b c d f h = absurd (let z : ⊥ = omega arith in z)
     go false true r x y a b c d f h = absurd (let z : ⊥ = omega arith in z)
     go false false false x y a b c d f h = absurd (let z : ⊥ = omega arith in z)
@@ -51,10 +51,10 @@ test-passed both ids before e h =
     go false false true true false a b c d f h = absurd (let z : ⊥ = omega arith in z)
     go false false true true true a b c d f h = record { apart = a; smaller = b; above = c; from = d; to = f }
 
-pub passed-test : (both : Bool) (ids : List ℤ) (before : Before (ℤ × ℤ)) (e : ℤ × ℤ) → Tested both ids before e
-    → edgeTest both (placeIn ids) before e ≡ 0
+pub passed-test : (undirected : Bool) (ids : List ℤ) (before : Before (ℤ × ℤ)) (e : ℤ × ℤ) → Tested undirected ids before e
+    → edgeTest undirected (placeIn ids) before e ≡ 0
 unfolding edgeTest
-passed-test both ids before e t = rw (t .apart, t .smaller, t .above, t .from, t .to)
+passed-test undirected ids before e t = rw (t .apart, t .smaller, t .above, t .from, t .to)
 
 -- ---- identifiers that rise, and the numbers of those that are there
 module _ (ids : List ℤ) (rise : risingZ ids ≡ true) where
@@ -78,8 +78,8 @@ module _ (ids : List ℤ) (rise : risingZ ids ≡ true) where
         rw (p .1, q .1) at (same-places signed-order (pos 0) ids rise (numberOf (placeIn ids a)) (numberOf (placeIn ids b)) (p .0) (q .0))
 
   -- ---- of an edge, and of an edge after another
-  module _ (both : Bool) where
-    pub fine-edge : (before : Before (ℤ × ℤ)) (e : ℤ × ℤ) → Tested both ids before e → Fine (length ids) (numbered (placeIn ids) e)
+  module _ (undirected : Bool) where
+    pub fine-edge : (before : Before (ℤ × ℤ)) (e : ℤ × ℤ) → Tested undirected ids before e → Fine (length ids) (numbered (placeIn ids) e)
     fine-edge before e t =
         record {
           source = there (e .0) (t .from) .0;
@@ -88,7 +88,7 @@ module _ (ids : List ℤ) (rise : risingZ ids ≡ true) where
               (sym (same-numbers (e .0) (e .1) (t .from) (t .to)) ∙ t .apart);
         }
 
-  small-edge : (both : Bool) (before : Before (ℤ × ℤ)) (e : ℤ × ℤ) → Tested both ids before e → Smaller both (numbered (placeIn ids) e)
+  small-edge : (undirected : Bool) (before : Before (ℤ × ℤ)) (e : ℤ × ℤ) → Tested undirected ids before e → Smaller undirected (numbered (placeIn ids) e)
   small-edge false before e t = tt
   small-edge true before e t =
       let f = fine-edge true before e t .apart in
@@ -105,8 +105,8 @@ module _ (ids : List ℤ) (rise : risingZ ids ≡ true) where
       go false true false hp hq hr t = clash t refl
       go false true true hp hq hr t = let z = eqb-true (d .0) (e .0) hq in (omega arith, λ _. ltb-true (d .1) (e .1) hr)
 
-  module _ (both : Bool) where
-    lex-edge : (c : Before (ℤ × ℤ)) (d e : ℤ × ℤ) → Tested both ids c d → Tested both ids (after d) e
+  module _ (undirected : Bool) where
+    lex-edge : (c : Before (ℤ × ℤ)) (d e : ℤ × ℤ) → Tested undirected ids c d → Tested undirected ids (after d) e
         → Lex (numbered (placeIn ids) d) (numbered (placeIn ids) e)
     lex-edge c d e s t =
         lex-of (numbered (placeIn ids) d) (numbered (placeIn ids) e)
@@ -116,25 +116,25 @@ module _ (ids : List ℤ) (rise : risingZ ids ≡ true) where
           less-numbers (d .1) (e .1) (s .to) (t .to),
         ) at (t .above))
 
-    valid-edges : (before : Before (ℤ × ℤ)) (es : List (ℤ × ℤ)) → Passes (edgeTest both (placeIn ids)) before es
-        → Valid both (length ids) (allNumbered (placeIn ids) es)
+    valid-edges : (before : Before (ℤ × ℤ)) (es : List (ℤ × ℤ)) → Passes (edgeTest undirected (placeIn ids)) before es
+        → Valid undirected (length ids) (allNumbered (placeIn ids) es)
     valid-edges before [] p = record { fine = tt; small = tt; pairs = tt }
     valid-edges before (e ∷ []) p =
-        let t = test-passed both ids before e (p .0) in
-        record { fine = (fine-edge both before e t, tt); small = (small-edge both before e t, tt); pairs = (tt, tt) }
+        let t = test-passed undirected ids before e (p .0) in
+        record { fine = (fine-edge undirected before e t, tt); small = (small-edge undirected before e t, tt); pairs = (tt, tt) }
     valid-edges before (d ∷ e ∷ es) p =
-        let s = test-passed both ids before d (p .0) in
-        let t = test-passed both ids (after d) e (p .1 .0) in
+        let s = test-passed undirected ids before d (p .0) in
+        let t = test-passed undirected ids (after d) e (p .1 .0) in
         let v = valid-edges (after d) (e ∷ es) (p .1) in
         record {
-          fine = (fine-edge both before d s, v .fine);
-          small = (small-edge both before d s, v .small);
+          fine = (fine-edge undirected before d s, v .fine);
+          small = (small-edge undirected before d s, v .small);
           pairs = lex-cons (numbered (placeIn ids) d) (numbered (placeIn ids) e) (allNumbered (placeIn ids) es) (lex-edge before d e s t)
               (v .pairs);
         }
 
     -- the edges of a file that was accepted
-    pub valid-file : (most : ℕ) (s : List ℕ) (es : List (ℤ × ℤ)) → edgesOf both most (placeIn ids) s ≡ gives es
-        → Valid both (length ids) (allNumbered (placeIn ids) es)
+    pub valid-file : (most : ℕ) (s : List ℕ) (es : List (ℤ × ℤ)) → edgesOf undirected most (placeIn ids) s ≡ gives es
+        → Valid undirected (length ids) (allNumbered (placeIn ids) es)
     valid-file most s es e =
-        valid-edges first es (file-accepted (twoOf identOf identOf) edgeFile most (edgeTest both (placeIn ids)) s es .0 e .pass)
+        valid-edges first es (file-accepted (twoOf identOf identOf) edgeFile most (edgeTest undirected (placeIn ids)) s es .0 e .pass)

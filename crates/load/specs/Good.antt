@@ -29,12 +29,12 @@ pub record GoodVertices (most : ℕ) (s : List ℕ) (ids : List ℤ) : Type 0 wh
 
 -- an edge file that lists the edges over the given identifiers: at most so many, "Edge lines strictly rise by first number, then second", no edge joins a
 -- vertex to itself, undirected "smaller first", each end is in the vertex file
-pub record GoodEdges (both : Bool) (most : ℕ) (ids : List ℤ) (s : List ℕ) (es : List (ℤ × ℤ)) : Type 0 where
+pub record GoodEdges (undirected : Bool) (most : ℕ) (ids : List ℤ) (s : List ℕ) (es : List (ℤ × ℤ)) : Type 0 where
   pub lines : FileSays (twoOf identOf identOf) s es
   pub few : length es ≤ most
   pub rise : risingBy abovePair es ≡ true
   pub apart : each (λ e. not (sameZ (e .0) (e .1))) es ≡ true
-  pub smaller : each (λ e. not (both && ltZ (e .1) (e .0))) es ≡ true
+  pub smaller : each (λ e. not (undirected && ltZ (e .1) (e .0))) es ≡ true
   pub there : each (λ e. isThere (placeIn ids (e .0)) && isThere (placeIn ids (e .1))) es ≡ true
 
 -- all that a load asks for, and the lists that it then gives
@@ -73,7 +73,7 @@ hasEdge (e ∷ es) a b = (sameZ (e .0) a && sameZ (e .1) b) || hasEdge es a b
 
 -- the arc from a to b is one of an edge file's: the edge is listed, or undirected the other way round
 abbrev pub listsArc : Bool → List (ℤ × ℤ) → ℤ → ℤ → Bool
-listsArc both es a b = hasEdge es a b || (both && hasEdge es b a)
+listsArc undirected es a b = hasEdge es a b || (undirected && hasEdge es b a)
 
 -- the graph in the five areas after a load
 abbrev pub graphLeft : Size → Outcome → Graph

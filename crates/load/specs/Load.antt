@@ -5,7 +5,7 @@ use mathlib.Core.List.{List}
 use lib.IntN.{ℤ, pos}
 use lib.ListN.{length}
 use lib.Dec.{eqb, leb, ltb}
-use Rattle.basis.specs.Refusal.{Said, gives, refuses, noRoom, unknownNumber, onward, said, check}
+use Rattle.basis.specs.Refusal.{Said, gives, refuses, noRoom, unknownNumber, onward, mapped, check}
 use Rattle.basis.specs.Area.{areaOf}
 use Rattle.basis.specs.Limits.{deskVertices, deskEdges}
 use Rattle.graph.specs.declared.Size.{Size}
@@ -53,17 +53,17 @@ withRoom enough x = check enough noRoom (gives x)
 
 -- the arcs of an edge file over the given identifiers, if there is room for them
 unfoldable pub arcsRead : Bool → ℕ → List ℤ → List ℕ → ℕ → ℕ → Said (List Arc)
-arcsRead both most ids s t t′ =
-    onward (edgesOf both most (placeIn ids) s)
-    (λ es. withRoom (arcRoom t t′ (length (arcs both (allNumbered (placeIn ids) es)))) (arcs both (allNumbered (placeIn ids) es)))
+arcsRead undirected most ids s t t′ =
+    onward (edgesOf undirected most (placeIn ids) s)
+    (λ es. withRoom (arcRoom t t′ (length (arcs undirected (allNumbered (placeIn ids) es)))) (arcs undirected (allNumbered (placeIn ids) es)))
 
 -- "the vertex file line by line (1, 2, 3, 4); room for identifiers (n places) and offsets (n+1 places each way); the edge file line by line (1, 2, 3, 5, 6, 4, 7);
 -- room for the arcs each way"
 unfoldable pub listsRead : Limits → Bool → Room → List ℕ → List ℕ → Said Lists
-listsRead limits both room vertices edges =
+listsRead limits undirected room vertices edges =
     onward (identifiers (limits .vertices) vertices)
     (λ ids. onward (withRoom (vertexRoom (room .ids) (room .outOffsets) (room .inOffsets) (length ids)) ids)
-    (λ ids. said (λ l. record { ids = ids; arcs = l }) (arcsRead both (limits .edges) ids edges (room .outTargets) (room .inSources))))
+    (λ ids. mapped (λ l. record { ids = ids; arcs = l }) (arcsRead undirected (limits .edges) ids edges (room .outTargets) (room .inSources))))
 
 -- "the mode (12)" before all
 unfoldable pub loaded : Limits → ℕ → Room → List ℕ → List ℕ → Said Lists
@@ -94,7 +94,7 @@ sizeOf g = record { vertices = length (g .ids); arcs = length (g .arcs) }
 -- the outcome of what two files say: a refusal fills "every area lent for writing with zero", and after success "places beyond the ones used are zero"
 unfoldable pub outcomeOf : Room → Said Lists → Outcome
 outcomeOf room g =
-    outcome (said sizeOf g) (areaOf (pos 0) (room .ids) (λ g. g .ids) g)
+    outcome (mapped sizeOf g) (areaOf (pos 0) (room .ids) (λ g. g .ids) g)
     (areaOf 0 (room .outOffsets) (λ g. offsets (g .arcs) (length (g .ids))) g)
     (areaOf 0 (room .outTargets) (λ g. parts (g .arcs) (length (g .ids))) g)
     (areaOf 0 (room .inOffsets) (λ g. offsets (backward (g .arcs)) (length (g .ids))) g)

@@ -22,9 +22,9 @@ use Rattle.load.specs.Load.{Lists, Room, arcRoom, withRoom, Outcome, out
 -- ---- edges stored by their first ends, and their arcs the other way
 -- the edges of a file by number, if areas of two lengths have room for their arcs
 unfoldable pub edgesRead : Bool → ℕ → List ℤ → List ℕ → ℕ → ℕ → Said (List Arc)
-edgesRead both most ids s t t′ =
-    onward (edgesOf both most (placeIn ids) s)
-    (λ es. withRoom (arcRoom t t′ (length (arcs both (allNumbered (placeIn ids) es)))) (allNumbered (placeIn ids) es))
+edgesRead undirected most ids s t t′ =
+    onward (edgesOf undirected most (placeIn ids) s)
+    (λ es. withRoom (arcRoom t t′ (length (arcs undirected (allNumbered (placeIn ids) es)))) (allNumbered (placeIn ids) es))
 
 -- two pairs of areas, and how many edges they hold
 pub record Arranged : Type 0 where
@@ -40,8 +40,8 @@ arranged m o t b u = record { edges = m; offsets = o; targets = t; backOffsets =
 
 -- the edges of n vertices in areas of four lengths
 abbrev pub arrangedBy : Bool → ℕ → ℕ → ℕ → ℕ → ℕ → List Arc → Arranged
-arrangedBy both n o t b u es =
-    arranged (length es) (pad o (offsets es n)) (pad t (parts es n)) (pad b (offsets (inArcs both es) n)) (pad u (parts (inArcs both es) n))
+arrangedBy undirected n o t b u es =
+    arranged (length es) (pad o (offsets es n)) (pad t (parts es n)) (pad b (offsets (inArcs undirected es) n)) (pad u (parts (inArcs undirected es) n))
 
 -- the answer of the storing and the four areas as they stand: the count of edges with the areas, or the refusal alone
 abbrev pub arrangedLeft : Listed → List ℕ → List ℕ → List ℕ → List ℕ → Said Arranged

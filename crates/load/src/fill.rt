@@ -15,7 +15,7 @@ use store::sums::sum_up;
 ghost use mathlib.Core.Path.{_≡_};
 ghost use mathlib.Core.Bool.{true, false};
 ghost use lib.ListN.{length};
-ghost use Rattle.basis.specs.Refusal.{said};
+ghost use Rattle.basis.specs.Refusal.{mapped};
 ghost use Rattle.load.specs.Load.{vertexRoom, roomOf, arcsRead, loaded};
 ghost use Rattle.load.specs.Steps.{edgesRead, arrangedBy, arrangedLeft, Blank, filledBy, filledLeft, outcomeBy, outcomeLeft};
 
@@ -23,7 +23,7 @@ ghost use Rattle.load.specs.Steps.{edgesRead, arrangedBy, arrangedLeft, 
 fn arrange(
     s: &[u8],
     most: usize,
-    both: bool,
+    undirected: bool,
     ids: &[i64],
     offsets: &mut [usize],
     targets: &mut [usize],
@@ -31,28 +31,28 @@ fn arrange(
     sources: &mut [usize],
 ) -> Listed
     requires { ⌜ Blank (now ids) (now offsets) (now back) ⌝ }
-    ensures { λ r. ⌜ arrangedLeft r (now (offsets .exit)) (now (targets .exit)) (now (back .exit)) (now (sources .exit)) ≡ said (arrangedBy both (length (now (ids .entry))) (length (now (offsets .entry))) (length (now (targets .entry))) (length (now (back .entry))) (length (now (sources .entry)))) (edgesRead both most (now (ids .entry)) (now (s .entry)) (length (now (targets .entry))) (length (now (sources .entry)))) ⌝ }
+    ensures { λ r. ⌜ arrangedLeft r (now (offsets .exit)) (now (targets .exit)) (now (back .exit)) (now (sources .exit)) ≡ mapped (arrangedBy undirected (length (now (ids .entry))) (length (now (offsets .entry))) (length (now (targets .entry))) (length (now (back .entry))) (length (now (sources .entry)))) (edgesRead undirected most (now (ids .entry)) (now (s .entry)) (length (now (targets .entry))) (length (now (sources .entry)))) ⌝ }
 {
     let n = ids.len();
-    let listed = read_edges(s, most, both, ids, offsets, targets);
+    let listed = read_edges(s, most, undirected, ids, offsets, targets);
     match listed {
         Listed::Refused(r) => Listed::Refused(r),
         Listed::Lines(m) => {
-            if lacks(targets.len(), m, both) {
+            if lacks(targets.len(), m, undirected) {
                 return Listed::Refused(Refusal::plain(NO_ROOM));
             }
-            if lacks(sources.len(), m, both) {
+            if lacks(sources.len(), m, undirected) {
                 return Listed::Refused(Refusal::plain(NO_ROOM));
             }
             sum_up(offsets, n + 1);
-            spread(back, sources, offsets, targets, both, n);
+            spread(back, sources, offsets, targets, undirected, n);
             Listed::Lines(m)
         }
     }
 }
 
 // The arcs of a directed edge file: outward as they are read, inward the other way round.
-fn directed(
+fn fill_directed(
     s: &[u8],
     most: usize,
     ids: &[i64],
@@ -62,7 +62,7 @@ fn directed(
     in_sources: &mut [usize],
 ) -> Loaded
     requires { ⌜ Blank (now ids) (now «out_offsets») (now «in_offsets») ⌝ }
-    ensures { λ r. ⌜ filledLeft r (now («out_offsets» .exit)) (now («out_targets» .exit)) (now («in_offsets» .exit)) (now («in_sources» .exit)) ≡ said (filledBy (length (now (ids .entry))) (length (now («out_offsets» .entry))) (length (now («out_targets» .entry))) (length (now («in_offsets» .entry))) (length (now («in_sources» .entry)))) (arcsRead false most (now (ids .entry)) (now (s .entry)) (length (now («out_targets» .entry))) (length (now («in_sources» .entry)))) ⌝ }
+    ensures { λ r. ⌜ filledLeft r (now («out_offsets» .exit)) (now («out_targets» .exit)) (now («in_offsets» .exit)) (now («in_sources» .exit)) ≡ mapped (filledBy (length (now (ids .entry))) (length (now («out_offsets» .entry))) (length (now («out_targets» .entry))) (length (now («in_offsets» .entry))) (length (now («in_sources» .entry)))) (arcsRead false most (now (ids .entry)) (now (s .entry)) (length (now («out_targets» .entry))) (length (now («in_sources» .entry)))) ⌝ }
 {
     let n = ids.len();
     let listed = arrange(
@@ -85,7 +85,7 @@ fn directed(
 }
 
 // The arcs of an undirected edge file: read into the inward areas, both arcs of every edge stored outward, and the same inward.
-fn undirected(
+fn fill_undirected(
     s: &[u8],
     most: usize,
     ids: &[i64],
@@ -95,7 +95,7 @@ fn undirected(
     in_sources: &mut [usize],
 ) -> Loaded
     requires { ⌜ Blank (now ids) (now «out_offsets») (now «in_offsets») ⌝ }
-    ensures { λ r. ⌜ filledLeft r (now («out_offsets» .exit)) (now («out_targets» .exit)) (now («in_offsets» .exit)) (now («in_sources» .exit)) ≡ said (filledBy (length (now (ids .entry))) (length (now («out_offsets» .entry))) (length (now («out_targets» .entry))) (length (now («in_offsets» .entry))) (length (now («in_sources» .entry)))) (arcsRead true most (now (ids .entry)) (now (s .entry)) (length (now («out_targets» .entry))) (length (now («in_sources» .entry)))) ⌝ }
+    ensures { λ r. ⌜ filledLeft r (now («out_offsets» .exit)) (now («out_targets» .exit)) (now («in_offsets» .exit)) (now («in_sources» .exit)) ≡ mapped (filledBy (length (now (ids .entry))) (length (now («out_offsets» .entry))) (length (now («out_targets» .entry))) (length (now («in_offsets» .entry))) (length (now («in_sources» .entry)))) (arcsRead true most (now (ids .entry)) (now (s .entry)) (length (now («out_targets» .entry))) (length (now («in_sources» .entry)))) ⌝ }
 {
     let n = ids.len();
     let listed = arrange(
@@ -123,7 +123,7 @@ fn undirected(
 fn store_edges(
     s: &[u8],
     most: usize,
-    both: bool,
+    undirected: bool,
     ids: &[i64],
     out_offsets: &mut [usize],
     out_targets: &mut [usize],
@@ -131,10 +131,10 @@ fn store_edges(
     in_sources: &mut [usize],
 ) -> Loaded
     requires { ⌜ Blank (now ids) (now «out_offsets») (now «in_offsets») ⌝ }
-    ensures { λ r. ⌜ filledLeft r (now («out_offsets» .exit)) (now («out_targets» .exit)) (now («in_offsets» .exit)) (now («in_sources» .exit)) ≡ said (filledBy (length (now (ids .entry))) (length (now («out_offsets» .entry))) (length (now («out_targets» .entry))) (length (now («in_offsets» .entry))) (length (now («in_sources» .entry)))) (arcsRead both most (now (ids .entry)) (now (s .entry)) (length (now («out_targets» .entry))) (length (now («in_sources» .entry)))) ⌝ }
+    ensures { λ r. ⌜ filledLeft r (now («out_offsets» .exit)) (now («out_targets» .exit)) (now («in_offsets» .exit)) (now («in_sources» .exit)) ≡ mapped (filledBy (length (now (ids .entry))) (length (now («out_offsets» .entry))) (length (now («out_targets» .entry))) (length (now («in_offsets» .entry))) (length (now («in_sources» .entry)))) (arcsRead undirected most (now (ids .entry)) (now (s .entry)) (length (now («out_targets» .entry))) (length (now («in_sources» .entry)))) ⌝ }
 {
-    if both {
-        return undirected(
+    if undirected {
+        return fill_undirected(
             s,
             most,
             ids,
@@ -144,7 +144,7 @@ fn store_edges(
             in_sources,
         );
     }
-    directed(
+    fill_directed(
         s,
         most,
         ids,
@@ -183,7 +183,7 @@ pub(crate) fn fill(
     in_offsets: &mut [usize],
     in_sources: &mut [usize],
 ) -> Loaded
-    ensures { λ r. ⌜ outcomeLeft r (now (ids .exit)) (now («out_offsets» .exit)) (now («out_targets» .exit)) (now («in_offsets» .exit)) (now («in_sources» .exit)) ≡ said (outcomeBy (roomOf (length (now (ids .entry))) (length (now («out_offsets» .entry))) (length (now («out_targets» .entry))) (length (now («in_offsets» .entry))) (length (now («in_sources» .entry))))) (loaded limits mode (roomOf (length (now (ids .entry))) (length (now («out_offsets» .entry))) (length (now («out_targets» .entry))) (length (now («in_offsets» .entry))) (length (now («in_sources» .entry)))) (now (vertices .entry)) (now (edges .entry))) ⌝ }
+    ensures { λ r. ⌜ outcomeLeft r (now (ids .exit)) (now («out_offsets» .exit)) (now («out_targets» .exit)) (now («in_offsets» .exit)) (now («in_sources» .exit)) ≡ mapped (outcomeBy (roomOf (length (now (ids .entry))) (length (now («out_offsets» .entry))) (length (now («out_targets» .entry))) (length (now («in_offsets» .entry))) (length (now («in_sources» .entry))))) (loaded limits mode (roomOf (length (now (ids .entry))) (length (now («out_offsets» .entry))) (length (now («out_targets» .entry))) (length (now («in_offsets» .entry))) (length (now («in_sources» .entry)))) (now (vertices .entry)) (now (edges .entry))) ⌝ }
 {
     if 1 < mode {
         return Loaded::Refused(Refusal::plain(UNKNOWN_NUMBER));

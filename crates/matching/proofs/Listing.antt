@@ -18,7 +18,7 @@ use Rattle.text.specs.File.{joined, Says, first, noTest}
 use Rattle.text.specs.declared.decimal.Decimal.{Decimal}
 use Rattle.text.proofs.Bytes.{mem-cut, not-head, not-tail, mem-join, upTo-cut, past-stop, past-more}
 use Rattle.text.proofs.Files.{file-accepted, passes-all}
-use Rattle.write.specs.Decimal.{signedText}
+use Rattle.write.specs.Number.{signedText}
 use Rattle.write.proofs.Texts.{signed-without}
 use Rattle.write.proofs.Back.{ident-back}
 use Rattle.matching.specs.Claim.{claimLines, numberLines, coefficientLines, idsOf, valuesOf}

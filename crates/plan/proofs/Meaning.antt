@@ -15,7 +15,7 @@ use Rattle.basis.specs.Refusal.{Said, gives, refuses, tooMany, badForm, at, she
 use Rattle.basis.specs.Scan.{mem}
 use Rattle.basis.specs.Limits.{deskVertices, deskEdges}
 use Rattle.basis.proofs.Tests.{no-case, false-of}
-use Rattle.basis.proofs.Saids.{refused-given, given-one, onward-passed, said-gives}
+use Rattle.basis.proofs.Saids.{refused-given, given-one, onward-passed, mapped-gives}
 use Rattle.text.specs.Word.{Word, malformed, value, within, countOf}
 use Rattle.text.specs.Line.{LineSaid, line, none, fault, lf, lineBy}
 use Rattle.text.specs.File.{joined, Says, FileSays}
@@ -61,7 +61,7 @@ module _ {A : Type 0} (word : List ℕ → Word A) (jobs : Bool) (s : List ℕ)
 
   first-line : (k place to next : ℕ) → nextOf (sheetLine word s place) ≡ gives next → Lines k next to → Lines (suc k) place to
   first-line k place to next e l =
-      let r = said-gives (λ v. v .1) (sheetLine word s place) next (sym e) in
+      let r = mapped-gives (λ v. v .1) (sheetLine word s place) next (sym e) in
       let v : A = r .0 .0 in
       let c : Cut word s place v next = subst (Cut word s place v) (sym (r .2)) (sheet-cut word s place v (r .0 .1) (r .1)) in
       record {
@@ -150,7 +150,7 @@ module _ {A : Type 0} (word : List ℕ → Word A) (jobs : Bool) (limit : ℕ) (
       let from : ℕ = x .0 .1 in
       let y = onward-passed (sheetLine countOf s place) (limited limit s place) (n, from) (x .1) in
       let z = limited-passed place (y .0) (n, from) (y .2) in
-      let l = said-gives (block n from) (linesPast jobs n s from) b (sym (x .2)) in
+      let l = mapped-gives (block n from) (linesPast jobs n s from) b (sym (x .2)) in
       let few : n ≤ limit = omega (arith, z .0, ap (λ (c : ℕ × ℕ). c .0) (z .1)) in
       subst (SectionCut place) (sym (l .2))
       (section-made place n from (l .0) (sheet-cut countOf s place n from (y .1 ∙ ap gives (z .1))) few

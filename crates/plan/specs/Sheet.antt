@@ -4,7 +4,7 @@ use mathlib.Core.Bool.{Bool, true, false, cond}
 use mathlib.Core.List.{List, [], _∷_}
 use lib.ListN.{length}
 use lib.Dec.{leb, ltb}
-use Rattle.basis.specs.Refusal.{Said, gives, refuses, at, tooMany, badForm, sheetFile, onward, said}
+use Rattle.basis.specs.Refusal.{Said, gives, refuses, at, tooMany, badForm, sheetFile, onward, mapped}
 use Rattle.basis.specs.Limits.{deskVertices, deskEdges}
 use Rattle.text.specs.Word.{Word, malformed, value, countOf}
 use Rattle.plan.specs.Lines.{sheetFault, sheetLine, isWord}
@@ -60,7 +60,7 @@ anyOf bs = value tt
 
 -- the place past a line, whatever it says
 abbrev pub nextOf : {A : Type 0} → Said (A × ℕ) → Said ℕ
-nextOf x = said (λ v. v .1) x
+nextOf x = mapped (λ v. v .1) x
 
 -- the place past the line at a place: a job's line where the first argument is true, else any line that is ended
 abbrev pub linePast : Bool → List ℕ → ℕ → Said ℕ
@@ -78,7 +78,7 @@ block count from to = record { count = count; from = from; to = to }
 
 -- a section's lines behind its count line: as many as the count says
 abbrev pub linesOf : Bool → List ℕ → ℕ × ℕ → Said Block
-linesOf jobs s c = said (block (c .0) (c .1)) (linesPast jobs (c .0) s (c .1))
+linesOf jobs s c = mapped (block (c .0) (c .1)) (linesPast jobs (c .0) s (c .1))
 
 -- "each after its count line": the section at a place, of jobs or of any lines, with the limit of its count
 unfoldable pub section : Bool → ℕ → List ℕ → ℕ → Said Block

@@ -8,9 +8,9 @@ use Rattle.text.specs.Line.{lineBy, twoOf}
 use Rattle.text.specs.File.{linesFrom, valuesFrom}
 use Rattle.text.specs.Scan.{hasAt, runAt, countAt, identAt, fieldAt, restAt}
 use Rattle.text.specs.Word.{within}
-use Rattle.write.specs.Decimal.{digits, decimal, signedText}
+use Rattle.write.specs.Number.{digits, countText, signedText}
 use Rattle.graph.specs.Find.{placeFrom, bisect}
-use Rattle.graph.specs.Part.{between, partOf}
+use Rattle.graph.specs.Part.{targetsBetween, partOf}
 use Rattle.graph.specs.Sound.{soundIds, soundOffsets, soundSide, mirrored, soundSides, soundGraph}
 use Rattle.lists.specs.Files.{edgeTest}
 use Rattle.load.specs.Load.{arcsRead, listsRead, loaded, outcomeOf, loadCall}
@@ -80,8 +80,8 @@ pub outputs :
     × (deskOutput refusedJobSheet ≡ refusedJobOutput)
     × (deskOutput refusedLoadSheet ≡ refusedLoadOutput)
     × (deskOutput refusedSheetSheet ≡ refusedSheetOutput)
-unfolding column every each mem lineBy twoOf hasAt runAt countAt identAt fieldAt restAt within digits decimal signedText placeFrom bisect
-    between partOf soundIds soundOffsets soundSide mirrored soundSides soundGraph edgeTest linesFrom valuesFrom arcsRead listsRead loaded
+unfolding column every each mem lineBy twoOf hasAt runAt countAt identAt fieldAt restAt within digits countText signedText placeFrom bisect
+    targetsBetween partOf soundIds soundOffsets soundSide mirrored soundSides soundGraph edgeTest linesFrom valuesFrom arcsRead listsRead loaded
     outcomeOf loadCall kernelSays bfsSays bfsCall leastFrom ends ring depthOf beside chain firstFrom first labelOf wcc-roomFor wcc-leftBy
     wccCall times mostTimes standing mostCommon smallest smallestOr nextLabel goodRounds cdlp-roomFor cdlp-leftBy cdlpCall around labelsAt
     nextAt oneRound rounds cdlpOf commonCount those neighbours arcsFrom coefficientAmong numerator denominator room lccSays lccCall euclid

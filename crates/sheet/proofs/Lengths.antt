@@ -13,6 +13,7 @@ use lib.Seq.{length-take-le}
 use Rattle.basis.specs.Refusal.{Said, gives, refuses, plain}
 use Rattle.basis.specs.declared.refusal.Refusal.{Refusal}
 use Rattle.basis.specs.Order.{sameZ}
+use Rattle.basis.specs.Area.{between}
 use Rattle.basis.proofs.Alls.{All, all-take, all-at, all-column, all-left}
 use Rattle.graph.specs.Sound.{Graph, outward, inward, names, soundGraph}
 use Rattle.graph.specs.Find.{placeIn}
@@ -32,8 +33,8 @@ use Rattle.lcc.specs.Promise.{lccSays, lccCall}
 use Rattle.lcc.proofs.Commons.{count-le}
 use Rattle.lcc.proofs.Coefficients.{those-short}
 use Rattle.text.specs.Line.{lf, space}
-use Rattle.write.specs.Decimal.{decimal, signedText}
-use Rattle.write.proofs.Texts.{decimal-long, signed-long}
+use Rattle.write.specs.Number.{countText, signedText}
+use Rattle.write.proofs.Texts.{count-long, signed-long}
 use Rattle.plan.specs.Jobs.{jobOf, jobLine}
 use Rattle.plan.specs.declared.job.Job.{Job}
 use Rattle.plan.specs.declared.job.Job.the-variants as J
@@ -41,7 +42,7 @@ use Rattle.plan.proofs.Places.{line-moved}
 use Rattle.text.proofs.Places.{Moved, Small}
 use Rattle.listing.specs.Listing.{slash, refusedWord, spacedText, numbersText, refusedText, headText}
 use Rattle.listing.specs.Listing.{namedText, pairText, fractionText, ratioText, pairLines, ratioLines}
-use Rattle.sheet.specs.Jobs.{zeros, zerosZ, answered, bfsText, wccText, cdlpText, lccText, jobText, between, jobsText}
+use Rattle.sheet.specs.Jobs.{zeros, zerosZ, answered, bfsText, wccText, cdlpText, lccText, jobText, jobsText}
 
 -- ---- an identifier has at most 20 bytes, a number of at most 7 digits 7
 abbrev Short : ℕ → Type 0
@@ -74,7 +75,7 @@ pair-most id v h g =
 fraction-most : (n d : ℕ) → Short n → Short d → length (fractionText n d) ≤ 15
 unfolding fractionText
 fraction-most n d h g =
-    omega (arith, length-append (decimal n) (slash ∷ decimal d), decimal-long 7 n (omega arith) h, decimal-long 7 d (omega arith) g)
+    omega (arith, length-append (countText n) (slash ∷ countText d), count-long 7 n (omega arith) h, count-long 7 d (omega arith) g)
 
 ratio-most : (id : ℤ) (n d : ℕ) → Small id → Short n → Short d → length (ratioText id n d) ≤ 42
 unfolding ratioText
@@ -110,7 +111,7 @@ ratios-most (id ∷ ids) (n ∷ ns) (d ∷ ds) h g k =
 
 spaced-most : (k n : ℕ) → 1 ≤ k → n < 10 ^ k → length (spacedText n) ≤ suc k
 unfolding spacedText
-spaced-most k n h g = omega (arith, decimal-long k n h g)
+spaced-most k n h g = omega (arith, count-long k n h g)
 
 pub refused-most : (r : Refusal) → Brief r → length (refusedText r) ≤ 19
 unfolding refusedText numbersText
@@ -141,9 +142,9 @@ module _ (n : ℕ) (line listing : List ℕ) (few : n ≤ 1024) (long : length l
       omega (
         arith,
         length-append (headText line n) listing,
-        length-append line (decimal n ++ (lf ∷ [])),
-        length-append (decimal n) (lf ∷ []),
-        decimal-long 4 n (omega arith) (omega arith),
+        length-append line (countText n ++ (lf ∷ [])),
+        length-append (countText n) (lf ∷ []),
+        count-long 4 n (omega arith) (omega arith),
       )
 
 -- ---- the kernels' values

@@ -6,6 +6,7 @@ use native.Mathlib.Omega.{arith}
 use lib.IntN.{ℤ}
 use Rattle.basis.specs.Refusal.{gives, refuses}
 use Rattle.basis.specs.declared.refusal.Refusal.{Refusal}
+use Rattle.basis.specs.Area.{between}
 use Rattle.graph.specs.Sound.{Graph}
 use Rattle.kernels.specs.Answer.{says}
 use Rattle.kernels.specs.declared.Answer.{Answer}
@@ -24,7 +25,7 @@ use Rattle.plan.specs.declared.job.JobLine.{JobLine}
 use Rattle.plan.specs.declared.job.JobLine.the-variants as JL
 use Rattle.plan.proofs.Places.{line-moved}
 use Rattle.listing.specs.Listing.{refusedText, headText, pairLines, ratioLines}
-use Rattle.sheet.specs.Jobs.{zeros, zerosZ, answered, bfsText, wccText, cdlpText, lccText, jobText, between, jobsText}
+use Rattle.sheet.specs.Jobs.{zeros, zerosZ, answered, bfsText, wccText, cdlpText, lccText, jobText, jobsText}
 
 -- ---- by a kernel's answer
 module _ (n : ℕ) (line listing : List ℕ) (x : Answer) (o : List ℕ) (at : ℕ) {o′ : List ℕ} {p : ℕ} where

@@ -7,7 +7,7 @@ use lib.IntN.{ℤ}
 use lib.ListN.{length}
 use Rattle.basis.specs.Refusal.{Said, gives}
 use Rattle.basis.specs.declared.refusal.Refusal.{Refusal}
-use Rattle.basis.proofs.Saids.{said-gives}
+use Rattle.basis.proofs.Saids.{mapped-gives}
 use Rattle.graph.specs.declared.Size.{Size}
 use Rattle.load.specs.declared.Loaded.{Loaded}
 use Rattle.load.specs.declared.Loaded.the-variants as LD
@@ -41,7 +41,7 @@ pub few-vertices : (s : List ℕ) (p : Plan) (x : Loaded) {ids : List ℤ} {oo o
     → x ≡ LD.Graph size → size .vertices ≤ 1024
 unfolding loadCall outcomeOf
 few-vertices s p x size u e =
-    let g = said-gives sizeOf (listsIn s p) size (sym (ap says e) ∙ ap (λ (o : Outcome). o .answer) u) in
+    let g = mapped-gives sizeOf (listsIn s p) size (sym (ap says e) ∙ ap (λ (o : Outcome). o .answer) u) in
     let q : size .vertices ≡ length (g .0 .ids) = ap (λ (z : Size). z .vertices) (g .2) in
     omega (arith, lists-good s p (g .0) (g .1) .idsFit)
 

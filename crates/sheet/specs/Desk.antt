@@ -5,6 +5,7 @@ use mathlib.Core.List.{List}
 use lib.IntN.{ℤ}
 use lib.ListN.{take}
 use Rattle.basis.specs.Refusal.{Said, gives, refuses}
+use Rattle.basis.specs.Area.{between}
 use Rattle.graph.specs.declared.Size.{Size}
 use Rattle.graph.specs.Sound.{Graph, lent}
 use Rattle.load.specs.Load.{Room, Outcome, loadCall, desk, deskRoom}
@@ -12,7 +13,7 @@ use Rattle.plan.specs.declared.sections.Block.{Block}
 use Rattle.plan.specs.declared.sections.Plan.{Plan}
 use Rattle.plan.specs.Sheet.{mostBytes, mostJobs, checked}
 use Rattle.listing.specs.Listing.{refusedText}
-use Rattle.sheet.specs.Jobs.{between, jobsText}
+use Rattle.sheet.specs.Jobs.{jobsText}
 
 -- "mode (0 undirected, 1 directed)"
 abbrev pub modeNumber : Bool → ℕ

@@ -1,9 +1,10 @@
 -- 01 "Layers, desk program, host call": what a job prints.
-use Prim.Native.Nat.{ℕ, zero, suc, _-_}
+use Prim.Native.Nat.{ℕ, zero, suc}
 use mathlib.Core.List.{List, [], _++_}
 use lib.IntN.{ℤ, pos}
-use lib.ListN.{take, drop, replicate}
+use lib.ListN.{replicate}
 use Rattle.basis.specs.Refusal.{Said, gives, refuses}
+use Rattle.basis.specs.Area.{between}
 use Rattle.basis.specs.Limits.{deskVertices}
 use Rattle.graph.specs.Sound.{Graph}
 use Rattle.bfs.specs.Call.{bfsCall}
@@ -52,10 +53,6 @@ jobText g line (Bfs root) = bfsText g root line
 jobText g line Wcc = wccText g line
 jobText g line (Cdlp iterations) = cdlpText g iterations line
 jobText g line Lcc = lccText g line
-
--- the bytes of the sheet from one place to another
-abbrev pub between : ℕ → ℕ → List ℕ → List ℕ
-between from to s = take (to - from) (drop from s)
 
 -- so many jobs from a place on, each with its line; a refused one does not end the run
 unfoldable pub jobsText : Graph → List ℕ → ℕ → ℕ → List ℕ

@@ -133,30 +133,30 @@ storedGraph n l ids oo ot io is =
       inSources = pad is (parts (backward l) n);
     }
 
-module _ (both : Bool) (n : ℕ) (es : List Arc) (valid : Valid both n es) (ids : List ℤ) (oo ot io is : ℕ)
-    (a : n < oo) (b : length (arcs both es) ≤ ot) (c : n < io) (d : length (arcs both es) ≤ is) where
-  joins : All (Fine n) (arcs both es)
-  joins = arcs-join both n es (valid .fine)
+module _ (undirected : Bool) (n : ℕ) (es : List Arc) (valid : Valid undirected n es) (ids : List ℤ) (oo ot io is : ℕ)
+    (a : n < oo) (b : length (arcs undirected es) ≤ ot) (c : n < io) (d : length (arcs undirected es) ≤ is) where
+  joins : All (Fine n) (arcs undirected es)
+  joins = arcs-join undirected n es (valid .fine)
 
   -- it is sound, where its identifiers are and the limits are kept
-  pub stored-sound : soundIds (storedGraph n (arcs both es) ids oo ot io is) ≡ true → n ≤ 65536 → length (arcs both es) ≤ 2097152
-      → soundGraph (storedGraph n (arcs both es) ids oo ot io is) ≡ true
+  pub stored-sound : soundIds (storedGraph n (arcs undirected es) ids oo ot io is) ≡ true → n ≤ 65536 → length (arcs undirected es) ≤ 2097152
+      → soundGraph (storedGraph n (arcs undirected es) ids oo ot io is) ≡ true
   unfolding soundSides soundGraph
   stored-sound i ln lm =
-      let l = arcs both es in
+      let l = arcs undirected es in
       let k = length-backward l in
       and-both (and-both (and-both (and-both (le-leb n 65536 ln) (le-leb (length l) 2097152 lm)) i)
-      (and-both (side-sound n oo ot l joins a b (ordered-out both n es valid))
-      (rw k at (side-sound n io is (backward l) (join-backward n l joins) c (rw k d) (ordered-in both n es valid)))))
+      (and-both (side-sound n oo ot l joins a b (ordered-out undirected n es valid))
+      (rw k at (side-sound n io is (backward l) (join-backward n l joins) c (rw k d) (ordered-in undirected n es valid)))))
       (and-both (mirror-built n oo ot io is l joins a b c d)
       (rw (backward-twice l) at (mirror-built n io is oo ot (backward l) (join-backward n l joins) c (rw k d) a (rw k b))))
 
   -- w is in u's outward part exactly where the edge file has that arc
-  pub stored-outward : (u w : ℕ) → u < n → mem w (outward (storedGraph n (arcs both es) ids oo ot io is) u) ≡ hasArc (arcs both es) u w
-  stored-outward u w h = ap (mem w) (part-stored n oo ot (arcs both es) joins a b u h) ∙ mem-targets (arcs both es) u w
+  pub stored-outward : (u w : ℕ) → u < n → mem w (outward (storedGraph n (arcs undirected es) ids oo ot io is) u) ≡ hasArc (arcs undirected es) u w
+  stored-outward u w h = ap (mem w) (part-stored n oo ot (arcs undirected es) joins a b u h) ∙ mem-targets (arcs undirected es) u w
 
-  pub stored-inward : (u w : ℕ) → w < n → mem u (inward (storedGraph n (arcs both es) ids oo ot io is) w) ≡ hasArc (arcs both es) u w
+  pub stored-inward : (u w : ℕ) → w < n → mem u (inward (storedGraph n (arcs undirected es) ids oo ot io is) w) ≡ hasArc (arcs undirected es) u w
   stored-inward u w h =
-      let k = length-backward (arcs both es) in
-      ap (mem u) (part-stored n io is (backward (arcs both es)) (join-backward n (arcs both es) joins) c (rw k d) w h)
-      ∙ sym (mirror-targets (arcs both es) u w) ∙ mem-targets (arcs both es) u w
+      let k = length-backward (arcs undirected es) in
+      ap (mem u) (part-stored n io is (backward (arcs undirected es)) (join-backward n (arcs undirected es) joins) c (rw k d) w h)
+      ∙ sym (mirror-targets (arcs undirected es) u w) ∙ mem-targets (arcs undirected es) u w

@@ -38,9 +38,9 @@ Smaller true e = e .0 < e .1
 abbrev pub Lex : Arc → Arc → Type 0
 Lex e f = (e .0 ≤ f .0) × (e .0 ≡ f .0 → e .1 < f .1)
 
-pub record Valid (both : Bool) (n : ℕ) (l : List Arc) : Type 0 where
+pub record Valid (undirected : Bool) (n : ℕ) (l : List Arc) : Type 0 where
   pub fine : All (Fine n) l
-  pub small : All (Smaller both) l
+  pub small : All (Smaller undirected) l
   pub pairs : Pairs Lex l
 
 lex-trans : (e f g : Arc) → Lex e f → Lex f g → Lex e g

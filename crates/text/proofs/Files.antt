@@ -11,7 +11,7 @@ use borrow.Author.Tests.{le-leb, lt-leb, leb-true, leb-false}
 use lib.Dec.{leb}
 use lib.ListN.{length, drop, length-append, length-drop}
 use Rattle.basis.specs.declared.refusal.Refusal.{Refusal}
-use Rattle.basis.specs.Refusal.{Said, gives, refuses, at, tooMany, badForm, outOfRange, said}
+use Rattle.basis.specs.Refusal.{Said, gives, refuses, at, tooMany, badForm, outOfRange, mapped}
 use Rattle.basis.specs.Scan.{mem}
 use Rattle.basis.proofs.Tests.{no-case}
 use Rattle.basis.proofs.Saids.{refused-given, given-one, Either, Any}
@@ -60,7 +60,7 @@ module _ {A : Type 0} (word : List ℕ → Word A) (file most : ℕ) (test : Bef
 
     pub left-good : (v : A) (next : ℕ) → lineBy word s place ≡ line v next → k ≤ place
         → left k before place ≡ unless (faultOf file most test k before (good v)) file (k + 1)
-        (said (λ vs. v ∷ vs) (left (k + 1) (after v) next))
+        (mapped (λ vs. v ∷ vs) (left (k + 1) (after v) next))
     unfolding left linesFrom valuesFrom
     left-good v next e low =
         let m = line-moves word s place (line v next) (sym e) v next refl in
@@ -85,19 +85,19 @@ module _ {A : Type 0} (word : List ℕ → Word A) (file most : ℕ) (test : Bef
       left-tested zero t d = absurd (d refl)
       left-tested (suc n) t d = left-good v next e low ∙ rw (lt-leb most k h, t)
 
-      pub left-line : test before v ≡ 0 → left k before place ≡ said (λ vs. v ∷ vs) (left (k + 1) (after v) next)
+      pub left-line : test before v ≡ 0 → left k before place ≡ mapped (λ vs. v ∷ vs) (left (k + 1) (after v) next)
       left-line t = left-good v next e low ∙ rw (lt-leb most k h, t)
 
 -- ---- lines one after the other
 -- lines before those that follow, if these are not refused
 abbrev pub onto : {A : Type 0} → List A → Said (List A) → Said (List A)
-onto done x = said (λ l. done ++ l) x
+onto done x = mapped (λ l. done ++ l) x
 
 onto-none : {A : Type 0} (x : Said (List A)) → x ≡ onto [] x
 onto-none (gives l) = refl
 onto-none (refuses r) = refl
 
-onto-last : {A : Type 0} (done : List A) (v : A) (x : Said (List A)) → onto done (said (λ l. v ∷ l) x) ≡ onto (done ++ (v ∷ [])) x
+onto-last : {A : Type 0} (done : List A) (v : A) (x : Said (List A)) → onto done (mapped (λ l. v ∷ l) x) ≡ onto (done ++ (v ∷ [])) x
 onto-last done v (gives l) = ap gives (sym (append-assoc done (v ∷ []) l))
 onto-last done v (refuses r) = refl
 

@@ -6,7 +6,7 @@ use mathlib.Core.List.{List, [], _∷_, _++_}
 use lib.ListN.{length}
 use lib.Dec.{leb}
 use Rattle.basis.specs.declared.refusal.Refusal.{Refusal}
-use Rattle.basis.specs.Refusal.{Said, gives, refuses, at, tooMany, badForm, outOfRange, said}
+use Rattle.basis.specs.Refusal.{Said, gives, refuses, at, tooMany, badForm, outOfRange, mapped}
 use Rattle.basis.specs.Scan.{mem}
 use Rattle.text.specs.Word.{Word, malformed, outside, value}
 use Rattle.text.specs.Line.{LineSaid, line, none, fault, lf, upTo}
@@ -46,7 +46,7 @@ module _ {A : Type 0} (file most : ℕ) (test : Before A → A → ℕ) where
   unfoldable pub valuesFrom : ℕ → Before A → List (Line A) → Said (List A)
   valuesFrom k before [] = gives []
   valuesFrom k before (good v ∷ ls) =
-      unless (faultOf k before (good v)) file (k + 1) (said (λ vs. v ∷ vs) (valuesFrom (k + 1) (after v) ls))
+      unless (faultOf k before (good v)) file (k + 1) (mapped (λ vs. v ∷ vs) (valuesFrom (k + 1) (after v) ls))
   valuesFrom k before (bad n ∷ ls) = refuses (at (faultOf k before (bad n)) file (k + 1))
 
   -- the same from the first line of a file on, which has none before it

@@ -4,7 +4,7 @@ use mathlib.Core.Bool.{Bool, true, false, cond}
 use Prim.Native.Nat.{ℕ, _≤_, _<_}
 use native.Mathlib.Omega.{arith}
 use Rattle.basis.specs.declared.refusal.Refusal.{Refusal}
-use Rattle.basis.specs.Refusal.{Said, gives, refuses, at, plain, onward, said}
+use Rattle.basis.specs.Refusal.{Said, gives, refuses, at, plain, onward, mapped}
 use Rattle.basis.proofs.Saids.{refused-given}
 use Rattle.trace.specs.Code.{placed, coded, numberIn, fileIn, lineIn, wide, Small, Readable}
 
@@ -89,8 +89,8 @@ pub onward-readable : {A B : Type 0} {room : ℕ} {value : B → ℕ} (s : Said 
 onward-readable (gives x) h k = k x refl
 onward-readable (refuses r) h k = let t = h .refusals r refl in readable-refused r (t .0) (t .1)
 
-pub said-readable : {A B : Type 0} {room : ℕ} (f : A → B) (s : Said A) → 0 < room → Readable room s untold → Readable room (said f s) untold
-said-readable f s k h = onward-readable s h (λ x e. readable-silent _ k)
+pub mapped-readable : {A B : Type 0} {room : ℕ} (f : A → B) (s : Said A) → 0 < room → Readable room s untold → Readable room (mapped f s) untold
+mapped-readable f s k h = onward-readable s h (λ x e. readable-silent _ k)
 
 -- ---- an answer by its cases
 module _ {A : Type 0} (value : A → ℕ) (s : Said A) where

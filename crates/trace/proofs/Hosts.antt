@@ -8,8 +8,8 @@ use lib.IntN.{ℤ, pos, natAbs}
 use lib.ListN.{length, replicate, length-replicate}
 use lib.Dec.{leb}
 use borrow.Author.Tests.{le-leb, lt-leb, lt-ltb}
-use Rattle.basis.proofs.Saids.{refused-given, given-one, said-refuses}
-use Rattle.basis.specs.Refusal.{Said, gives, refuses, plain, unknownNumber, onward, said}
+use Rattle.basis.proofs.Saids.{refused-given, given-one, mapped-refuses}
+use Rattle.basis.specs.Refusal.{Said, gives, refuses, plain, unknownNumber, onward, mapped}
 use Rattle.graph.specs.Arcs.{Arc, arcs}
 use Rattle.graph.specs.declared.find.Found.{Found}
 use Rattle.graph.specs.declared.find.Found.the-variants.{At, Missing}
@@ -35,7 +35,7 @@ use Rattle.basis.specs.Area.{column}
 use Rattle.trace.specs.Host.{deskLines, listsSaid, graphOf, isKernel, isKnown, referenceFor, judgedAs, hostSays, hostVerdict}
 use Rattle.trace.specs.Steps.{deskJudged}
 use Rattle.trace.proofs.Loads.{arcs-few, loaded-readable}
-use Rattle.trace.proofs.Codes.{said-readable}
+use Rattle.trace.proofs.Codes.{mapped-readable}
 use Rattle.trace.proofs.Stored.{areaGraph, same-names, same-outward, same-inward}
 use Rattle.trace.proofs.Claims.{call-small, call-judged}
 use Rattle.trace.specs.Code.{hostCode, hostNumberIn, hostFileIn, hostLineIn, narrow, Small}
@@ -68,10 +68,10 @@ module _ (mode : ℕ) (vertices edges : List ℕ) where
   loaded-desk m = rw m (go (identifiers 1024 vertices) refl)
     where
       by-edges : (ids : List ℤ) (x : Said (List (ℤ × ℤ))) → edgesOf (isUndirected mode) 2048 (placeIn ids) edges ≡ x
-          → said (listed ids)
+          → mapped (listed ids)
           (onward x (λ es. withRoom (arcRoom 4096 4096 (length (arcs (isUndirected mode) (allNumbered (placeIn ids) es))))
           (arcs (isUndirected mode) (allNumbered (placeIn ids) es))))
-          ≡ said (λ es. listed ids (arcs (isUndirected mode) (allNumbered (placeIn ids) es))) x
+          ≡ mapped (λ es. listed ids (arcs (isUndirected mode) (allNumbered (placeIn ids) es))) x
       by-edges ids (gives es) q =
           let few = edges-accepted (isUndirected mode) 2048 ids edges es .0 q .few in
           let h = arcs-few (isUndirected mode) ids es in
@@ -80,8 +80,8 @@ module _ (mode : ℕ) (vertices edges : List ℕ) where
 
       go : (x : Said (List ℤ)) → identifiers 1024 vertices ≡ x
           → onward x (λ ids. onward (withRoom (vertexRoom 1024 1025 1025 (length ids)) ids)
-          (λ ids. said (listed ids) (arcsRead (isUndirected mode) 2048 ids edges 4096 4096)))
-          ≡ onward x (λ ids. said (λ es. listed ids (arcs (isUndirected mode) (allNumbered (placeIn ids) es)))
+          (λ ids. mapped (listed ids) (arcsRead (isUndirected mode) 2048 ids edges 4096 4096)))
+          ≡ onward x (λ ids. mapped (λ es. listed ids (arcs (isUndirected mode) (allNumbered (placeIn ids) es)))
           (edgesOf (isUndirected mode) 2048 (placeIn ids) edges))
       go (gives ids) q =
           let few = vertices-accepted 1024 vertices ids .0 q .few in
@@ -187,13 +187,13 @@ module _ (vertices edges claim : List ℕ) (mode kernel : ℕ) (parameter : ℤ)
 
   module _ (h : not t ≡ false) (a : Loaded) (ids : List ℤ) (oo ot io is : List ℕ)
       (e : outcome (says a) ids oo ot io is ≡ loadCall desk mode deskRoom vertices edges) where
-    answered : says a ≡ said sizeOf (loaded desk mode deskRoom vertices edges)
+    answered : says a ≡ mapped sizeOf (loaded desk mode deskRoom vertices edges)
     unfolding loadCall outcomeOf
     answered = ap (λ o. o .answer) e
 
     pub host-refused-small : (r : Refusal) → a ≡ Refused r → Small narrow r
     host-refused-small r q =
-        said-readable sizeOf (loaded desk mode deskRoom vertices edges) (omega arith)
+        mapped-readable sizeOf (loaded desk mode deskRoom vertices edges) (omega arith)
         (loaded-readable narrow desk (omega arith) mode deskRoom vertices edges) .refusals r
         (sym answered ∙ ap says q) .1
 
@@ -203,7 +203,7 @@ module _ (vertices edges claim : List ℕ) (mode kernel : ℕ) (parameter : ℤ)
         rw (
           f,
           says-known vertices edges claim mode kernel parameter (held t (isKnown mode kernel) p h),
-          said-refuses sizeOf (loaded desk mode deskRoom vertices edges) r (ap says (sym q) ∙ answered),
+          mapped-refuses sizeOf (loaded desk mode deskRoom vertices edges) r (ap says (sym q) ∙ answered),
         )
 
     pub host-judged : (size : Size) → a ≡ Graph size → (z : ℤ) → z ≡ parameter → (k : ℕ)
@@ -212,7 +212,7 @@ module _ (vertices edges claim : List ℕ) (mode kernel : ℕ) (parameter : ℤ)
     unfolding hostVerdict
     host-judged size q z w k f = go (loaded desk mode deskRoom vertices edges) refl (sym answered ∙ ap says q)
       where
-        go : (x : Said Lists) → loaded desk mode deskRoom vertices edges ≡ x → said sizeOf x ≡ gives size
+        go : (x : Said Lists) → loaded desk mode deskRoom vertices edges ≡ x → mapped sizeOf x ≡ gives size
             → k ≡ hostCode (threeOf (hostSays vertices edges claim mode kernel parameter))
         go (refuses r) l e = refused-given e
         go (gives g) l s =

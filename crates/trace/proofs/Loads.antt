@@ -6,7 +6,7 @@ use Prim.Native.Nat.{ℕ, _+_, _≤_, _<_}
 use native.Mathlib.Omega.{arith}
 use lib.IntN.{ℤ}
 use lib.ListN.{length}
-use Rattle.basis.specs.Refusal.{Said, gives, refuses, said}
+use Rattle.basis.specs.Refusal.{Said, gives, refuses, mapped}
 use Rattle.basis.proofs.Saids.{Either, Any}
 use Rattle.graph.specs.declared.Size.{Size}
 use Rattle.graph.specs.Arcs.{arcs}
@@ -38,16 +38,16 @@ loaded-readable room limits few mode r vertices edges =
     turned-readable room limits few (loaded limits mode r vertices edges) (load-turned limits mode r vertices edges)
 
 -- ---- what is given: "each edge once .. and it stores two arcs" at the most
-pub arcs-few : (both : Bool) (ids : List ℤ) (es : List (ℤ × ℤ)) → length (arcs both (allNumbered (placeIn ids) es)) ≤ length es + length es
-arcs-few both ids es = rw (arc-count both (allNumbered (placeIn ids) es), length-numbered ids es) (go both)
+pub arcs-few : (undirected : Bool) (ids : List ℤ) (es : List (ℤ × ℤ)) → length (arcs undirected (allNumbered (placeIn ids) es)) ≤ length es + length es
+arcs-few undirected ids es = rw (arc-count undirected (allNumbered (placeIn ids) es), length-numbered ids es) (go undirected)
   where
-    go : (both : Bool) → arcCount both (length es) ≤ length es + length es
+    go : (undirected : Bool) → arcCount undirected (length es) ≤ length es + length es
     go true = omega arith
     go false = omega arith
 
 -- ---- the call at library limits
 module _ (mode : ℕ) (room : Room) (vertices edges : List ℕ) where
-  size-readable : Readable wide (said sizeOf (loaded library mode room vertices edges)) loadValue
+  size-readable : Readable wide (mapped sizeOf (loaded library mode room vertices edges)) loadValue
   size-readable =
       onward-readable (loaded library mode room vertices edges) (loaded-readable wide library (omega arith) mode room vertices edges)
       (λ g e. let ok = load-accepted library mode room vertices edges g .0 e in

@@ -5,7 +5,7 @@ use mathlib.Core.List.{List}
 use lib.IntN.{ℤ}
 use lib.ListN.{length}
 use lib.Dec.{eqb, leb}
-use Rattle.basis.specs.Refusal.{Said, unknownNumber, onward, said, check}
+use Rattle.basis.specs.Refusal.{Said, unknownNumber, onward, mapped, check}
 use Rattle.graph.specs.Arcs.{arcs, backward, parts, offsets}
 use Rattle.graph.specs.Sound.{Graph}
 use Rattle.graph.specs.Find.{placeIn}
@@ -23,9 +23,9 @@ deskLines = 1024
 
 -- what the two lists say, the vertex file before the edge file
 unfoldable pub listsSaid : Bool → List ℕ → List ℕ → Said Lists
-listsSaid both vertices edges =
+listsSaid undirected vertices edges =
     onward (identifiers (desk .vertices) vertices)
-    (λ ids. said (λ es. record { ids = ids; arcs = arcs both (allNumbered (placeIn ids) es) }) (edgesOf both (desk .edges) (placeIn ids) edges))
+    (λ ids. mapped (λ es. record { ids = ids; arcs = arcs undirected (allNumbered (placeIn ids) es) }) (edgesOf undirected (desk .edges) (placeIn ids) edges))
 
 -- their graph, with no place to spare
 unfoldable pub graphOf : Lists → Graph

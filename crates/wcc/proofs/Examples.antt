@@ -5,7 +5,7 @@ use lib.IntN.{pos, negsuc}
 use Rattle.basis.specs.Refusal.{gives, refuses, plain}
 use Rattle.basis.specs.Area.{column}
 use Rattle.basis.specs.Scan.{every, each, mem}
-use Rattle.graph.specs.Part.{between, partOf}
+use Rattle.graph.specs.Part.{targetsBetween, partOf}
 use Rattle.graph.specs.Sound.{lent, soundIds, soundOffsets, soundSide, mirrored, soundSides, soundGraph}
 use Rattle.graph.proofs.Examples.{sheetGraph}
 use Rattle.kernels.specs.Answer.{kernelSays}
@@ -14,31 +14,31 @@ use Rattle.wcc.specs.Promise.{roomFor, outcome, leftBy, wccCall}
 
 -- P5: vertices -3 2 5 9 20 of the sheet have labels -3 2 2 2 2
 pub p5 : wccOf sheetGraph ≡ negsuc 2 ∷ pos 2 ∷ pos 2 ∷ pos 2 ∷ pos 2 ∷ []
-unfolding column labelOf first firstFrom chain beside mem partOf between
+unfolding column labelOf first firstFrom chain beside mem partOf targetsBetween
 p5 = refl
 
 -- through the call, in areas with places to spare
 pub p5-call : wccCall sheetGraph (pos 7 ∷ pos 7 ∷ pos 7 ∷ pos 7 ∷ pos 7 ∷ pos 7 ∷ []) (9 ∷ 9 ∷ 9 ∷ 9 ∷ 9 ∷ []) (9 ∷ 9 ∷ 9 ∷ 9 ∷ 9 ∷ 9 ∷ [])
     ≡ outcome (gives tt) (negsuc 2 ∷ pos 2 ∷ pos 2 ∷ pos 2 ∷ pos 2 ∷ pos 0 ∷ []) (0 ∷ 0 ∷ 0 ∷ 0 ∷ 0 ∷ []) (0 ∷ 0 ∷ 0 ∷ 0 ∷ 0 ∷ 0 ∷ [])
-unfolding wccCall leftBy kernelSays roomFor soundSides soundGraph soundIds soundSide soundOffsets mirrored every each mem partOf between
+unfolding wccCall leftBy kernelSays roomFor soundSides soundGraph soundIds soundSide soundOffsets mirrored every each mem partOf targetsBetween
     column labelOf first firstFrom chain beside
 p5-call = refl
 
 -- one place too few in the last area
 pub too-short : wccCall sheetGraph (pos 7 ∷ pos 7 ∷ pos 7 ∷ pos 7 ∷ pos 7 ∷ []) (9 ∷ 9 ∷ 9 ∷ 9 ∷ 9 ∷ []) (9 ∷ 9 ∷ 9 ∷ 9 ∷ [])
     ≡ outcome (refuses (plain 8)) (pos 0 ∷ pos 0 ∷ pos 0 ∷ pos 0 ∷ pos 0 ∷ []) (0 ∷ 0 ∷ 0 ∷ 0 ∷ 0 ∷ []) (0 ∷ 0 ∷ 0 ∷ 0 ∷ [])
-unfolding wccCall leftBy kernelSays roomFor soundSides soundGraph soundIds soundSide soundOffsets mirrored every each mem partOf between
+unfolding wccCall leftBy kernelSays roomFor soundSides soundGraph soundIds soundSide soundOffsets mirrored every each mem partOf targetsBetween
 too-short = refl
 
 -- an unsound graph, with an arc too few stated, comes before an area too short
 pub unsound-first : wccCall (lent (record { vertices = 5; arcs = 4 }) (sheetGraph .ids) (sheetGraph .outOffsets) (sheetGraph .outTargets)
     (sheetGraph .inOffsets) (sheetGraph .inSources)) (pos 7 ∷ []) [] (9 ∷ [])
     ≡ outcome (refuses (plain 9)) (pos 0 ∷ []) [] (0 ∷ [])
-unfolding wccCall leftBy kernelSays soundSides soundGraph soundIds soundSide soundOffsets mirrored every each mem partOf between
+unfolding wccCall leftBy kernelSays soundSides soundGraph soundIds soundSide soundOffsets mirrored every each mem partOf targetsBetween
 unsound-first = refl
 
 -- arcs 3 to 0, 3 to 2 and 2 to 1: from 0 to 1 leads one arc against its direction and two along theirs; vertex 4 is alone
 pub either-way : labels 5 (partOf 5 (0 ∷ 0 ∷ 0 ∷ 1 ∷ 3 ∷ 3 ∷ []) (1 ∷ 0 ∷ 2 ∷ [])) (pos 10 ∷ pos 20 ∷ pos 30 ∷ pos 40 ∷ pos 50 ∷ [])
     ≡ pos 10 ∷ pos 10 ∷ pos 10 ∷ pos 10 ∷ pos 50 ∷ []
-unfolding column labelOf first firstFrom chain beside mem partOf between
+unfolding column labelOf first firstFrom chain beside mem partOf targetsBetween
 either-way = refl

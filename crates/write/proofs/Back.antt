@@ -17,9 +17,9 @@ use Rattle.text.specs.Line.{line, lf, lineBy, vertexLine}
 use Rattle.text.proofs.Bytes.{within-yes, within-is}
 use Rattle.text.proofs.Cuts.{cut-line}
 use Rattle.write.specs.Put.{written, putAt}
-use Rattle.write.specs.Decimal.{digits, decimal, signedText}
+use Rattle.write.specs.Number.{digits, countText, signedText}
 use Rattle.write.proofs.Puts.{wrote-next, wrote-after, wrote-text}
-use Rattle.write.proofs.Texts.{Spells, decimal-spells, signed-without}
+use Rattle.write.proofs.Texts.{Spells, count-spells, signed-without}
 
 -- ---- a count that is written reads back
 first-of : (b : ℕ) (bs : List ℕ) (n : ℕ) → Spells n (b ∷ bs) → (48 ≤ b) × (b ≤ 57)
@@ -34,10 +34,10 @@ count-of (b ∷ bs) n h s =
     let w : within 49 57 b ≡ true = within-yes f (first-of b bs n s .1) in
     rw (ne-eqb b 48 (λ q. omega arith), w, and-second (isDigit b) (each isDigit bs) (s .all)) (ap value (s .val))
 
-pub count-back : (n : ℕ) → countOf (decimal n) ≡ value n
-unfolding digits decimal
+pub count-back : (n : ℕ) → countOf (countText n) ≡ value n
+unfolding digits countText
 count-back zero = refl
-count-back (suc n) = count-of (decimal (suc n)) (suc n) (omega arith) (decimal-spells (suc n))
+count-back (suc n) = count-of (countText (suc n)) (suc n) (omega arith) (count-spells (suc n))
 
 -- ---- an identifier that is written reads back
 ident-of : (l : List ℕ) (n : ℕ) → Spells n l → identOf l ≡ signedOf false (countOf l)
@@ -53,17 +53,17 @@ minus-of (b ∷ bs) n h s =
 pub ident-back : (z : ℤ) → SFits w64 z → identOf (signedText z) ≡ value z
 unfolding signedText
 ident-back (pos n) f =
-    ident-of (decimal n) n (decimal-spells n) ∙ ap (signedOf false) (count-back n) ∙ rw (le-leb n (2 ^ 63 - 1) (omega (arith, f .sfits)))
+    ident-of (countText n) n (count-spells n) ∙ ap (signedOf false) (count-back n) ∙ rw (le-leb n (2 ^ 63 - 1) (omega (arith, f .sfits)))
 ident-back (negsuc n) f =
-    minus-of (decimal (suc n)) (suc n) (omega arith) (decimal-spells (suc n))
+    minus-of (countText (suc n)) (suc n) (omega arith) (count-spells (suc n))
     ∙ ap (signedOf true) (count-back (suc n))
     ∙ rw (le-leb (suc n) (2 ^ 63) (omega (arith, f .sfits)))
 
 -- ---- and so both do in the area, between the place where the writer began and the one that it answered
 module _ (o : List ℕ) (at : ℕ) {o′ : List ℕ} {p : ℕ} where
-  pub number-back : (n : ℕ) → written o′ p ≡ putAt o at (decimal n) → at + length (decimal n) ≤ length o
+  pub number-back : (n : ℕ) → written o′ p ≡ putAt o at (countText n) → at + length (countText n) ≤ length o
       → countOf (take (p - at) (drop at o′)) ≡ value n
-  number-back n w room = rw (wrote-text o at (decimal n) w room) (count-back n)
+  number-back n w room = rw (wrote-text o at (countText n) w room) (count-back n)
 
   pub signed-back : (z : ℤ) → SFits w64 z → written o′ p ≡ putAt o at (signedText z) → at + length (signedText z) ≤ length o
       → identOf (take (p - at) (drop at o′)) ≡ value z

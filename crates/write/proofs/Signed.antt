@@ -13,7 +13,7 @@ use mir.Val.{toZ, ofZ, SFits, Fits}
 use mir.ValLaws.{toZ-ofZ}
 use Rattle.basis.proofs.Tests.{clash}
 use Rattle.write.specs.Put.{written, putAt}
-use Rattle.write.specs.Decimal.{decimal, signedText}
+use Rattle.write.specs.Number.{countText, signedText}
 use Rattle.write.proofs.Puts.{put-then, put-as}
 
 -- a signed number as the machine holds it
@@ -36,12 +36,12 @@ high : (z : ℤ) → mag z < 2 ^ 63 → ltZ z (pos 0) ≡ false → T (nonNeg z)
 high (pos n) h e = (tt, record { fits = omega arith })
 high (negsuc n) h e = clash refl e
 
-low-text : (z : ℤ) → ltZ z (pos 0) ≡ true → 45 ∷ decimal (natAbs z) ≡ signedText z
+low-text : (z : ℤ) → ltZ z (pos 0) ≡ true → 45 ∷ countText (natAbs z) ≡ signedText z
 unfolding signedText
 low-text (pos n) e = let h : n < 0 = ltb-true n 0 e in absurd (omega arith)
 low-text (negsuc n) e = refl
 
-high-text : (z : ℤ) → ltZ z (pos 0) ≡ false → decimal (natAbs z) ≡ signedText z
+high-text : (z : ℤ) → ltZ z (pos 0) ≡ false → countText (natAbs z) ≡ signedText z
 unfolding signedText
 high-text (pos n) e = refl
 high-text (negsuc n) e = clash refl e
@@ -77,10 +77,10 @@ module _ (z : ℤ) (f : SFits w64 z) where
   -- ---- the writer of an identifier
   module _ (m : ℕ) (size : m ≡ natAbs (bits z)) (o : List ℕ) (at : ℕ) {o′ : List ℕ} {p : ℕ} where
     pub signed-low : {o″ : List ℕ} {r : ℕ} → ltZ (bits z) (pos 0) ≡ true
-        → written o′ p ≡ putAt o at (45 ∷ []) → written o″ r ≡ putAt o′ p (decimal m) → written o″ r ≡ putAt o at (signedText z)
+        → written o′ p ≡ putAt o at (45 ∷ []) → written o″ r ≡ putAt o′ p (countText m) → written o″ r ≡ putAt o at (signedText z)
     signed-low e x y =
-        put-as o at (45 ∷ decimal m) (put-then o at (45 ∷ []) x (decimal m) y) (signedText z)
-        (ap (λ k. 45 ∷ decimal k) (size ∙ ap natAbs here) ∙ low-text z (rw here at e))
+        put-as o at (45 ∷ countText m) (put-then o at (45 ∷ []) x (countText m) y) (signedText z)
+        (ap (λ k. 45 ∷ countText k) (size ∙ ap natAbs here) ∙ low-text z (rw here at e))
 
-    pub signed-high : ltZ (bits z) (pos 0) ≡ false → written o′ p ≡ putAt o at (decimal m) → written o′ p ≡ putAt o at (signedText z)
-    signed-high e x = put-as o at (decimal m) x (signedText z) (ap decimal (size ∙ ap natAbs here) ∙ high-text z (rw here at e))
+    pub signed-high : ltZ (bits z) (pos 0) ≡ false → written o′ p ≡ putAt o at (countText m) → written o′ p ≡ putAt o at (signedText z)
+    signed-high e x = put-as o at (countText m) x (signedText z) (ap countText (size ∙ ap natAbs here) ∙ high-text z (rw here at e))

@@ -16,8 +16,8 @@ use Rattle.basis.proofs.Scans.{each-mem, each-append}
 use Rattle.text.specs.Word.{within, isDigit, stepped, runVal}
 use Rattle.text.proofs.Bytes.{within-yes}
 use Rattle.text.proofs.Runs.{val-digit}
-use Rattle.write.specs.Decimal.{decimal, signedText}
-use Rattle.write.proofs.Decimals.{decimal-small, decimal-more, decimal-all}
+use Rattle.write.specs.Number.{countText, signedText}
+use Rattle.write.proofs.Digits.{count-small, count-more, count-all}
 
 -- ---- digits with one more behind them
 digit-yes : (d : ℕ) → d < 10 → isDigit (48 + d) ≡ true
@@ -65,12 +65,12 @@ spells-more n d l h k s =
           ∙ (let z : n * 10 + (48 + d - 48) ≡ n * 10 + d = omega arith in z);
     }
 
-pub decimal-spells : (n : ℕ) → Spells n (decimal n)
-decimal-spells = decimal-all Spells spells-small spells-more
+pub count-spells : (n : ℕ) → Spells n (countText n)
+count-spells = count-all Spells spells-small spells-more
 
 -- ---- every byte of a count is a digit, every byte of an identifier a digit or the sign
-pub decimal-digits : (n : ℕ) → each isDigit (decimal n) ≡ true
-decimal-digits n = decimal-spells n .all
+pub count-digits : (n : ℕ) → each isDigit (countText n) ≡ true
+count-digits n = count-spells n .all
 
 abbrev pub isDigitOrSign : ℕ → Bool
 isDigitOrSign b = isDigit b || eqb b 45
@@ -84,25 +84,25 @@ digits-or-sign (b ∷ l) h =
 
 pub signed-digits : (z : ℤ) → each isDigitOrSign (signedText z) ≡ true
 unfolding signedText each within
-signed-digits (pos n) = digits-or-sign (decimal n) (decimal-digits n)
-signed-digits (negsuc n) = digits-or-sign (decimal (suc n)) (decimal-digits (suc n))
+signed-digits (pos n) = digits-or-sign (countText n) (count-digits n)
+signed-digits (negsuc n) = digits-or-sign (countText (suc n)) (count-digits (suc n))
 
 -- so another byte, as a space or an LF, does not stand in it
 pub signed-without : (z : ℤ) (c : ℕ) → isDigitOrSign c ≡ false → mem c (signedText z) ≡ false
 signed-without z c h = false-of (mem c (signedText z)) (λ m. clash (each-mem isDigitOrSign (signedText z) (signed-digits z) c m) h)
 
 -- ---- a number below 10 ^ k has at most k digits
-pub decimal-long : (k n : ℕ) → 1 ≤ k → n < 10 ^ k → length (decimal n) ≤ k
-decimal-long zero n h g = absurd (omega arith)
-decimal-long (suc zero) n h g = rw (decimal-small n (omega arith)) (omega arith)
-decimal-long (suc (suc k)) n h g =
-    bool-cases (ltb n 10) (length (decimal n) ≤ suc (suc k))
-    (λ e. rw (decimal-small n (ltb-true n 10 e)) (omega arith))
-    (λ e. rw (decimal-more n (ltb-false n 10 e))
-    (omega (arith, length-append (decimal (n / 10)) ((48 + n % 10) ∷ []), decimal-long (suc k) (n / 10) (omega arith) (omega arith))))
+pub count-long : (k n : ℕ) → 1 ≤ k → n < 10 ^ k → length (countText n) ≤ k
+count-long zero n h g = absurd (omega arith)
+count-long (suc zero) n h g = rw (count-small n (omega arith)) (omega arith)
+count-long (suc (suc k)) n h g =
+    bool-cases (ltb n 10) (length (countText n) ≤ suc (suc k))
+    (λ e. rw (count-small n (ltb-true n 10 e)) (omega arith))
+    (λ e. rw (count-more n (ltb-false n 10 e))
+    (omega (arith, length-append (countText (n / 10)) ((48 + n % 10) ∷ []), count-long (suc k) (n / 10) (omega arith) (omega arith))))
 
 -- an identifier has at most 20 bytes: 19 digits and a sign
 pub signed-long : (z : ℤ) → SFits w64 z → length (signedText z) ≤ 20
 unfolding signedText
-signed-long (pos n) f = omega (arith, decimal-long 19 n (omega arith) (omega (arith, f .sfits)))
-signed-long (negsuc n) f = omega (arith, decimal-long 19 (suc n) (omega arith) (omega (arith, f .sfits)))
+signed-long (pos n) f = omega (arith, count-long 19 n (omega arith) (omega (arith, f .sfits)))
+signed-long (negsuc n) f = omega (arith, count-long 19 (suc n) (omega arith) (omega (arith, f .sfits)))

@@ -1,3 +1,3 @@
 -- What the contracts of the writers cite, in reading order.
 pub mod Put
-pub mod Decimal
+pub mod Number

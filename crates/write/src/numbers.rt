@@ -4,7 +4,7 @@ ghost use mathlib.Core.Path.{_≡_};
 ghost use Prim.Native.Nat.{_+_, _<_};
 ghost use lib.IntN.{natAbs};
 ghost use Rattle.write.specs.Put.{written, putAt};
-ghost use Rattle.write.specs.Decimal.{decimal, signedText};
+ghost use Rattle.write.specs.Number.{countText, signedText};
 
 const ZERO: usize = 48;
 
@@ -20,7 +20,7 @@ fn digit(n: usize) -> u8
 
 // A count.
 pub fn put_number(out: &mut [u8], at: usize, n: usize) -> usize
-    ensures { λ r. ⌜ written (now (out .exit)) r ≡ putAt (now (out .entry)) at (decimal n) ⌝ }
+    ensures { λ r. ⌜ written (now (out .exit)) r ≡ putAt (now (out .entry)) at (countText n) ⌝ }
 {
     if n < 10 {
         return put(out, at, digit(n));

@@ -3,8 +3,8 @@ use borrow.Author.Needs.{needs}
 use Rattle.load.proofs.fill.store_edges.Statement.{statement}
 use Rattle.load.proofs.fill.store_edges.Tie as tie
 
-undirected-requires : tie.Need-undirected-requires
-undirected-requires c κs = search needs
+fill_undirected-requires : tie.Need-fill_undirected-requires
+fill_undirected-requires c κs = search needs
 
 same-length : tie.Need-same-length
 same-length c = search needs
@@ -21,8 +21,8 @@ same-length-4 c = search needs
 returns : tie.Need-returns
 returns c = search edges-both
 
-directed-requires : tie.Need-directed-requires
-directed-requires c κs = search needs
+fill_directed-requires : tie.Need-fill_directed-requires
+fill_directed-requires c κs = search needs
 
 same-length-5 : tie.Need-same-length-5
 same-length-5 c = search needs
@@ -43,13 +43,13 @@ pub store-edges-spec : {M : Type 1} → statement M
 store-edges-spec =
     tie.close
     (tie.spec
-    undirected-requires
+    fill_undirected-requires
     same-length
     same-length-2
     same-length-3
     same-length-4
     returns
-    directed-requires
+    fill_directed-requires
     same-length-5
     same-length-6
     same-length-7

@@ -3,7 +3,7 @@ use native.Mathlib.Omega.{arith}
 use borrow.Author.Needs.{needs}
 use borrow.Fn.Kinds.{In}
 use borrow.Fn.PlainCycle.{Measures, is, falls, and}
-use Rattle.write.proofs.Decimals.{number-small, number-more}
+use Rattle.write.proofs.Digits.{number-small, number-more}
 use Rattle.write.proofs.bytes.put.Reads as put
 use Rattle.write.proofs.numbers.digit.Reads as digit
 use Rattle.write.proofs.numbers.put_number.Reads as reads

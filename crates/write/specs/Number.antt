@@ -11,10 +11,10 @@ digits zero n = (48 + n) ∷ []
 digits (suc more) n = elim (ltb n 10) [ true ↦ (48 + n) ∷ [] | false ↦ digits more (n / 10) ++ ((48 + n % 10) ∷ []) ]
 
 -- "A count is `0`, or a digit 1 to 9 and more digits": n divisions are enough, since each makes a number from 10 on smaller
-unfoldable pub decimal : ℕ → List ℕ
-decimal n = digits n n
+unfoldable pub countText : ℕ → List ℕ
+countText n = digits n n
 
 -- "An identifier is `0`, or an optional `-`, a digit 1 to 9 and more digits"
 unfoldable pub signedText : ℤ → List ℕ
-signedText (pos n) = decimal n
-signedText (negsuc n) = 45 ∷ decimal (suc n)
+signedText (pos n) = countText n
+signedText (negsuc n) = 45 ∷ countText (suc n)

@@ -7,7 +7,7 @@ use borrow.Author.Tests.{lt-ltb, le-ltb, ltb-true, ltb-false}
 use lib.Dec.{ltb}
 use Rattle.basis.proofs.Tests.{bool-cases}
 use Rattle.write.specs.Put.{written, putAt}
-use Rattle.write.specs.Decimal.{digits, decimal}
+use Rattle.write.specs.Number.{digits, countText}
 use Rattle.write.proofs.Puts.{put-then, put-as}
 
 -- ---- any two cuts that are not below the number give the same digits
@@ -30,38 +30,38 @@ digits-cut (suc k) (suc j) n h g =
     digits-more k n m ∙ ap (λ l. l ++ ((48 + n % 10) ∷ [])) (digits-cut k j (n / 10) (omega arith) (omega arith)) ∙ sym (digits-more j n m))
 
 -- ---- a number below 10 is its digit; another one is the digits of n / 10 and the digit of n % 10
-pub decimal-small : (n : ℕ) → n < 10 → decimal n ≡ (48 + n) ∷ []
-unfolding decimal
-decimal-small n h = digits-small n n h
+pub count-small : (n : ℕ) → n < 10 → countText n ≡ (48 + n) ∷ []
+unfolding countText
+count-small n h = digits-small n n h
 
-pub decimal-more : (n : ℕ) → 10 ≤ n → decimal n ≡ decimal (n / 10) ++ ((48 + n % 10) ∷ [])
-unfolding decimal
-decimal-more zero h = absurd (omega arith)
-decimal-more (suc k) h =
+pub count-more : (n : ℕ) → 10 ≤ n → countText n ≡ countText (n / 10) ++ ((48 + n % 10) ∷ [])
+unfolding countText
+count-more zero h = absurd (omega arith)
+count-more (suc k) h =
     digits-more k (suc k) h ∙ ap (λ l. l ++ ((48 + suc k % 10) ∷ [])) (digits-cut k (suc k / 10) (suc k / 10) (omega arith) (omega arith))
 
 -- ---- what holds of each digit, and stays when one is written behind, holds of the text
-pub decimal-all {ℓ} : (P : ℕ → List ℕ → Type ℓ) → ((n : ℕ) → n < 10 → P n ((48 + n) ∷ []))
-    → ((n d : ℕ) (l : List ℕ) → 1 ≤ n → d < 10 → P n l → P (n * 10 + d) (l ++ ((48 + d) ∷ []))) → (n : ℕ) → P n (decimal n)
-decimal-all P small more n = upTo n n (omega arith)
+pub count-all {ℓ} : (P : ℕ → List ℕ → Type ℓ) → ((n : ℕ) → n < 10 → P n ((48 + n) ∷ []))
+    → ((n d : ℕ) (l : List ℕ) → 1 ≤ n → d < 10 → P n l → P (n * 10 + d) (l ++ ((48 + d) ∷ []))) → (n : ℕ) → P n (countText n)
+count-all P small more n = upTo n n (omega arith)
   where
-    upTo : (k n : ℕ) → n ≤ k → P n (decimal n)
-    upTo zero n h = rw (decimal-small n (omega arith)) (small n (omega arith))
+    upTo : (k n : ℕ) → n ≤ k → P n (countText n)
+    upTo zero n h = rw (count-small n (omega arith)) (small n (omega arith))
     upTo (suc k) n h =
-        bool-cases (ltb n 10) (P n (decimal n))
-        (λ e. rw (decimal-small n (ltb-true n 10 e)) (small n (ltb-true n 10 e)))
+        bool-cases (ltb n 10) (P n (countText n))
+        (λ e. rw (count-small n (ltb-true n 10 e)) (small n (ltb-true n 10 e)))
         (λ e. let g : 10 ≤ n = ltb-false n 10 e in
         let q : n / 10 * 10 + n % 10 ≡ n = omega arith in
-        rw (decimal-more n g)
-        (rw q at (more (n / 10) (n % 10) (decimal (n / 10)) (omega arith) (omega arith) (upTo k (n / 10) (omega arith)))))
+        rw (count-more n g)
+        (rw q at (more (n / 10) (n % 10) (countText (n / 10)) (omega arith) (omega arith) (upTo k (n / 10) (omega arith)))))
 
 -- ---- the writer of a count
 module _ (n d : ℕ) (o : List ℕ) (at : ℕ) {o′ : List ℕ} {p : ℕ} where
-  pub number-small : n < 10 → d ≡ 48 + n → written o′ p ≡ putAt o at (d ∷ []) → written o′ p ≡ putAt o at (decimal n)
-  number-small h e x = put-as o at (d ∷ []) x (decimal n) (ap (λ k. k ∷ []) e ∙ sym (decimal-small n h))
+  pub number-small : n < 10 → d ≡ 48 + n → written o′ p ≡ putAt o at (d ∷ []) → written o′ p ≡ putAt o at (countText n)
+  number-small h e x = put-as o at (d ∷ []) x (countText n) (ap (λ k. k ∷ []) e ∙ sym (count-small n h))
 
   pub number-more : {o″ : List ℕ} {r : ℕ} → 10 ≤ n → d ≡ 48 + n % 10
-      → written o′ p ≡ putAt o at (decimal (n / 10)) → written o″ r ≡ putAt o′ p (d ∷ []) → written o″ r ≡ putAt o at (decimal n)
+      → written o′ p ≡ putAt o at (countText (n / 10)) → written o″ r ≡ putAt o′ p (d ∷ []) → written o″ r ≡ putAt o at (countText n)
   number-more h e x y =
-      put-as o at (decimal (n / 10) ++ (d ∷ [])) (put-then o at (decimal (n / 10)) x (d ∷ []) y) (decimal n)
-      (ap (λ k. decimal (n / 10) ++ (k ∷ [])) e ∙ sym (decimal-more n h))
+      put-as o at (countText (n / 10) ++ (d ∷ [])) (put-then o at (countText (n / 10)) x (d ∷ []) y) (countText n)
+      (ap (λ k. countText (n / 10) ++ (k ∷ [])) e ∙ sym (count-more n h))

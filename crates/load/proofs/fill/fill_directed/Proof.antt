@@ -1,7 +1,7 @@
 use Rattle.load.proofs.Fills.{directed-refused, directed-lines}
 use borrow.Author.Needs.{needs}
-use Rattle.load.proofs.fill.directed.Statement.{statement}
-use Rattle.load.proofs.fill.directed.Tie as tie
+use Rattle.load.proofs.fill.fill_directed.Statement.{statement}
+use Rattle.load.proofs.fill.fill_directed.Tie as tie
 
 arrange-requires : tie.Need-arrange-requires
 arrange-requires c κs = search needs
@@ -42,8 +42,8 @@ same-length-8 c = search needs
 returns-2 : tie.Need-returns-2
 returns-2 c = search directed-lines
 
-pub directed-spec : {M : Type 1} → statement M
-directed-spec =
+pub fill_directed-spec : {M : Type 1} → statement M
+fill_directed-spec =
     tie.close
     (tie.spec
     arrange-requires

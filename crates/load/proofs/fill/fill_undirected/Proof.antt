@@ -1,8 +1,8 @@
 use Rattle.load.proofs.Fills.{undirected-refused, undirected-fits, undirected-lines}
 use native.Mathlib.Omega.{arith}
 use borrow.Author.Needs.{needs}
-use Rattle.load.proofs.fill.undirected.Statement.{statement}
-use Rattle.load.proofs.fill.undirected.Tie as tie
+use Rattle.load.proofs.fill.fill_undirected.Statement.{statement}
+use Rattle.load.proofs.fill.fill_undirected.Tie as tie
 
 arrange-requires : tie.Need-arrange-requires
 arrange-requires c κs = search needs
@@ -63,8 +63,8 @@ same-length-8 c = search needs
 returns-2 : tie.Need-returns-2
 returns-2 c = search undirected-lines
 
-pub undirected-spec : {M : Type 1} → statement M
-undirected-spec =
+pub fill_undirected-spec : {M : Type 1} → statement M
+fill_undirected-spec =
     tie.close
     (tie.spec
     arrange-requires
