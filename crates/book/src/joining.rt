@@ -2,12 +2,12 @@
 use super::Joined;
 use super::JoinedEach;
 use super::MOST_MOVES;
-use super::MOST_VERTICES;
 use super::Pair;
 use super::heads;
 use super::walk;
 use super::well_lent;
 use basis::Refusal;
+use basis::limits::MOST_VERTICES;
 use basis::refusal::NO_ROOM;
 use basis::refusal::NOT_THERE;
 use basis::refusal::UNSOUND;

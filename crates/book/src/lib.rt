@@ -1,12 +1,14 @@
 // The group book: groups of vertices that grow join by join, in two areas that the caller lends, `parents` and `sizes`.
 // A head is its own parent, and `sizes` at a head is its group's size. Here are the answers, and the walks that the calls share.
 use basis::Refusal;
+use basis::limits::MOST_VERTICES;
 use basis::refusal::NO_ROOM;
 use basis::refusal::NOT_THERE;
 use basis::refusal::UNSOUND;
 ghost use mathlib.Core.Path.{_≡_};
 ghost use Prim.Native.Nat.{_≤_, _<_};
 ghost use lib.ListN.{length};
+ghost use Rattle.basis.specs.Limits.{mostVertices};
 ghost use Rattle.book.specs.Rules.{walkFrom, headsOf};
 ghost use Rattle.book.specs.Two.{nextIn, fits, two};
 ghost use Rattle.book.specs.Steps.{saysWalked, saysPair};
@@ -58,9 +60,6 @@ enum Pair {
     Refused(Refusal),
 }
 
-// How many vertices a book may have; a walk's one number is its moves times this, and the head.
-const MOST_VERTICES: usize = 65536;
-
 // How many moves a walk may take.
 const MOST_MOVES: usize = 16;
 
@@ -78,9 +77,10 @@ fn well_lent(parents: &[usize], sizes: &[usize]) -> bool
     sizes.len() == n
 }
 
-// The walk from `v` to its head, in one number, since an answer of several goes through memory.
+// The walk from `v` to its head, in one number, since an answer of several goes through memory: its moves times `MOST_VERTICES`, and the
+// head.
 fn walk(parents: &[usize], v: usize) -> usize
-    requires { ⌜ (v < length (now parents)) × (length (now parents) ≤ 65536) ⌝ }
+    requires { ⌜ (v < length (now parents)) × (length (now parents) ≤ mostVertices) ⌝ }
     ensures { λ r. ⌜ saysWalked r ≡ walkFrom (nextIn (now (parents .entry))) (length (now (parents .entry))) v ⌝ }
 {
     let mut at = v;

@@ -2,18 +2,19 @@
 use super::Compared;
 use super::Headed;
 use super::MOST_MOVES;
-use super::MOST_VERTICES;
 use super::Pair;
 use super::Reading;
 use super::heads;
 use super::walk;
 use super::well_lent;
 use basis::Refusal;
+use basis::limits::MOST_VERTICES;
 use basis::refusal::NO_ROOM;
 use basis::refusal::NOT_THERE;
 use basis::refusal::UNSOUND;
 ghost use mathlib.Core.Path.{_≡_};
 ghost use Prim.Native.Nat.{_≤_, _<_};
+ghost use Rattle.basis.specs.Limits.{mostVertices};
 ghost use Rattle.book.specs.Rules.{headOf, sameGroup, groupSize, groupCount, stepLimit, largest};
 ghost use Rattle.book.specs.Two.{two};
 ghost use Rattle.book.specs.Says.{saysHeaded, saysCompared, saysReading};
@@ -90,7 +91,7 @@ pub fn group_count(parents: &[usize], sizes: &[usize]) -> Reading
 
 // The largest k with 2 to the k at most `size`.
 fn power_below(size: usize) -> usize
-    requires { ⌜ (0 < size) × (size ≤ 65536) ⌝ }
+    requires { ⌜ (0 < size) × (size ≤ mostVertices) ⌝ }
     ensures { λ r. ⌜ r ≡ largest 16 size ⌝ }
 {
     let zeros = u64::leading_zeros(size as u64);

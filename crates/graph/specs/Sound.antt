@@ -6,18 +6,11 @@ use mathlib.Core.List.{List}
 use lib.IntN.{ℤ}
 use lib.ListN.{length, getD, take}
 use lib.Dec.{eqb, leb, ltb}
+use Rattle.basis.specs.Limits.{mostVertices, mostArcs}
 use Rattle.basis.specs.Order.{rising, risingZ}
 use Rattle.basis.specs.Scan.{every, each, mem}
 use Rattle.graph.specs.declared.Size.{Size}
 use Rattle.graph.specs.Part.{partOf}
-
--- "Library limits: 65,536 vertices"
-abbrev pub mostVertices : ℕ
-mostVertices = 65536
-
--- "2,097,152 stored arcs", of the same sentence
-abbrev pub mostArcs : ℕ
-mostArcs = 2097152
 
 -- "Outward offsets and targets, and inward offsets and sources, are lent areas of whole numbers"
 pub record Graph : Type 0 where

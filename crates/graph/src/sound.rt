@@ -8,11 +8,8 @@ ghost use Rattle.graph.specs.Sound.{lent, idsRise, neverFall, soundOffse
 ghost use Rattle.graph.specs.Steps.{bisectFinds, answered};
 use crate::Size;
 use crate::part::part;
-
-// The library's limits.
-pub const MOST_VERTICES: usize = 65536;
-
-pub const MOST_ARCS: usize = 2097152;
+use basis::limits::MOST_ARCS;
+use basis::limits::MOST_VERTICES;
 
 // The first n identifiers are there and rise.
 fn ids_rise(ids: &[i64], n: usize) -> bool

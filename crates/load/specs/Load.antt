@@ -7,11 +7,10 @@ use lib.ListN.{length}
 use lib.Dec.{eqb, leb, ltb}
 use Rattle.basis.specs.Refusal.{Said, gives, refuses, noRoom, unknownNumber, onward, mapped, check}
 use Rattle.basis.specs.Area.{areaOf}
-use Rattle.basis.specs.Limits.{deskVertices, deskEdges}
+use Rattle.basis.specs.Limits.{mostVertices, mostEdges, deskVertices, deskEdges}
 use Rattle.graph.specs.declared.Size.{Size}
 use Rattle.graph.specs.Find.{placeIn}
 use Rattle.graph.specs.Arcs.{Arc, arcs, backward, parts, offsets}
-use Rattle.graph.specs.Sound.{mostVertices}
 use Rattle.load.specs.declared.Limits.{Limits}
 use Rattle.load.specs.declared.Loaded.{Loaded}
 use Rattle.load.specs.declared.Loaded.the-variants as L
@@ -106,7 +105,7 @@ loadCall limits mode room vertices edges = outcomeOf room (loaded limits mode ro
 
 -- "Library limits: 65,536 vertices, 1,048,576 edges"
 abbrev pub library : Limits
-library = record { vertices = mostVertices; edges = 1048576 }
+library = record { vertices = mostVertices; edges = mostEdges }
 
 -- "Library limits: 65,536 vertices, 1,048,576 edges" bind every load: a given limit above the library's counts as the library's
 abbrev pub capped : Limits → Limits

@@ -6,16 +6,14 @@ use crate::fill::fill;
 use basis::Refusal;
 use basis::area::clear;
 use basis::area::clear_signed;
+use basis::limits::MOST_EDGES;
+use basis::limits::MOST_VERTICES;
 use basis::order::lesser;
 use graph::Size;
-use graph::sound::MOST_VERTICES;
 ghost use mathlib.Core.Path.{_≡_};
 ghost use lib.ListN.{length};
 ghost use Rattle.load.specs.Load.{says, roomOf, outcome, loadCall, library, capped};
 ghost use Rattle.load.specs.Steps.{Emptied};
-
-// The library's limit of edge lines; the one of vertex lines is the graph's of vertices.
-pub const MOST_EDGES: usize = 1048576;
 
 // How many lines a vertex file and an edge file may have.
 pub struct Limits {
