@@ -1,4 +1,5 @@
-// Runs the cases of the group book that are run and compared: each line has the call, what it answered, and whether the areas stayed.
+// A program beside the layers. Runs the cases of the group book that are run and compared: each line has the call, what it answered, and
+// whether the areas stayed.
 mod print;
 
 use print::area;

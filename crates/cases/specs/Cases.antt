@@ -4,6 +4,7 @@ use mathlib.Core.List.{List, [], _∷_}
 use lib.IntN.{ℤ, pos}
 use lib.ListN.{replicate}
 use Rattle.basis.specs.Refusal.{Said, gives, refuses, plain, noRoom}
+use Rattle.text.specs.Bytes.{bytes}
 use Rattle.text.specs.Word.{minusOf}
 use Rattle.text.specs.Line.{LineSaid, line, fault, vertexLine}
 use Rattle.book.specs.Two.{Areas, areas, two, twoBook}
@@ -17,7 +18,7 @@ use Rattle.matching.specs.declared.numbers.Rule.the-variants.{Equivalence}
 use Rattle.matching.specs.Verdict.{Verdict, matched, mismatchAt}
 use Rattle.matching.specs.Calls.{numbersCall, coefficientsSays}
 use Rattle.verdicts.specs.Call.{mostLines}
-use Rattle.cases.specs.Texts.{bytes, sheetGraph}
+use Rattle.cases.specs.SheetGraph.{sheetGraph}
 
 -- what is computed: a line read; a kernel's answer and what stands in its result area, or in the two of LCC; a verdict; a book's areas and its group count
 pub data Value : Type 0 where

@@ -1,4 +1,5 @@
-// A lent graph: its size by value, and five areas. Vertices are numbers from 0; a vertex's part of the targets holds its neighbours.
+// Layer graph: a lent graph: its size by value, and five areas. Vertices are numbers from 0; a vertex's part of the targets holds its
+// neighbours.
 pub mod find;
 pub mod part;
 pub mod sound;

@@ -1,4 +1,4 @@
-// Runs what the rules say to run at the library's limits; what it prints is stored beside it.
+// A program beside the layers. Runs what the rules say to run at the library's limits; what it prints is stored beside it.
 use basis::Refusal;
 use load::Limits;
 use load::Loaded;

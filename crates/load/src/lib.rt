@@ -1,5 +1,5 @@
-// A graph from the bytes of its vertex file and its edge file, in five lent areas: identifiers, outward offsets and targets, inward
-// offsets and sources.
+// Layer graph: a graph from the bytes of its vertex file and its edge file, in five lent areas: identifiers, outward offsets and targets,
+// inward offsets and sources.
 mod fill;
 
 use crate::fill::fill;

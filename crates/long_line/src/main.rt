@@ -1,4 +1,4 @@
-// Reads a vertex line of a million digits 9 and prints what is said of it: the refusal's number and the place.
+// A program beside the layers. Reads a vertex line of a million digits 9 and prints what is said of it: the refusal's number and the place.
 use libc::STDOUT_FILENO;
 use text::Cursor;
 use text::line::VertexLine;

@@ -1,4 +1,4 @@
-// The verdict on a claimed result: a kernel's reference output, and the claim against it.
+// Layer verdicts: the verdict on a claimed result: a kernel's reference output, and the claim against it.
 pub mod claims;
 pub mod each;
 pub mod verdict;

@@ -1,17 +1,9 @@
--- The texts of the checked examples as bytes, and the graph of 01's sheet as its two lists load.
-use Prim.Native.Nat.{ℕ}
-use Prim.Native.Char.{code}
-use Prim.Native.String.{String, [] as end, _∷_ as _then_}
-use mathlib.Core.List.{List, [], _∷_}
+-- The graph of 01's sheet, as its two lists load.
 use Rattle.basis.specs.Refusal.{Said, gives, refuses}
+use Rattle.text.specs.Bytes.{bytes}
 use Rattle.graph.specs.declared.Size.{Size}
 use Rattle.graph.specs.Sound.{Graph, lent}
 use Rattle.load.specs.Load.{Outcome, roomOf, library, loadCall}
-
--- the bytes of a text whose characters are below 128
-abbrev pub bytes : String → List ℕ
-bytes end = []
-bytes (c then s) = code c ∷ bytes s
 
 -- the size that a load gives; none where it is refused
 abbrev sizeOf : Said Size → Size
