@@ -1,4 +1,4 @@
-// Layer kernels: BFS: least hops along outgoing arcs from a root, by the queue of document 000, A.1, in which each vertex is served once.
+// Layer kernels. BFS: least hops along outgoing arcs from a root, by the queue of document 000, A.1, in which each vertex is served once.
 use basis::area::clear;
 use basis::area::clear_signed;
 use basis::area::fill_signed;

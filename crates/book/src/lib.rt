@@ -1,4 +1,4 @@
-// Layer book: the group book: groups of vertices that grow join by join, in two areas that the caller lends, `parents` and `sizes`. A head
+// Layer book. The group book: groups of vertices that grow join by join, in two areas that the caller lends, `parents` and `sizes`. A head
 // is its own parent, and `sizes` at a head is its group's size. Here are the answers, and the walks that the calls share.
 use basis::Refusal;
 use basis::limits::MOST_VERTICES;

@@ -1,4 +1,4 @@
-// Layer kernels: CDLP: community detection by label propagation (document 000, 2.3.4).
+// Layer kernels. CDLP: community detection by label propagation (document 000, 2.3.4).
 mod label;
 mod rounds;
 

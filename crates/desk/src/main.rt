@@ -1,4 +1,4 @@
-// Layer desk: the desk program: reads a sheet on standard input and writes what `answer` prints for it. Of a sheet that is too long it
+// Layer desk. The desk program: reads a sheet on standard input and writes what `answer` prints for it. Of a sheet that is too long it
 // reads 65,537 bytes, one more than a sheet may have, and they print what the whole of it prints (`sheet` `Room.cut-prints`).
 use sheet::answer;
 ghost use mathlib.Core.Path.{_≡_};

@@ -1,4 +1,4 @@
-// Layer graph: a lent graph: its size by value, and five areas. Vertices are numbers from 0; a vertex's part of the targets holds its
+// Layer graph. A lent graph: its size by value, and five areas. Vertices are numbers from 0; a vertex's part of the targets holds its
 // neighbours.
 pub mod find;
 pub mod part;

@@ -1,4 +1,4 @@
-// Layer kernels: the local clustering coefficient of every vertex, as a fraction in lowest terms.
+// Layer kernels. The local clustering coefficient of every vertex, as a fraction in lowest terms.
 pub mod common;
 pub mod lcc;
 pub mod ratio;

@@ -1,4 +1,4 @@
-// Layer desk: the lines that the desk program prints: a refused line, a job's head, and a result line for each vertex. Its writers are
+// Layer desk. The lines that the desk program prints: a refused line, a job's head, and a result line for each vertex. Its writers are
 // total, as those of `write` are: they store what there is room for.
 pub mod refused;
 pub mod results;

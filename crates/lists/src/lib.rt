@@ -1,4 +1,4 @@
-// Layer graph: the two lists of a graph, each text read once: what a line names is stored as it is read.
+// Layer graph. The two lists of a graph, each text read once: what a line names is stored as it is read.
 pub mod edges;
 pub mod vertices;
 

@@ -1,4 +1,4 @@
-// Layer graph: a graph from the bytes of its vertex file and its edge file, in five lent areas: identifiers, outward offsets and targets,
+// Layer graph. A graph from the bytes of its vertex file and its edge file, in five lent areas: identifiers, outward offsets and targets,
 // inward offsets and sources.
 mod fill;
 

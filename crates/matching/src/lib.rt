@@ -1,4 +1,4 @@
-// Layer verdicts: a claim against a reference output: its lines, whether it covers the vertices, and 000's three methods of matching.
+// Layer verdicts. A claim against a reference output: its lines, whether it covers the vertices, and 000's three methods of matching.
 pub mod close;
 pub mod coefficients;
 pub mod judged;

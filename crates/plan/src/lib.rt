@@ -1,4 +1,4 @@
-// Layer desk: a desk sheet, checked line by line: where its sections stand, or its first fault.
+// Layer desk. A desk sheet, checked line by line: where its sections stand, or its first fault.
 pub mod job;
 pub mod line;
 pub mod sections;

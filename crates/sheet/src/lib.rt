@@ -1,4 +1,4 @@
-// Layer desk: what the desk program prints for a sheet, into a lent area.
+// Layer desk. What the desk program prints for a sheet, into a lent area.
 pub mod jobs;
 
 use crate::jobs::run_jobs;

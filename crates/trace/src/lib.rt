@@ -1,4 +1,4 @@
-// Layer host: the calls for a C or Rust host: numbers and slices go in, one number comes out.
+// Layer host. The calls for a C or Rust host: numbers and slices go in, one number comes out.
 mod code;
 pub mod four_kernels;
 pub mod group_book;

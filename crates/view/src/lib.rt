@@ -1,4 +1,4 @@
-// Layer graph: the neighbour view, and the same for whoever holds the target area itself.
+// Layer graph. The neighbour view, and the same for whoever holds the target area itself.
 ghost use mathlib.Core.Path.{_≡_};
 ghost use Rattle.graph.specs.Part.{partOf};
 

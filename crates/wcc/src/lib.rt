@@ -1,4 +1,4 @@
-// Layer kernels: WCC: weakly connected components (document 000, 2.3.3), on the group book.
+// Layer kernels. WCC: weakly connected components (document 000, 2.3.3), on the group book.
 mod groups;
 mod labels;
 

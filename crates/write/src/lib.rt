@@ -1,4 +1,4 @@
-// Layer text, its writing half: bytes, counts and identifiers into a lent area. A writer takes a place and answers the next one. It stores
+// Layer text, its writing half. Bytes, counts and identifiers into a lent area. A writer takes a place and answers the next one. It stores
 // what there is room for and no more, so none needs room to be there: `putAt` says the rest.
 pub mod bytes;
 pub mod numbers;
