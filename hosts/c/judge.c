@@ -1,5 +1,5 @@
-/* judge MODE KERNEL PARAMETER VERTICES EDGES CLAIM: the verdict on a claim, in words. MODE is undirected or directed, KERNEL bfs, wcc, cdlp or
-   lcc, PARAMETER the root, the number of rounds, or anything where the kernel has none; the other three are files. */
+/* judge MODE KERNEL PARAMETER VERTICES EDGES CLAIM: the verdict on a claim, in words. MODE is undirected or directed, KERNEL bfs, wcc, cdlp
+   or lcc, PARAMETER the root, the number of rounds, or anything where the kernel has none; the other three are files. */
 #include "trace.h"
 
 #include <inttypes.h>

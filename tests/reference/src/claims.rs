@@ -13,8 +13,8 @@ pub struct Decimal {
     pub down: u32,
 }
 
-/// `0` or digits without a leading zero, optionally `.` and at least one digit, optionally `e`, a sign and two digits; at most 15 digits before
-/// any `e`.
+/// `0` or digits without a leading zero, optionally `.` and at least one digit, optionally `e`, a sign and two digits; at most 15 digits
+/// before any `e`.
 pub fn decimal(word: &[u8]) -> Option<Decimal> {
     let (mantissa, exponent) = match word.iter().position(|&b| b == b'e') {
         Some(i) => (&word[..i], Some(&word[i + 1..])),
