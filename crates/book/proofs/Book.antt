@@ -14,7 +14,8 @@ use Rattle.book.specs.declared.Headed.{Headed}
 use Rattle.book.specs.declared.Pair.{Pair}
 use Rattle.book.specs.declared.Reading.{Reading}
 use Rattle.basis.specs.Refusal.{gives, refuses, plain, notThere, onward}
-use Rattle.book.specs.Rules.{mostMoves, stop, View, found, heads, Step, already, merge, Machine, walkFrom, headOf, pair, headsOf, sameGroup}
+use Rattle.book.specs.Rules.{mostMoves, stop, View, found, heads, Step, already, merge}
+use Rattle.book.specs.Rules.{Machine, walkFrom, headOf, pair, headsOf, sameGroup}
 use Rattle.book.specs.Rules.{groupSize, tally, isStop, groupCount, largest, stepLimit, above, mergeHeads, linkHeads, decide}
 use Rattle.basis.proofs.Tests.{clash}
 use Rattle.basis.specs.Scan.{bit}

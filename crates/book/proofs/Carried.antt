@@ -66,7 +66,8 @@ module _ (next next′ : ℕ → Next) (n top under : ℕ) (top-in : top < n) (t
   unfolding walkFrom
   walk-other d =
       let r = walk-reach next n mostMoves 0 v (found g k) v-in e in
-      reach-walk next′ n (r .0) mostMoves 0 v g (reach-other next next′ n top under top-in top-head under-head apart at off (r .0) v g d (r .3))
+      reach-walk next′ n (r .0) mostMoves 0 v g (reach-other next next′ n top under top-in top-head under-head apart at off (r .0) v g d
+      (r .3))
       (r .1)
       ∙ ap (λ (x : ℕ). gives (found g x)) (sym (r .2))
 
@@ -92,7 +93,8 @@ module _ (next next′ : ℕ → Next) (n top under : ℕ) (top-in : top < n) (t
           ∙ sym (check-off (leb (k + 1) mostMoves) unsound _ (lt-leb (k + 1) mostMoves (omega arith)))
 
 -- ---- the same of two areas, of a walk in one number
-module _ (ps ss : List ℕ) (u at : ℕ) (x : Walking ps ss u at) (m : at / mostVertices ≤ mostMoves) (t d : ℕ) (k : Mergeable (two ps ss) t d 1) where
+module _ (ps ss : List ℕ) (u at : ℕ) (x : Walking ps ss u at) (m : at / mostVertices ≤ mostMoves) (t d : ℕ)
+    (k : Mergeable (two ps ss) t d 1) where
   ended : walkFrom (nextIn ps) (length ps) u ≡ gives (found (at % mostVertices) (at / mostVertices))
   ended = sym (x .walk) ∙ walked-ends at m
 
@@ -105,7 +107,8 @@ module _ (ps ss : List ℕ) (u at : ℕ) (x : Walking ps ss u at) (m : at / most
       (faithful-two .merged-under (areas ps ss) t d 1 k)
       (faithful-two .merged-next (areas ps ss) t d 1 k) u (at % mostVertices) (at / mostVertices) (x .inside) ended q)
 
-  pub carried-under : at % mostVertices ≡ d → saysWalked ((at / mostVertices + 1) * mostVertices + t) ≡ walkFrom (nextIn (set ps d t)) (length (set ps d t)) u
+  pub carried-under : at % mostVertices ≡ d → saysWalked ((at / mostVertices + 1) * mostVertices + t)
+      ≡ walkFrom (nextIn (set ps d t)) (length (set ps d t)) u
   unfolding two
   carried-under q =
       walked-of t (at / mostVertices + 1) (omega (arith, k .top-in, fits-within ps ss (x .lent)))

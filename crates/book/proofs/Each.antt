@@ -275,7 +275,8 @@ module _ (ps ss : List ℕ) (u at : ℕ) (x : Walking ps ss u at) where
           next-second = two-second ps ss u w _ both _ _ refl
 
           -- what the link says is what the join says
-          module _ (ps₁ ss₁ : List ℕ) (r : Joined) (e : done (saysJoined r) (areas ps₁ ss₁) ≡ linkTwo ps ss (at % mostVertices) (to % mostVertices)) where
+          module _ (ps₁ ss₁ : List ℕ) (r : Joined)
+              (e : done (saysJoined r) (areas ps₁ ss₁) ≡ linkTwo ps ss (at % mostVertices) (to % mostVertices)) where
             said : (s : Joined) → r ≡ s → done (saysJoined s) (areas ps₁ ss₁) ≡ linkTwo ps ss (at % mostVertices) (to % mostVertices)
             said s f = ap (λ (y : Joined). done (saysJoined y) (areas ps₁ ss₁)) (sym f) ∙ e
 
@@ -299,7 +300,8 @@ module _ (ps ss : List ℕ) (u at : ℕ) (x : Walking ps ss u at) where
           module _ (ps₁ ss₁ : List ℕ) (i : length ps₁ ≡ length ps) (j : length ss₁ ≡ length ss) (r : Joined) (f : r ≡ Joined.Merged)
               (e : done (saysJoined r) (areas ps₁ ss₁) ≡ linkTwo ps ss (at % mostVertices) (to % mostVertices)) where
             shape : (at % mostVertices ≡ to % mostVertices → ⊥) × Hung ps (at % mostVertices) (to % mostVertices) ps₁
-            shape = merges ps ss (at % mostVertices) (to % mostVertices) ps₁ ss₁ (ap (λ (y : Joined). done (saysJoined y) (areas ps₁ ss₁)) (sym f) ∙ e)
+            shape = merges ps ss (at % mostVertices) (to % mostVertices) ps₁ ss₁
+                (ap (λ (y : Joined). done (saysJoined y) (areas ps₁ ss₁)) (sym f) ∙ e)
 
             first-over : Mergeable (two ps ss) (at % mostVertices) (to % mostVertices) 1
             unfolding two
@@ -335,18 +337,23 @@ module _ (ps ss : List ℕ) (u at : ℕ) (x : Walking ps ss u at) where
               where
                 go : Hung ps (at % mostVertices) (to % mostVertices) ps₁ → Walking ps₁ ss₁ u at
                 go (inl q) =
-                    walking-again ps₁ ss₁ i j at (rw q (carried-other ps ss u at x m (at % mostVertices) (to % mostVertices) first-over (shape .0)))
+                    walking-again ps₁ ss₁ i j at (rw q
+                    (carried-other ps ss u at x m (at % mostVertices) (to % mostVertices) first-over (shape .0)))
                 go (inr q) =
                     absurd (shape .0 (sym t ∙ ap (λ (l : List ℕ). getD l (at % mostVertices) 0) q
                     ∙ getD-set-same ps (at % mostVertices) (to % mostVertices) 0 (first-over .top-in)))
 
-            pub next-under : (getD ps₁ (at % mostVertices) 0 ≡ at % mostVertices → ⊥) → Walking ps₁ ss₁ u ((at / mostVertices + 1) * mostVertices + to % mostVertices)
+            pub next-under : (getD ps₁ (at % mostVertices) 0 ≡ at % mostVertices → ⊥)
+                → Walking ps₁ ss₁ u ((at / mostVertices + 1) * mostVertices + to % mostVertices)
             unfolding two
             next-under t = go (shape .1)
               where
-                go : Hung ps (at % mostVertices) (to % mostVertices) ps₁ → Walking ps₁ ss₁ u ((at / mostVertices + 1) * mostVertices + to % mostVertices)
+                go : Hung ps (at % mostVertices) (to % mostVertices) ps₁
+                    → Walking ps₁ ss₁ u ((at / mostVertices + 1) * mostVertices + to % mostVertices)
                 go (inl q) =
                     absurd (t (ap (λ (l : List ℕ). getD l (at % mostVertices) 0) q
                     ∙ getD-set-other ps (to % mostVertices) (at % mostVertices) (at % mostVertices) 0 (shape .0)
                     ∙ head-is ps (at % mostVertices) (first-over .top-head)))
-                go (inr q) = walking-again ps₁ ss₁ i j _ (rw q (carried-under ps ss u at x m (to % mostVertices) (at % mostVertices) second-over refl))
+                go (inr q) =
+                    walking-again ps₁ ss₁ i j _ (rw q
+                    (carried-under ps ss u at x m (to % mostVertices) (at % mostVertices) second-over refl))

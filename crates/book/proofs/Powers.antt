@@ -28,7 +28,8 @@ largest-is (suc k) j s l h g = go (decLt k j) (λ m. largest-is k j s m h g)
         simp (lt-leb _ _ t) (ih (omega arith))
 
 -- the place of the highest digit of a size
-top-of : (s : ℕ) → 0 < s → s ≤ mostVertices → (j : ℕ) × (leadingZeros 64 s + suc j ≡ 64) × (2 ^ j ≤ s) × (s < 2 ^ suc j) × (largest mostMoves s ≡ j)
+top-of : (s : ℕ) → 0 < s → s ≤ mostVertices → (j : ℕ) × (leadingZeros 64 s + suc j ≡ 64) × (2 ^ j ≤ s) × (s < 2 ^ suc j)
+    × (largest mostMoves s ≡ j)
 top-of s p h =
     let t = leading-top 64 s p (omega arith) in
     (t .0, t .1, t .2, t .3, largest-is mostMoves (t .0) s (go (t .0) (t .2)) (t .2) (t .3))

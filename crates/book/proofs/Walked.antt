@@ -29,7 +29,8 @@ module _ (a : ℕ) where
   unfolding saysWalked
   walked-ends l = check-on (leb (a / mostVertices) mostMoves) unsound _ (le-leb (a / mostVertices) mostMoves l)
 
-pub walked-of : (at moves : ℕ) → at < mostVertices → saysWalked (moves * mostVertices + at) ≡ check (leb moves mostMoves) unsound (gives (found at moves))
+pub walked-of : (at moves : ℕ) → at < mostVertices
+    → saysWalked (moves * mostVertices + at) ≡ check (leb moves mostMoves) unsound (gives (found at moves))
 unfolding saysWalked
 walked-of at moves k =
     let p : (moves * mostVertices + at) / mostVertices ≡ moves = omega arith in
@@ -37,7 +38,8 @@ walked-of at moves k =
     ap₂ (λ h k. check (leb k mostMoves) unsound (gives (found h k))) q p
 
 -- ---- the code's loop, where the rest of the walk from `at` is the walk from v
-module _ (ps : List ℕ) (v at moves : ℕ) (e : walkFrom (nextIn ps) (length ps) v ≡ walk (nextIn ps) (length ps) (mostMoves - moves) moves at) where
+module _ (ps : List ℕ) (v at moves : ℕ) (e : walkFrom (nextIn ps) (length ps) v
+    ≡ walk (nextIn ps) (length ps) (mostMoves - moves) moves at) where
   pub loop-found : at < length ps → length ps ≤ mostVertices → moves ≤ mostMoves → getD ps at 0 ≡ at
       → saysWalked (moves * mostVertices + at) ≡ walkFrom (nextIn ps) (length ps) v
   loop-found l k m h =
@@ -52,7 +54,8 @@ module _ (ps : List ℕ) (v at moves : ℕ) (e : walkFrom (nextIn ps) (length ps
 
     pub loop-out : length ps ≤ getD ps at 0 → saysWalked 1114112 ≡ walkFrom (nextIn ps) (length ps) v
     loop-out l =
-        walked-late 1114112 (omega arith) ∙ sym (e ∙ walk-out (nextIn ps) (length ps) (mostMoves - moves) moves at _ (next-other ps at other) l)
+        walked-late 1114112 (omega arith) ∙ sym (e
+        ∙ walk-out (nextIn ps) (length ps) (mostMoves - moves) moves at _ (next-other ps at other) l)
 
     pub loop-moves : moves < mostMoves → getD ps at 0 < length ps
         → walkFrom (nextIn ps) (length ps) v ≡ walk (nextIn ps) (length ps) (mostMoves - (moves + 1)) (moves + 1) (getD ps at 0)
@@ -85,5 +88,6 @@ module _ (w : View) (t : Bool) (e : t ≡ w .fit) (f : not t ≡ false) where
 
       pub heads-end : b / mostVertices ≤ mostMoves → gives (heads (a % mostVertices) (b % mostVertices)) ≡ headsOf w u v
       heads-end n =
-          heads-walked w u v t e (gives (found (a % mostVertices) (a / mostVertices))) (gives (found (b % mostVertices) (b / mostVertices))) f k l
+          heads-walked w u v t e (gives (found (a % mostVertices) (a / mostVertices))) (gives (found (b % mostVertices) (b / mostVertices)))
+          f k l
           (sym (walked-ends a m) ∙ p) (sym (walked-ends b n) ∙ q)

@@ -193,5 +193,5 @@ Demand3 M = (s : State (M .Area)) → M .view (s .area) .fit ≡ true → (cs : 
 
 -- the same of two areas of one length, "of up to 65,536 vertices"
 abbrev pub Demand3Two : Type 0
-Demand3Two = (s : State Areas) → length (s .area .parents) ≤ mostVertices → length (s .area .sizes) ≡ length (s .area .parents) → (cs : List Call)
-    → Kept twoBook (length (s .area .parents)) (run twoBook s (opening ∷ cs))
+Demand3Two = (s : State Areas) → length (s .area .parents) ≤ mostVertices → length (s .area .sizes) ≡ length (s .area .parents)
+    → (cs : List Call) → Kept twoBook (length (s .area .parents)) (run twoBook s (opening ∷ cs))

@@ -7,7 +7,8 @@ use lib.ListN.{length}
 use lib.Dec.{leb}
 use Rattle.basis.specs.Limits.{mostVertices}
 use Rattle.basis.specs.Refusal.{Said, gives, refuses, plain, unsound, check}
-use Rattle.book.specs.Rules.{Found, found, mostMoves, walkFrom, Heads, heads, Joining, merged, same, merge, Done, linkHeads, writeBook}
+use Rattle.book.specs.Rules.{Found, found, mostMoves, walkFrom, Heads, heads, Joining, merged, same, merge, Done}
+use Rattle.book.specs.Rules.{linkHeads, writeBook}
 use Rattle.book.specs.Two.{Areas, areas, nextIn, fits, two, twoBook}
 use Rattle.book.specs.declared.Pair.{Pair}
 use Rattle.book.specs.declared.joining.Carried.{Carried}
