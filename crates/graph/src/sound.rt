@@ -4,7 +4,7 @@ ghost use mathlib.Core.Bool.{true};
 ghost use Prim.Native.Nat.{_<_};
 ghost use lib.ListN.{length};
 ghost use Rattle.graph.specs.Part.{partOf};
-ghost use Rattle.graph.specs.Sound.{lent, idsRise, neverFall, soundOffsets, soundPart, soundParts, soundSide, mirrored, soundSides, soundGraph};
+ghost use Rattle.graph.specs.Sound.{lent, firstIdsRise, neverFall, soundOffsets, soundPart, soundParts, soundSide, mirrored, soundSides, soundGraph};
 ghost use Rattle.graph.specs.Steps.{bisectFinds, answered};
 use crate::Size;
 use crate::part::part;
@@ -13,7 +13,7 @@ use basis::limits::MOST_VERTICES;
 
 // The first n identifiers are there and rise.
 fn ids_rise(ids: &[i64], n: usize) -> bool
-    ensures { λ r. ⌜ r ≡ idsRise n (now (ids .entry)) ⌝ }
+    ensures { λ r. ⌜ r ≡ firstIdsRise n (now (ids .entry)) ⌝ }
 {
     if ids.len() < n {
         return false;

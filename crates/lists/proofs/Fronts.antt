@@ -15,8 +15,7 @@ use Rattle.basis.specs.Area.{pad, padZ, padWith}
 use Rattle.basis.proofs.Areas.{pad-lent}
 use Rattle.basis.proofs.Saids.{mapped-gives, mapped-refuses}
 use Rattle.graph.specs.declared.find.Found.{Found}
-use Rattle.store.specs.Held.{seconds}
-use Rattle.store.specs.Steps.{bumps}
+use Rattle.graph.specs.Arcs.{seconds, bumps}
 use Rattle.lists.specs.declared.Listed.{Listed}
 use Rattle.lists.specs.declared.Listed.the-variants.{Lines, Refused}
 use Rattle.lists.specs.Files.{identifiers, edgesOf, allNumbered}

@@ -17,10 +17,8 @@ use Rattle.text.specs.Word.{identOf}
 use Rattle.text.specs.Line.{twoOf}
 use Rattle.text.specs.File.{after}
 use Rattle.text.proofs.Files.{left, left-start}
-use Rattle.graph.specs.Arcs.{Arc}
+use Rattle.graph.specs.Arcs.{Arc, seconds, bump}
 use Rattle.graph.specs.declared.find.Found.{Found}
-use Rattle.store.specs.Held.{seconds}
-use Rattle.store.specs.Steps.{bump}
 use Rattle.lists.specs.declared.Listed.{Listed}
 use Rattle.lists.specs.declared.Listed.the-variants.{Lines, Refused}
 use Rattle.lists.specs.declared.edges.Edges.{Edges}
@@ -28,7 +26,7 @@ use Rattle.lists.specs.declared.edges.EdgeStep.{EdgeStep}
 use Rattle.lists.specs.declared.edges.EdgeStep.the-variants as ES
 use Rattle.lists.specs.Files.{edgeTest, edgesOf, numbered, allNumbered}
 use Rattle.lists.specs.Calls.{listedSays}
-use Rattle.lists.specs.Steps.{Step, more, stop, beforeBy, pairOf, withNumbers, edgeStep, edgeStepSays, numberedInto, edgesLeft}
+use Rattle.lists.specs.Steps.{LineStep, more, stop, beforeBy, pairOf, withNumbers, edgeStep, edgeStepSays, numberedInto, edgesLeft}
 use Rattle.lists.proofs.Runs.{left-lines, left-refused, left-more, Moved, before-next}
 
 -- ---- what the loop keeps
@@ -53,7 +51,7 @@ into-more place counts targets k e (gives es) =
     ≡ sets (set targets k (numbered place e .1)) (suc k) (seconds (allNumbered place es)) = rw add-one in
     cc
 
-numbers-more : (place : ℤ → Found) (x : Step (ℤ × ℤ)) (e : ℤ × ℤ) (a : Arc) (next k : ℕ) → more (e, a) next k ≡ withNumbers place x
+numbers-more : (place : ℤ → Found) (x : LineStep (ℤ × ℤ)) (e : ℤ × ℤ) (a : Arc) (next k : ℕ) → more (e, a) next k ≡ withNumbers place x
     → (more e next k ≡ x) × (a ≡ numbered place e)
 numbers-more place (stop r) e a next k h = no-case cc
 numbers-more place (more d n m) e a next k h =
@@ -61,7 +59,7 @@ numbers-more place (more d n m) e a next k h =
     let p : e ≡ d = ap (λ (x : (ℤ × ℤ) × Arc). x .0) q in
     (cc, ap (λ (x : (ℤ × ℤ) × Arc). x .1) q ∙ ap (numbered place) (sym p))
 
-numbers-stop : (place : ℤ → Found) (x : Step (ℤ × ℤ)) (r : Said ℕ) → stop r ≡ withNumbers place x → stop r ≡ x
+numbers-stop : (place : ℤ → Found) (x : LineStep (ℤ × ℤ)) (r : Said ℕ) → stop r ≡ withNumbers place x → stop r ≡ x
 numbers-stop place (stop q) r h = cc
 numbers-stop place (more d n m) r h = no-case cc
 

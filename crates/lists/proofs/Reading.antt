@@ -28,8 +28,8 @@ use Rattle.lists.specs.declared.vertices.Vertices.{Vertices}
 use Rattle.lists.specs.declared.edges.Edges.{Edges}
 use Rattle.lists.specs.declared.edges.Ends.{Ends}
 use Rattle.lists.specs.declared.edges.Ends.the-variants as EN
-use Rattle.lists.specs.Files.{vertexTest, isAbove, numberOf, edgeTest, numbered}
-use Rattle.lists.specs.Steps.{Step, more, stop, byFault, stepBy, beforeBy, vertexStep, orderFault}
+use Rattle.lists.specs.Files.{vertexTest, isAbove, vertexNumber, edgeTest, numbered}
+use Rattle.lists.specs.Steps.{LineStep, more, stop, byFault, stepBy, beforeBy, vertexStep, orderFault}
 use Rattle.lists.specs.Steps.{Looked, found, unknown, lookedBy, endsSays, pairOf, withNumbers, edgeStep}
 
 -- ---- too many lines come before any other fault
@@ -211,7 +211,7 @@ limit-none most k o e = go (leb most k) refl e
 
 module _ (undirected : Bool) (most : ℕ) (place : ℤ → Found) (s : List ℕ) (c : Edges) (x : EdgeLine)
     (e : edgeSays x ≡ edgeLine s (c .at .at)) where
-  abbrev step : LineSaid (ℤ × ℤ) → Step (ℤ × ℤ)
+  abbrev step : LineSaid (ℤ × ℤ) → LineStep (ℤ × ℤ)
   step = stepBy edgeFile most (edgeTest undirected place) (c .lines) (beforeBy (c .lines) (pairOf c))
 
   by-edge : (y : EdgeLine) → x ≡ y → withNumbers place (step (edgeSays y)) ≡ withNumbers place (edgeStep undirected most place s c)
@@ -283,7 +283,7 @@ module _ (undirected : Bool) (most : ℕ) (place : ℤ → Found) (s : List ℕ)
           rw (ha, hb, ← n) (ap (withNumbers place) (by-more edgeFile most (edgeTest undirected place) (c .lines) before (a, b) (p .at) 0 l refl)
           ∙ by-edge (EL.Line a b p) q)
         where
-          numbers : (x y : Found) → lookedBy x y ≡ found (u, v) → _≡_ {A = ℕ × ℕ} (numberOf x, numberOf y) (u, v)
+          numbers : (x y : Found) → lookedBy x y ≡ found (u, v) → _≡_ {A = ℕ × ℕ} (vertexNumber x, vertexNumber y) (u, v)
           numbers (At i) (At j) h = cc
           numbers (At i) Missing h = no-case cc
           numbers Missing y h = no-case cc

@@ -11,11 +11,9 @@ use Rattle.basis.specs.Refusal.{Said, gives, refuses, at, notAbove, selfEdge, l
 use Rattle.basis.specs.Order.{sameZ}
 use Rattle.text.specs.Line.{LineSaid, line, none, fault, vertexLine, edgeLine}
 use Rattle.text.specs.File.{good, bad, Before, first, after, faultOf}
-use Rattle.graph.specs.Arcs.{Arc}
+use Rattle.graph.specs.Arcs.{Arc, seconds, bumps}
 use Rattle.graph.specs.declared.find.Found.{Found}
 use Rattle.graph.specs.declared.find.Found.the-variants.{At, Missing}
-use Rattle.store.specs.Held.{seconds}
-use Rattle.store.specs.Steps.{bumps}
 use Rattle.lists.specs.declared.Listed.{Listed}
 use Rattle.lists.specs.declared.Listed.the-variants.{Lines, Refused}
 use Rattle.lists.specs.declared.vertices.Vertices.{Vertices}
@@ -30,18 +28,18 @@ use Rattle.lists.specs.Calls.{listedSays}
 use Rattle.lists.specs.Files.{vertexTest, isAbove, edgeTest, numbered, allNumbered}
 
 -- a line more: its values, the place past it and the lines so far; or the end of the reading
-pub data Step (A : Type 0) : Type 0 where
-  more : A → ℕ → ℕ → Step A
-  stop : Said ℕ → Step A
+pub data LineStep (A : Type 0) : Type 0 where
+  more : A → ℕ → ℕ → LineStep A
+  stop : Said ℕ → LineStep A
 
 module _ {A : Type 0} (file most : ℕ) (test : Before A → A → ℕ) where
   -- a line with values, by the number of its fault
-  abbrev pub byFault : ℕ → A → ℕ → ℕ → Step A
+  abbrev pub byFault : ℕ → A → ℕ → ℕ → LineStep A
   byFault k v next zero = more v next (k + 1)
   byFault k v next (suc n) = stop (refuses (at (suc n) file (k + 1)))
 
   -- after k lines, by what is read next: a line's values or its fault, or the count k where no line is left
-  abbrev pub stepBy : ℕ → Before A → LineSaid A → Step A
+  abbrev pub stepBy : ℕ → Before A → LineSaid A → LineStep A
   stepBy k before (line v next) = byFault k v next (faultOf file most test k before (good v))
   stepBy k before (none p) = stop (gives k)
   stepBy k before (fault n p) = stop (refuses (at (faultOf file most test k before (bad n)) file (k + 1)))
@@ -51,11 +49,11 @@ abbrev pub beforeBy : {A : Type 0} → ℕ → A → Before A
 beforeBy k last = cond (ltb 0 k) (after last) first
 
 -- one vertex line more, read at the reader's place and tested after the identifier that it passed last
-unfoldable pub vertexStep : List ℕ → ℕ → Vertices → Step ℤ
+unfoldable pub vertexStep : List ℕ → ℕ → Vertices → LineStep ℤ
 vertexStep s most c = stepBy vertexFile most vertexTest (c .lines) (beforeBy (c .lines) (c .last)) (vertexLine s (c .at .at))
 
 -- the code's answer as a step: the identifier, the place past its line and the lines so far, or the end of the reading
-abbrev pub vertexStepSays : VertexStep → Step ℤ
+abbrev pub vertexStepSays : VertexStep → LineStep ℤ
 vertexStepSays (VS.More d) = more (d .last) (d .at .at) (d .lines)
 vertexStepSays (VS.Stop r) = stop (listedSays r)
 
@@ -94,16 +92,16 @@ endsSays (EN.Known u v) = found (u, v)
 endsSays EN.Unknown = unknown
 
 -- an edge's step with the numbers of its vertices beside its identifiers
-abbrev pub withNumbers : (ℤ → Found) → Step (ℤ × ℤ) → Step ((ℤ × ℤ) × Arc)
+abbrev pub withNumbers : (ℤ → Found) → LineStep (ℤ × ℤ) → LineStep ((ℤ × ℤ) × Arc)
 withNumbers place (more e next k) = more (e, numbered place e) next k
 withNumbers place (stop r) = stop r
 
 -- one edge line more, read at the reader's place and tested after the edge that it passed last
-unfoldable pub edgeStep : Bool → ℕ → (ℤ → Found) → List ℕ → Edges → Step (ℤ × ℤ)
+unfoldable pub edgeStep : Bool → ℕ → (ℤ → Found) → List ℕ → Edges → LineStep (ℤ × ℤ)
 edgeStep undirected most place s c = stepBy edgeFile most (edgeTest undirected place) (c .lines) (beforeBy (c .lines) (pairOf c)) (edgeLine s (c .at .at))
 
 -- the code's answer as a step: the edge by identifiers and by numbers, the place past its line and the lines so far, or the end of the reading
-abbrev pub edgeStepSays : EdgeStep → Step ((ℤ × ℤ) × Arc)
+abbrev pub edgeStepSays : EdgeStep → LineStep ((ℤ × ℤ) × Arc)
 edgeStepSays (ES.More u v d) = more (pairOf d, (u, v)) (d .at .at) (d .lines)
 edgeStepSays (ES.Stop r) = stop (listedSays r)
 

@@ -19,6 +19,7 @@ use Rattle.basis.proofs.Areas.{column-ext, drop-replicate, pad-length, copied-f
 use Rattle.basis.proofs.Saids.{mapped-gives, mapped-refuses, given-one, check-passed}
 use Rattle.graph.specs.Find.{placeIn}
 use Rattle.graph.specs.Arcs.{Arc, arcs, parts, start, offsets}
+use Rattle.graph.proofs.Arcs.{length-seconds}
 use Rattle.store.specs.Held.{inArcs}
 use Rattle.store.specs.Spread.{arcCount}
 use Rattle.store.proofs.Arcs.{start-length}
@@ -32,7 +33,6 @@ use Rattle.load.specs.Load.{arcRoom, withRoom, arcsRead}
 use Rattle.load.specs.Steps.{edgesRead, Arranged, arranged, arrangedBy, arrangedLeft, Filled, filled, filledBy}
 use Rattle.load.proofs.Valids.{valid-file}
 use Rattle.store.proofs.Fits.{arc-count}
-use Rattle.load.proofs.Arranges.{length-seconds}
 
 -- ---- the arcs of a file are those of its edges, and the order of the two rooms does not matter
 mapped-room : {A B : Type 0} (f : A → B) (t : Bool) (x : A) → withRoom t (f x) ≡ mapped f (withRoom t x)

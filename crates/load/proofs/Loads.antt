@@ -27,10 +27,10 @@ use Rattle.load.specs.declared.Loaded.the-variants as L
 use Rattle.lists.specs.declared.Listed.{Listed}
 use Rattle.lists.specs.declared.Listed.the-variants.{Lines, Refused}
 use Rattle.lists.specs.Files.{vertexTest, identifiers}
-use Rattle.lists.specs.Calls.{listedSays, Vertexes, vertexOutcome, idsArea, vertexCall}
+use Rattle.lists.specs.Calls.{listedSays, VerticesRead, vertexOutcome, idsArea, vertexCall}
 use Rattle.load.specs.Load.{Room, roomOf, vertexRoom, arcsRead, listsRead, loaded}
 use Rattle.load.specs.Load.{Outcome, outcome, outcomeOf, loadCall, library, capped}
-use Rattle.load.specs.Steps.{Blank, Filled, filled, filledBy, filledLeft, outcomeBy, outcomeLeft, Emptied}
+use Rattle.load.specs.Steps.{Storing, Filled, filled, filledBy, filledLeft, outcomeBy, outcomeLeft, Emptied}
 
 -- ---- places for identifiers and offsets
 module _ (n ids oo io : ℕ) where
@@ -97,7 +97,7 @@ module _ (limits : Limits) (mode : ℕ) (v e : List ℕ) (ids : List ℤ) (oo ot
   module _ (h : mode ≤ 1) (x : Listed) (a : List ℤ)
       (told : vertexOutcome (listedSays x) a ≡ vertexCall (limits .vertices) v (length ids)) where
     answered : (r : Said ℕ) → listedSays x ≡ r → r ≡ mapped length (identifiers (limits .vertices) v)
-    answered r q = sym q ∙ ap (λ (y : Vertexes). y .answer) told
+    answered r q = sym q ∙ ap (λ (y : VerticesRead). y .answer) told
 
     pub fill-refused : (r : Refusal) → x ≡ Refused r → refuses r ≡ result
     unfolding loaded listsRead
@@ -127,7 +127,7 @@ module _ (limits : Limits) (mode : ℕ) (v e : List ℕ) (ids : List ℤ) (oo ot
 
         padded : a ≡ padZ (length ids) list
         padded =
-            ap (λ (y : Vertexes). y .ids) told ∙ ap (idsArea (length ids)) (taken .1)
+            ap (λ (y : VerticesRead). y .ids) told ∙ ap (idsArea (length ids)) (taken .1)
             ∙ ap (padZ (length ids)) (take-all (length ids) list (let c = taken .2 in let g = fits in omega arith))
 
         front : take n a ≡ list
@@ -144,8 +144,8 @@ module _ (limits : Limits) (mode : ℕ) (v e : List ℕ) (ids : List ℤ) (oo ot
           lent-long : length b ≡ n
           lent-long = ap length lent ∙ sym (taken .2)
 
-          pub fill-blank : Blank b oo io
-          fill-blank =
+          pub fill-storing : Storing b oo io
+          fill-storing =
               record {
                 rise = subst (λ (l : List ℤ). risingZ l ≡ true) (sym lent)
                     (ids-rise list (file-accepted identOf vertexFile (limits .vertices) vertexTest v list .0 (taken .1) .pass));

@@ -33,7 +33,7 @@ use Rattle.store.proofs.Fits.{arc-count}
 use Rattle.store.proofs.Order.{Valid}
 use Rattle.store.proofs.Meaning.{hasArc, storedGraph, stored-sound, stored-outward, stored-inward}
 use Rattle.load.specs.declared.Limits.{Limits}
-use Rattle.lists.specs.Files.{vertexTest, identifiers, numberOf, edgeTest, edgesOf, numbered, allNumbered}
+use Rattle.lists.specs.Files.{vertexTest, identifiers, vertexNumber, edgeTest, edgesOf, numbered, allNumbered}
 use Rattle.load.specs.Load.{Lists, Room, isUndirected, vertexRoom, arcRoom, withRoom, arcsRead}
 use Rattle.load.specs.Load.{listsRead, sizeOf, loaded, Outcome, outcomeOf, loadCall, capped}
 use Rattle.store.specs.Spread.{arcCount}
@@ -150,10 +150,10 @@ module _ (ids : List ℤ) (rise : risingZ ids ≡ true) (u w : ℕ) (hu : u < le
   abbrev name : ℕ → ℤ
   name v = getD ids v (pos 0)
 
-  same-first : (id : ℤ) (v : ℕ) → v < length ids → isThere (placeIn ids id) ≡ true → sameZ id (name v) ≡ eqb (numberOf (placeIn ids id)) v
+  same-first : (id : ℤ) (v : ℕ) → v < length ids → isThere (placeIn ids id) ≡ true → sameZ id (name v) ≡ eqb (vertexNumber (placeIn ids id)) v
   same-first id v h t =
       let p = there ids rise id t in
-      rw (p .1) at (same-places signed-order (pos 0) ids rise (numberOf (placeIn ids id)) v (p .0) h)
+      rw (p .1) at (same-places signed-order (pos 0) ids rise (vertexNumber (placeIn ids id)) v (p .0) h)
 
   same-edge : (e : ℤ × ℤ) → isThere (placeIn ids (e .0)) ≡ true → isThere (placeIn ids (e .1)) ≡ true
       → (eqb (numbered (placeIn ids) e .0) u && eqb w (numbered (placeIn ids) e .1)) ≡ (sameZ (e .0) (name u) && sameZ (e .1) (name w))

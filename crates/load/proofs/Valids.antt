@@ -24,7 +24,7 @@ use Rattle.graph.specs.declared.find.Found.{Found}
 use Rattle.graph.specs.declared.find.Found.the-variants.{At, Missing}
 use Rattle.graph.proofs.Finds.{place-at}
 use Rattle.store.proofs.Order.{Fine, Smaller, Lex, Valid, lex-cons}
-use Rattle.lists.specs.Files.{isAbove, numberOf, edgeTest, edgesOf, numbered, allNumbered}
+use Rattle.lists.specs.Files.{isAbove, vertexNumber, edgeTest, edgesOf, numbered, allNumbered}
 
 -- ---- what the test of an edge says
 pub record Tested (undirected : Bool) (ids : List ℤ) (before : Before (ℤ × ℤ)) (e : ℤ × ℤ) : Type 0 where
@@ -59,23 +59,23 @@ passed-test undirected ids before e t = rw (t .apart, t .smaller, t .above, t .f
 -- ---- identifiers that rise, and the numbers of those that are there
 module _ (ids : List ℤ) (rise : risingZ ids ≡ true) where
   pub there : (id : ℤ) → isThere (placeIn ids id) ≡ true
-      → (numberOf (placeIn ids id) < length ids) × (getD ids (numberOf (placeIn ids id)) (pos 0) ≡ id)
+      → (vertexNumber (placeIn ids id) < length ids) × (getD ids (vertexNumber (placeIn ids id)) (pos 0) ≡ id)
   there id h = go (placeIn ids id) refl h
     where
-      go : (x : Found) → placeIn ids id ≡ x → isThere x ≡ true → (numberOf x < length ids) × (getD ids (numberOf x) (pos 0) ≡ id)
+      go : (x : Found) → placeIn ids id ≡ x → isThere x ≡ true → (vertexNumber x < length ids) × (getD ids (vertexNumber x) (pos 0) ≡ id)
       go (At i) q h = place-at ids id rise i .0 q
       go Missing q h = clash h refl
 
   module _ (a b : ℤ) (ha : isThere (placeIn ids a) ≡ true) (hb : isThere (placeIn ids b) ≡ true) where
-    pub less-numbers : ltZ a b ≡ ltb (numberOf (placeIn ids a)) (numberOf (placeIn ids b))
+    pub less-numbers : ltZ a b ≡ ltb (vertexNumber (placeIn ids a)) (vertexNumber (placeIn ids b))
     less-numbers =
         let p = there a ha in let q = there b hb in
-        rw (p .1, q .1) at (less-places signed-order (pos 0) ids rise (numberOf (placeIn ids a)) (numberOf (placeIn ids b)) (p .0) (q .0))
+        rw (p .1, q .1) at (less-places signed-order (pos 0) ids rise (vertexNumber (placeIn ids a)) (vertexNumber (placeIn ids b)) (p .0) (q .0))
 
-    pub same-numbers : sameZ a b ≡ eqb (numberOf (placeIn ids a)) (numberOf (placeIn ids b))
+    pub same-numbers : sameZ a b ≡ eqb (vertexNumber (placeIn ids a)) (vertexNumber (placeIn ids b))
     same-numbers =
         let p = there a ha in let q = there b hb in
-        rw (p .1, q .1) at (same-places signed-order (pos 0) ids rise (numberOf (placeIn ids a)) (numberOf (placeIn ids b)) (p .0) (q .0))
+        rw (p .1, q .1) at (same-places signed-order (pos 0) ids rise (vertexNumber (placeIn ids a)) (vertexNumber (placeIn ids b)) (p .0) (q .0))
 
   -- ---- of an edge, and of an edge after another
   module _ (undirected : Bool) where

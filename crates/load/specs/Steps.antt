@@ -49,7 +49,7 @@ arrangedLeft (Lines m) o t b u = gives (arranged m o t b u)
 arrangedLeft (Refused r) o t b u = refuses r
 
 -- what the storing of edges asks for: identifiers that rise, and places for their offsets
-pub record Blank (ids : List ℤ) (o b : List ℕ) : Type 0 where
+pub record Storing (ids : List ℤ) (o b : List ℕ) : Type 0 where
   pub rise : risingZ ids ≡ true
   pub places : length ids < length o
   pub backPlaces : length ids < length b

@@ -17,7 +17,7 @@ ghost use mathlib.Core.Bool.{true, false};
 ghost use lib.ListN.{length};
 ghost use Rattle.basis.specs.Refusal.{mapped};
 ghost use Rattle.load.specs.Load.{vertexRoom, roomOf, arcsRead, loaded};
-ghost use Rattle.load.specs.Steps.{edgesRead, arrangedBy, arrangedLeft, Blank, filledBy, filledLeft, outcomeBy, outcomeLeft};
+ghost use Rattle.load.specs.Steps.{edgesRead, arrangedBy, arrangedLeft, Storing, filledBy, filledLeft, outcomeBy, outcomeLeft};
 
 // The edges of a file: stored by their first ends in one pair of areas as they are read, and their arcs the other way in the other pair.
 fn arrange(
@@ -30,7 +30,7 @@ fn arrange(
     back: &mut [usize],
     sources: &mut [usize],
 ) -> Listed
-    requires { ⌜ Blank (now ids) (now offsets) (now back) ⌝ }
+    requires { ⌜ Storing (now ids) (now offsets) (now back) ⌝ }
     ensures { λ r. ⌜ arrangedLeft r (now (offsets .exit)) (now (targets .exit)) (now (back .exit)) (now (sources .exit)) ≡ mapped (arrangedBy undirected (length (now (ids .entry))) (length (now (offsets .entry))) (length (now (targets .entry))) (length (now (back .entry))) (length (now (sources .entry)))) (edgesRead undirected most (now (ids .entry)) (now (s .entry)) (length (now (targets .entry))) (length (now (sources .entry)))) ⌝ }
 {
     let n = ids.len();
@@ -61,7 +61,7 @@ fn fill_directed(
     in_offsets: &mut [usize],
     in_sources: &mut [usize],
 ) -> Loaded
-    requires { ⌜ Blank (now ids) (now «out_offsets») (now «in_offsets») ⌝ }
+    requires { ⌜ Storing (now ids) (now «out_offsets») (now «in_offsets») ⌝ }
     ensures { λ r. ⌜ filledLeft r (now («out_offsets» .exit)) (now («out_targets» .exit)) (now («in_offsets» .exit)) (now («in_sources» .exit)) ≡ mapped (filledBy (length (now (ids .entry))) (length (now («out_offsets» .entry))) (length (now («out_targets» .entry))) (length (now («in_offsets» .entry))) (length (now («in_sources» .entry)))) (arcsRead false most (now (ids .entry)) (now (s .entry)) (length (now («out_targets» .entry))) (length (now («in_sources» .entry)))) ⌝ }
 {
     let n = ids.len();
@@ -94,7 +94,7 @@ fn fill_undirected(
     in_offsets: &mut [usize],
     in_sources: &mut [usize],
 ) -> Loaded
-    requires { ⌜ Blank (now ids) (now «out_offsets») (now «in_offsets») ⌝ }
+    requires { ⌜ Storing (now ids) (now «out_offsets») (now «in_offsets») ⌝ }
     ensures { λ r. ⌜ filledLeft r (now («out_offsets» .exit)) (now («out_targets» .exit)) (now («in_offsets» .exit)) (now («in_sources» .exit)) ≡ mapped (filledBy (length (now (ids .entry))) (length (now («out_offsets» .entry))) (length (now («out_targets» .entry))) (length (now («in_offsets» .entry))) (length (now («in_sources» .entry)))) (arcsRead true most (now (ids .entry)) (now (s .entry)) (length (now («out_targets» .entry))) (length (now («in_sources» .entry)))) ⌝ }
 {
     let n = ids.len();
@@ -130,7 +130,7 @@ fn store_edges(
     in_offsets: &mut [usize],
     in_sources: &mut [usize],
 ) -> Loaded
-    requires { ⌜ Blank (now ids) (now «out_offsets») (now «in_offsets») ⌝ }
+    requires { ⌜ Storing (now ids) (now «out_offsets») (now «in_offsets») ⌝ }
     ensures { λ r. ⌜ filledLeft r (now («out_offsets» .exit)) (now («out_targets» .exit)) (now («in_offsets» .exit)) (now («in_sources» .exit)) ≡ mapped (filledBy (length (now (ids .entry))) (length (now («out_offsets» .entry))) (length (now («out_targets» .entry))) (length (now («in_offsets» .entry))) (length (now («in_sources» .entry)))) (arcsRead undirected most (now (ids .entry)) (now (s .entry)) (length (now («out_targets» .entry))) (length (now («in_sources» .entry)))) ⌝ }
 {
     if undirected {
