@@ -1,5 +1,5 @@
 -- Laws of storing the edges of a file: both pairs of areas as the edges say. Assumes nothing.
-use Prim.Native.Nat.{ℕ, suc, _+_, _-_, _≤_, _<_}
+use Prim.Native.Nat.{ℕ, _+_, _-_, _≤_, _<_}
 use mathlib.Core.Path.{_≡_, refl, sym, ap, ap₂, _∙_}
 use mathlib.Core.Bool.{Bool, true, false}
 use mathlib.Core.List.{List, [], _∷_, _++_}
@@ -31,16 +31,12 @@ use Rattle.lists.specs.declared.Listed.{Listed}
 use Rattle.lists.specs.declared.Listed.the-variants.{Lines, Refused}
 use Rattle.lists.specs.Files.{edgesOf, allNumbered}
 use Rattle.lists.specs.Calls.{listedSays, EdgesRead, edgeOutcome, countsArea, targetsArea, edgeCall}
+use Rattle.lists.proofs.Lookups.{same-edges, same-numbered, length-numbered}
 use Rattle.load.specs.Load.{arcRoom}
 use Rattle.load.specs.Steps.{edgesRead, Arranged, arranged, arrangedBy, Storing}
 use Rattle.load.proofs.Valids.{valid-file}
-use Rattle.load.proofs.Lookups.{same-edges, same-numbered}
 
 -- ---- lengths of edges and arcs
-pub length-numbered : (ids : List ℤ) (es : List (ℤ × ℤ)) → length (allNumbered (placeIn ids) es) ≡ length es
-length-numbered ids [] = refl
-length-numbered ids (e ∷ es) = ap suc (length-numbered ids es)
-
 edges-fewer : (undirected : Bool) (m : ℕ) → m ≤ arcCount undirected m
 edges-fewer true m = omega arith
 edges-fewer false m = omega arith
@@ -91,7 +87,7 @@ module _ (undirected : Bool) (most : ℕ) (ids : List ℤ) (s : List ℕ) (fo ft
     found = same-edges ids (storing .rise) undirected most s ∙ taken .1
 
     count : m ≡ length es
-    count = taken .2 ∙ sym (length-numbered ids (taken .0))
+    count = taken .2 ∙ sym (length-numbered (placeIn ids) (taken .0))
 
     counts : c ≡ bumps (replicate (length fo) 0) es
     counts =

@@ -1,32 +1,30 @@
 -- Laws of a whole load: from the vertex file and the edge file to the five areas. Assumes nothing.
 use Prim.Native.Nat.{ℕ, _-_, _≤_, _<_, min}
 use mathlib.Core.Path.{_≡_, refl, sym, ap, ap₂, subst, _∙_}
-use mathlib.Core.Bool.{Bool, true, false, cond, _&&_}
-use mathlib.Core.List.{List, [], _∷_}
+use mathlib.Core.Bool.{Bool, true, false, _&&_}
+use mathlib.Core.List.{List}
 use native.Mathlib.Omega.{arith}
 use borrow.Author.Tests.{le-leb, lt-leb, lt-ltb, le-ltb, leb-true, ltb-true}
 use lib.ListN.{length, take, replicate}
 use lib.Seq.{take-at, take-all}
 use lib.Dec.{eqb, leb, ltb}
 use lib.IntN.{ℤ, pos}
-use lib.Signed.{ltZ}
-use Rattle.basis.specs.Refusal.{Said, gives, refuses, plain, noRoom, unknownNumber, vertexFile, mapped}
+use Rattle.basis.specs.Refusal.{Said, gives, refuses, plain, noRoom, unknownNumber, mapped}
 use Rattle.basis.specs.declared.refusal.Refusal.{Refusal}
 use Rattle.basis.specs.Area.{padZ}
-use Rattle.basis.specs.Order.{aboveBy, risingZ}
-use Rattle.basis.proofs.Tests.{and-first, and-second, and-both, and-off, no-case}
+use Rattle.basis.specs.Order.{risingZ}
+use Rattle.basis.proofs.Tests.{and-first, and-second, and-off, no-case}
 use Rattle.basis.proofs.Saids.{mapped-gives, mapped-refuses}
-use Rattle.text.specs.Word.{identOf}
-use Rattle.text.specs.File.{first, after, Passes}
-use Rattle.text.proofs.Files.{file-accepted}
+use Rattle.text.specs.File.{first}
 use Rattle.graph.specs.declared.Size.{Size}
 use Rattle.graph.specs.Arcs.{Arc, arcs}
+use Rattle.lists.proofs.Accepts.{vertices-accepted}
 use Rattle.load.specs.declared.Limits.{Limits}
 use Rattle.load.specs.declared.Loaded.{Loaded}
 use Rattle.load.specs.declared.Loaded.the-variants as L
 use Rattle.lists.specs.declared.Listed.{Listed}
 use Rattle.lists.specs.declared.Listed.the-variants.{Lines, Refused}
-use Rattle.lists.specs.Files.{vertexTest, identifiers}
+use Rattle.lists.specs.Files.{identifiers}
 use Rattle.lists.specs.Calls.{listedSays, VerticesRead, vertexOutcome, idsArea, vertexCall}
 use Rattle.load.specs.Load.{Room, roomOf, vertexRoom, arcsRead, listsRead, loaded}
 use Rattle.load.specs.Load.{Outcome, outcome, outcomeOf, loadCall, library, capped}
@@ -45,22 +43,6 @@ module _ (n ids oo io : ℕ) where
 
   pub places-all : n ≤ ids → n < oo → n < io → true ≡ vertexRoom ids oo io n
   places-all h g k = rw (le-leb n ids h, lt-ltb n oo g, lt-ltb n io k)
-
--- ---- identifiers that were accepted rise
-pub test-rises : (y z : ℤ) → vertexTest (after y) z ≡ 0 → ltZ y z ≡ true
-test-rises y z h = go (ltZ y z) refl h
-  where
-    go : (t : Bool) → ltZ y z ≡ t → _≡_ {A = ℕ} (cond t 0 4) 0 → ltZ y z ≡ true
-    go true q h = q
-    go false q h = absurd (let o : ⊥ = omega arith in o)
-
-above-after : (y : ℤ) (l : List ℤ) → Passes vertexTest (after y) l → aboveBy ltZ y l ≡ true
-above-after y [] p = refl
-above-after y (z ∷ l) p = and-both (test-rises y z (p .0)) (above-after z l (p .1))
-
-pub ids-rise : (l : List ℤ) → Passes vertexTest first l → risingZ l ≡ true
-ids-rise [] p = refl
-ids-rise (z ∷ l) p = above-after z l (p .1)
 
 -- ---- from the areas of the arcs to all five
 module _ (room : Room) (ids : List ℤ) (a : List ℤ) (h : a ≡ padZ (room .ids) ids) where
@@ -148,7 +130,7 @@ module _ (limits : Limits) (mode : ℕ) (v e : List ℕ) (ids : List ℤ) (oo ot
           fill-storing =
               record {
                 rise = subst (λ (l : List ℤ). risingZ l ≡ true) (sym lent)
-                    (ids-rise list (file-accepted identOf vertexFile (limits .vertices) vertexTest v list .0 (taken .1) .pass));
+                    (vertices-accepted (limits .vertices) v list .0 (taken .1) .rise);
                 places = let l = ltb-true n (length oo) (and-first (ltb n (length oo)) (ltb n (length io)) both-fit) in
                     omega (arith, lent-long);
                 backPlaces =

@@ -13,7 +13,7 @@ use lib.ListN.{length, getD, replicate}
 use lib.Seq.{take-at}
 use lib.Dec.{eqb, leb}
 use lib.IntN.{ℤ, pos}
-use Rattle.basis.specs.Refusal.{Said, gives, refuses, plain, noRoom, unknownNumber, vertexFile, edgeFile, onward, mapped, check}
+use Rattle.basis.specs.Refusal.{Said, gives, refuses, plain, noRoom, unknownNumber, onward, mapped, check}
 use Rattle.basis.specs.declared.refusal.Refusal.{Refusal}
 use Rattle.basis.specs.Area.{padZ}
 use Rattle.basis.specs.Order.{sameZ, risingZ}
@@ -22,37 +22,24 @@ use Rattle.basis.proofs.Tests.{and-first, and-second, and-both, eqb-swap, and-s
 use Rattle.basis.proofs.Saids.{refused-given, onward-refused, mapped-refuses}
 use Rattle.basis.proofs.Areas.{pad-length}
 use Rattle.basis.proofs.Orders.{signed-order, same-places}
-use Rattle.text.specs.Word.{identOf}
-use Rattle.text.specs.Line.{twoOf}
-use Rattle.text.specs.File.{FirstFault}
-use Rattle.text.proofs.Files.{file-refused}
 use Rattle.graph.specs.Arcs.{Arc, arcs}
 use Rattle.graph.specs.Find.{placeIn, isThere}
 use Rattle.graph.specs.Sound.{Graph, outward, inward, soundIds, soundGraph, Undirected}
 use Rattle.store.proofs.Fits.{arc-count}
 use Rattle.store.proofs.Order.{Valid}
 use Rattle.store.proofs.Meaning.{hasArc, storedGraph, stored-sound, stored-outward, stored-inward}
+use Rattle.lists.proofs.Accepts.{vertices-accepted, edges-accepted, vertices-refused, edges-refused}
+use Rattle.lists.proofs.Lookups.{length-numbered, there}
+use Rattle.lists.specs.Good.{GoodVertices, GoodEdges, hasEdge, listsArc}
 use Rattle.load.specs.declared.Limits.{Limits}
-use Rattle.lists.specs.Files.{vertexTest, identifiers, vertexNumber, edgeTest, edgesOf, numbered, allNumbered}
+use Rattle.lists.specs.Files.{identifiers, vertexNumber, edgesOf, numbered, allNumbered}
 use Rattle.load.specs.Load.{Lists, Room, isUndirected, vertexRoom, arcRoom, withRoom, arcsRead}
 use Rattle.load.specs.Load.{listsRead, sizeOf, loaded, Outcome, outcomeOf, loadCall, capped}
 use Rattle.store.specs.Spread.{arcCount}
-use Rattle.load.specs.Good.{GoodVertices, GoodEdges, GoodLoad, RefusedLoad, unknownMode}
-use Rattle.load.specs.Good.{vertexFault, noPlaces, edgeFault, noArcs, hasEdge, listsArc, graphLeft}
-use Rattle.load.proofs.Valids.{there, valid-file}
-use Rattle.load.proofs.Arranges.{length-numbered}
-use Rattle.load.proofs.Accepts.{vertices-accepted, edges-accepted, load-accepted}
-
--- ---- a refused file
--- a vertex file is refused exactly at its first fault, said of its bytes
-pub vertices-refused : (most : ℕ) (s : List ℕ) (r : Refusal)
-    → (identifiers most s ≡ refuses r) ↔ FirstFault identOf vertexFile most vertexTest s r
-vertices-refused most s r = file-refused identOf vertexFile most vertexTest s r
-
--- an edge file is refused exactly at its first fault, said of its bytes
-pub edges-refused : (undirected : Bool) (most : ℕ) (ids : List ℤ) (s : List ℕ) (r : Refusal)
-    → (edgesOf undirected most (placeIn ids) s ≡ refuses r) ↔ FirstFault (twoOf identOf identOf) edgeFile most (edgeTest undirected (placeIn ids)) s r
-edges-refused undirected most ids s r = file-refused (twoOf identOf identOf) edgeFile most (edgeTest undirected (placeIn ids)) s r
+use Rattle.load.specs.Good.{GoodLoad, RefusedLoad, unknownMode}
+use Rattle.load.specs.Good.{vertexFault, noPlaces, edgeFault, noArcs, graphLeft}
+use Rattle.load.proofs.Valids.{valid-file}
+use Rattle.load.proofs.Accepts.{load-accepted}
 
 -- ---- a refused load
 room-refused : {A : Type 0} (t : Bool) (x : A) (r : Refusal) → withRoom t x ≡ refuses r → (t ≡ false) × (r ≡ plain noRoom)
@@ -258,7 +245,7 @@ module _ (limits : Limits) (mode : ℕ) (room : Room) (vertices edges : List ℕ
       let v = ok .goodVertices .few in
       let c = arc-count undirected es in
       let d = edges-few undirected (length es) in
-      let k = length-numbered (g .ids) (ok .list) in
+      let k = length-numbered (placeIn (g .ids)) (ok .list) in
       ap soundGraph left-stored
       ∙ stored-sound undirected (length (g .ids)) es valid (padZ (room .ids) (g .ids)) (room .outOffsets) (room .outTargets) (room .inOffsets)
       (room .inSources)

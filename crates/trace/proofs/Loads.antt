@@ -11,12 +11,12 @@ use Rattle.basis.proofs.Saids.{Either, Any}
 use Rattle.graph.specs.declared.Size.{Size}
 use Rattle.graph.specs.Arcs.{arcs}
 use Rattle.graph.specs.Find.{placeIn}
+use Rattle.lists.proofs.Lookups.{length-numbered}
 use Rattle.load.specs.declared.Limits.{Limits}
 use Rattle.lists.specs.Files.{allNumbered}
 use Rattle.load.specs.Load.{Room, loaded, isUndirected, sizeOf, outcome, outcomeOf, loadCall, library}
 use Rattle.store.specs.Spread.{arcCount}
 use Rattle.load.proofs.Accepts.{load-accepted}
-use Rattle.load.proofs.Arranges.{length-numbered}
 use Rattle.load.proofs.Refused.{LoadRefusal, load-refusal}
 use Rattle.store.proofs.Fits.{arc-count}
 use Rattle.trace.specs.Code.{coded, wide, Readable}
@@ -39,7 +39,7 @@ loaded-readable room limits few mode r vertices edges =
 
 -- ---- what is given: "each edge once .. and it stores two arcs" at the most
 pub arcs-few : (undirected : Bool) (ids : List ℤ) (es : List (ℤ × ℤ)) → length (arcs undirected (allNumbered (placeIn ids) es)) ≤ length es + length es
-arcs-few undirected ids es = rw (arc-count undirected (allNumbered (placeIn ids) es), length-numbered ids es) (go undirected)
+arcs-few undirected ids es = rw (arc-count undirected (allNumbered (placeIn ids) es), length-numbered (placeIn ids) es) (go undirected)
   where
     go : (undirected : Bool) → arcCount undirected (length es) ≤ length es + length es
     go true = omega arith
