@@ -11,6 +11,7 @@ use lib.Dec.{eqb, leb}
 use lib.IntN.{ℤ}
 use borrow.Author.Tests.{eq-eqb, ne-eqb, lt-ltb, le-leb}
 use Rattle.basis.specs.Area.{pad}
+use Rattle.basis.specs.Limits.{mostVertices, mostArcs}
 use Rattle.basis.specs.Scan.{each, mem}
 use Rattle.basis.proofs.Tests.{clash, and-both, and-swap, eqb-swap}
 use Rattle.basis.proofs.Scans.{every-of, each-of, mem-index}
@@ -139,13 +140,14 @@ module _ (undirected : Bool) (n : ℕ) (es : List Arc) (valid : Valid undirected
   joins = arcs-join undirected n es (valid .fine)
 
   -- it is sound, where its identifiers are and the limits are kept
-  pub stored-sound : soundIds (storedGraph n (arcs undirected es) ids oo ot io is) ≡ true → n ≤ 65536 → length (arcs undirected es) ≤ 2097152
+  pub stored-sound : soundIds (storedGraph n (arcs undirected es) ids oo ot io is) ≡ true → n ≤ mostVertices
+      → length (arcs undirected es) ≤ mostArcs
       → soundGraph (storedGraph n (arcs undirected es) ids oo ot io is) ≡ true
   unfolding soundSides soundGraph
   stored-sound i ln lm =
       let l = arcs undirected es in
       let k = length-backward l in
-      and-both (and-both (and-both (and-both (le-leb n 65536 ln) (le-leb (length l) 2097152 lm)) i)
+      and-both (and-both (and-both (and-both (le-leb n mostVertices ln) (le-leb (length l) mostArcs lm)) i)
       (and-both (side-sound n oo ot l joins a b (ordered-out undirected n es valid))
       (rw k at (side-sound n io is (backward l) (join-backward n l joins) c (rw k d) (ordered-in undirected n es valid)))))
       (and-both (mirror-built n oo ot io is l joins a b c d)
