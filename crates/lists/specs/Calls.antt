@@ -53,7 +53,11 @@ countsArea place size (refuses r) = replicate size 0
 abbrev pub targetsArea : (ℤ → Found) → ℕ → Said (List (ℤ × ℤ)) → List ℕ
 targetsArea place size s = areaOf 0 size (λ es. take size (seconds (allNumbered place es))) s
 
+-- the answer and the areas of an edge file by the edges that it lists, or by its refusal
+abbrev pub edgeCallBy : (ℤ → Found) → ℕ → ℕ → Said (List (ℤ × ℤ)) → EdgesRead
+edgeCallBy place c t es = edgeOutcome (mapped length es) (countsArea place c es) (targetsArea place t es)
+
 -- the reading of an edge file of at most so many lines between the vertices that `place` finds, into areas of the given lengths
 abbrev pub edgeCall : Bool → ℕ → (ℤ → Found) → List ℕ → ℕ → ℕ → EdgesRead
 edgeCall undirected most place s c t =
-    edgeOutcome (mapped length (edgesOf undirected most place s)) (countsArea place c (edgesOf undirected most place s)) (targetsArea place t (edgesOf undirected most place s))
+    edgeCallBy place c t (edgesOf undirected most place s)

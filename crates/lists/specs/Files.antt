@@ -36,7 +36,8 @@ abbrev pub vertexNumber : Found → ℕ
 vertexNumber (At k) = k
 vertexNumber Missing = 0
 
--- "an edge joins a vertex to itself"; "undirected, and the first number is the larger"; "not above the one before it"; "names a vertex not in the vertex file"
+-- "an edge joins a vertex to itself"; "undirected, and the first number is the larger"; "not above the one before it"; "names a vertex not
+-- in the vertex file"
 unfoldable pub edgeTest : Bool → (ℤ → Found) → Before (ℤ × ℤ) → ℤ × ℤ → ℕ
 edgeTest undirected place before e =
     cond (sameZ (e .0) (e .1)) selfEdge

@@ -7,7 +7,7 @@ use lib.ListN.{length}
 use lib.Seq.{sets}
 use lib.Signed.{ltZ}
 use lib.Dec.{ltb}
-use Rattle.basis.specs.Refusal.{Said, gives, refuses, at, notAbove, selfEdge, largerFirst, vertexFile, edgeFile}
+use Rattle.basis.specs.Refusal.{Said, gives, refuses, at, mapped, notAbove, selfEdge, largerFirst, vertexFile, edgeFile}
 use Rattle.basis.specs.Order.{sameZ}
 use Rattle.text.specs.Line.{LineSaid, line, none, fault, vertexLine, edgeLine}
 use Rattle.text.specs.File.{good, bad, Before, first, after, faultOf}
@@ -25,7 +25,7 @@ use Rattle.lists.specs.declared.edges.Ends.the-variants as EN
 use Rattle.lists.specs.declared.edges.EdgeStep.{EdgeStep}
 use Rattle.lists.specs.declared.edges.EdgeStep.the-variants as ES
 use Rattle.lists.specs.Calls.{listedSays}
-use Rattle.lists.specs.Files.{vertexTest, isAbove, edgeTest, numbered, allNumbered}
+use Rattle.lists.specs.Files.{vertexTest, isAbove, edgeTest, edgesOf, numbered, allNumbered}
 
 -- a line more: its values, the place past it and the lines so far; or the end of the reading
 pub data LineStep (A : Type 0) : Type 0 where
@@ -98,20 +98,31 @@ withNumbers place (stop r) = stop r
 
 -- one edge line more, read at the reader's place and tested after the edge that it passed last
 unfoldable pub edgeStep : Bool → ℕ → (ℤ → Found) → List ℕ → Edges → LineStep (ℤ × ℤ)
-edgeStep undirected most place s c = stepBy edgeFile most (edgeTest undirected place) (c .lines) (beforeBy (c .lines) (pairOf c)) (edgeLine s (c .at .at))
+edgeStep undirected most place s c =
+    stepBy edgeFile most (edgeTest undirected place) (c .lines) (beforeBy (c .lines) (pairOf c)) (edgeLine s (c .at .at))
 
--- the code's answer as a step: the edge by identifiers and by numbers, the place past its line and the lines so far, or the end of the reading
+-- the same with the numbers of its vertices, which `place` finds
+abbrev pub numberedStep : Bool → ℕ → (ℤ → Found) → List ℕ → Edges → LineStep ((ℤ × ℤ) × Arc)
+numberedStep undirected most place s c = withNumbers place (edgeStep undirected most place s c)
+
+-- the code's answer as a step: the edge by identifiers and by numbers, the place past its line and the lines so far, or the end of the
+-- reading
 abbrev pub edgeStepSays : EdgeStep → LineStep ((ℤ × ℤ) × Arc)
 edgeStepSays (ES.More u v d) = more (pairOf d, (u, v)) (d .at .at) (d .lines)
 edgeStepSays (ES.Stop r) = stop (listedSays r)
 
--- what edges leave behind: their count, one more for each at its first end, and an area with their second ends at its front, as far as there is room
+-- what edges leave behind: their count, one more for each at its first end, and an area with their second ends at its front, as far as
+-- there is room
 abbrev pub edgesInto : List ℕ → List ℕ → ℕ → List Arc → ℕ × List ℕ × List ℕ
 edgesInto counts targets k es = (k + length es, bumps counts es, sets targets k (seconds es))
 
 -- the same of edges by identifiers, whose vertices `place` finds
 abbrev pub numberedInto : (ℤ → Found) → List ℕ → List ℕ → ℕ → List (ℤ × ℤ) → ℕ × List ℕ × List ℕ
 numberedInto place counts targets k es = edgesInto counts targets k (allNumbered place es)
+
+-- the same of an edge file of at most so many lines, from the first place on: its edges in the two areas, or its refusal
+abbrev pub edgesScanned : Bool → ℕ → (ℤ → Found) → List ℕ → List ℕ → List ℕ → Said (ℕ × List ℕ × List ℕ)
+edgesScanned undirected most place s counts targets = mapped (numberedInto place counts targets 0) (edgesOf undirected most place s)
 
 -- the code's answer and the two areas as they stand: the count with the areas, or the refusal alone
 abbrev pub edgesLeft : Listed → List ℕ → List ℕ → Said (ℕ × List ℕ × List ℕ)

@@ -15,7 +15,6 @@ use Rattle.basis.specs.Area.{padZ}
 use Rattle.basis.specs.Order.{risingZ}
 use Rattle.basis.proofs.Tests.{and-first, and-second, and-off, no-case}
 use Rattle.basis.proofs.Saids.{mapped-gives, mapped-refuses}
-use Rattle.text.specs.File.{first}
 use Rattle.graph.specs.declared.Size.{Size}
 use Rattle.graph.specs.Arcs.{Arc, arcs}
 use Rattle.lists.proofs.Accepts.{vertices-accepted}

@@ -16,6 +16,7 @@ use lib.IntN.{ℤ, pos}
 use Rattle.basis.specs.Refusal.{Said, gives, refuses, plain, noRoom, unknownNumber, onward, mapped, check}
 use Rattle.basis.specs.declared.refusal.Refusal.{Refusal}
 use Rattle.basis.specs.Area.{padZ}
+use Rattle.basis.specs.Limits.{mostVertices, mostEdges}
 use Rattle.basis.specs.Order.{sameZ, risingZ}
 use Rattle.basis.specs.Scan.{each, mem}
 use Rattle.basis.proofs.Tests.{and-first, and-second, and-both, eqb-swap, and-swap}
@@ -239,7 +240,7 @@ module _ (limits : Limits) (mode : ℕ) (room : Room) (vertices edges : List ℕ
   in-fits : length (arcs undirected es) ≤ room .inSources
   in-fits = rw (← ok .arcsAre) (ok .inSourcesFit)
 
-  sound-within : limits .vertices ≤ 65536 → limits .edges ≤ 1048576 → soundGraph graph ≡ true
+  sound-within : limits .vertices ≤ mostVertices → limits .edges ≤ mostEdges → soundGraph graph ≡ true
   sound-within a b =
       let e = ok .goodEdges .few in
       let v = ok .goodVertices .few in

@@ -14,10 +14,8 @@ use store::spread::spread;
 use store::sums::sum_up;
 ghost use mathlib.Core.Path.{_≡_};
 ghost use mathlib.Core.Bool.{true, false};
-ghost use lib.ListN.{length};
-ghost use Rattle.basis.specs.Refusal.{mapped};
-ghost use Rattle.load.specs.Load.{vertexRoom, roomOf, arcsRead, loaded};
-ghost use Rattle.load.specs.Steps.{edgesRead, arrangedBy, arrangedLeft, Storing, filledBy, filledLeft, outcomeBy, outcomeLeft};
+ghost use Rattle.load.specs.Load.{vertexRoom, roomIn};
+ghost use Rattle.load.specs.Steps.{Storing, arrangedCall, arrangedLeft, filledCall, filledLeft, filledLoad, outcomeLeft};
 
 // The edges of a file: stored by their first ends in one pair of areas as they are read, and their arcs the other way in the other pair.
 fn arrange(
@@ -31,7 +29,10 @@ fn arrange(
     sources: &mut [usize],
 ) -> Listed
     requires { ⌜ Storing (now ids) (now offsets) (now back) ⌝ }
-    ensures { λ r. ⌜ arrangedLeft r (now (offsets .exit)) (now (targets .exit)) (now (back .exit)) (now (sources .exit)) ≡ mapped (arrangedBy undirected (length (now (ids .entry))) (length (now (offsets .entry))) (length (now (targets .entry))) (length (now (back .entry))) (length (now (sources .entry)))) (edgesRead undirected most (now (ids .entry)) (now (s .entry)) (length (now (targets .entry))) (length (now (sources .entry)))) ⌝ }
+    ensures { λ r. ⌜
+        arrangedLeft r (now (offsets .exit)) (now (targets .exit)) (now (back .exit)) (now (sources .exit))
+        ≡ arrangedCall undirected most (now (ids .entry)) (now (s .entry))
+        (now (offsets .entry)) (now (targets .entry)) (now (back .entry)) (now (sources .entry)) ⌝ }
 {
     let n = ids.len();
     let listed = read_edges(s, most, undirected, ids, offsets, targets);
@@ -62,7 +63,10 @@ fn fill_directed(
     in_sources: &mut [usize],
 ) -> Loaded
     requires { ⌜ Storing (now ids) (now «out_offsets») (now «in_offsets») ⌝ }
-    ensures { λ r. ⌜ filledLeft r (now («out_offsets» .exit)) (now («out_targets» .exit)) (now («in_offsets» .exit)) (now («in_sources» .exit)) ≡ mapped (filledBy (length (now (ids .entry))) (length (now («out_offsets» .entry))) (length (now («out_targets» .entry))) (length (now («in_offsets» .entry))) (length (now («in_sources» .entry)))) (arcsRead false most (now (ids .entry)) (now (s .entry)) (length (now («out_targets» .entry))) (length (now («in_sources» .entry)))) ⌝ }
+    ensures { λ r. ⌜
+        filledLeft r (now («out_offsets» .exit)) (now («out_targets» .exit)) (now («in_offsets» .exit)) (now («in_sources» .exit))
+        ≡ filledCall false most (now (ids .entry)) (now (s .entry))
+        (now («out_offsets» .entry)) (now («out_targets» .entry)) (now («in_offsets» .entry)) (now («in_sources» .entry)) ⌝ }
 {
     let n = ids.len();
     let listed = arrange(
@@ -95,7 +99,10 @@ fn fill_undirected(
     in_sources: &mut [usize],
 ) -> Loaded
     requires { ⌜ Storing (now ids) (now «out_offsets») (now «in_offsets») ⌝ }
-    ensures { λ r. ⌜ filledLeft r (now («out_offsets» .exit)) (now («out_targets» .exit)) (now («in_offsets» .exit)) (now («in_sources» .exit)) ≡ mapped (filledBy (length (now (ids .entry))) (length (now («out_offsets» .entry))) (length (now («out_targets» .entry))) (length (now («in_offsets» .entry))) (length (now («in_sources» .entry)))) (arcsRead true most (now (ids .entry)) (now (s .entry)) (length (now («out_targets» .entry))) (length (now («in_sources» .entry)))) ⌝ }
+    ensures { λ r. ⌜
+        filledLeft r (now («out_offsets» .exit)) (now («out_targets» .exit)) (now («in_offsets» .exit)) (now («in_sources» .exit))
+        ≡ filledCall true most (now (ids .entry)) (now (s .entry))
+        (now («out_offsets» .entry)) (now («out_targets» .entry)) (now («in_offsets» .entry)) (now («in_sources» .entry)) ⌝ }
 {
     let n = ids.len();
     let listed = arrange(
@@ -131,7 +138,10 @@ fn store_edges(
     in_sources: &mut [usize],
 ) -> Loaded
     requires { ⌜ Storing (now ids) (now «out_offsets») (now «in_offsets») ⌝ }
-    ensures { λ r. ⌜ filledLeft r (now («out_offsets» .exit)) (now («out_targets» .exit)) (now («in_offsets» .exit)) (now («in_sources» .exit)) ≡ mapped (filledBy (length (now (ids .entry))) (length (now («out_offsets» .entry))) (length (now («out_targets» .entry))) (length (now («in_offsets» .entry))) (length (now («in_sources» .entry)))) (arcsRead undirected most (now (ids .entry)) (now (s .entry)) (length (now («out_targets» .entry))) (length (now («in_sources» .entry)))) ⌝ }
+    ensures { λ r. ⌜
+        filledLeft r (now («out_offsets» .exit)) (now («out_targets» .exit)) (now («in_offsets» .exit)) (now («in_sources» .exit))
+        ≡ filledCall undirected most (now (ids .entry)) (now (s .entry))
+        (now («out_offsets» .entry)) (now («out_targets» .entry)) (now («in_offsets» .entry)) (now («in_sources» .entry)) ⌝ }
 {
     if undirected {
         return fill_undirected(
@@ -183,7 +193,13 @@ pub(crate) fn fill(
     in_offsets: &mut [usize],
     in_sources: &mut [usize],
 ) -> Loaded
-    ensures { λ r. ⌜ outcomeLeft r (now (ids .exit)) (now («out_offsets» .exit)) (now («out_targets» .exit)) (now («in_offsets» .exit)) (now («in_sources» .exit)) ≡ mapped (outcomeBy (roomOf (length (now (ids .entry))) (length (now («out_offsets» .entry))) (length (now («out_targets» .entry))) (length (now («in_offsets» .entry))) (length (now («in_sources» .entry))))) (loaded limits mode (roomOf (length (now (ids .entry))) (length (now («out_offsets» .entry))) (length (now («out_targets» .entry))) (length (now («in_offsets» .entry))) (length (now («in_sources» .entry)))) (now (vertices .entry)) (now (edges .entry))) ⌝ }
+    ensures { λ r. ⌜
+        outcomeLeft r (now (ids .exit)) (now («out_offsets» .exit)) (now («out_targets» .exit)) (now («in_offsets» .exit))
+        (now («in_sources» .exit))
+        ≡ filledLoad limits mode
+        (roomIn (now (ids .entry)) (now («out_offsets» .entry)) (now («out_targets» .entry)) (now («in_offsets» .entry))
+        (now («in_sources» .entry)))
+        (now (vertices .entry)) (now (edges .entry)) ⌝ }
 {
     if 1 < mode {
         return Loaded::Refused(Refusal::plain(UNKNOWN_NUMBER));
