@@ -29,10 +29,10 @@ module _ (ids : List ℤ) (rise : risingZ ids ≡ true) where
     pub fine-edge : (before : Before (ℤ × ℤ)) (e : ℤ × ℤ) → Tested undirected ids before e → Fine (length ids) (numbered (placeIn ids) e)
     fine-edge before e t =
         record {
-          source = there (e .0) (t .from) .0;
-          target = there (e .1) (t .to) .0;
+          source = there ids rise (e .0) (t .from) .0;
+          target = there ids rise (e .1) (t .to) .0;
           apart = eqb-false (numbered (placeIn ids) e .0) (numbered (placeIn ids) e .1)
-              (sym (same-numbers (e .0) (e .1) (t .from) (t .to)) ∙ t .apart);
+              (sym (same-numbers ids rise (e .0) (e .1) (t .from) (t .to)) ∙ t .apart);
         }
 
   small-edge : (undirected : Bool) (before : Before (ℤ × ℤ)) (e : ℤ × ℤ) → Tested undirected ids before e → Smaller undirected (numbered (placeIn ids) e)
@@ -40,7 +40,7 @@ module _ (ids : List ℤ) (rise : risingZ ids ≡ true) where
   small-edge true before e t =
       let f = fine-edge true before e t .apart in
       let l = ltb-false (numbered (placeIn ids) e .1) (numbered (placeIn ids) e .0)
-      (sym (less-numbers (e .1) (e .0) (t .to) (t .from)) ∙ t .smaller) in
+      (sym (less-numbers ids rise (e .1) (e .0) (t .to) (t .from)) ∙ t .smaller) in
       omega arith
 
   lex-of : (d e : Arc) → (ltb (d .0) (e .0) || (eqb (d .0) (e .0) && ltb (d .1) (e .1))) ≡ true → Lex d e
@@ -58,9 +58,9 @@ module _ (ids : List ℤ) (rise : risingZ ids ≡ true) where
     lex-edge c d e s t =
         lex-of (numbered (placeIn ids) d) (numbered (placeIn ids) e)
         (rw (
-          less-numbers (d .0) (e .0) (s .from) (t .from),
-          same-numbers (d .0) (e .0) (s .from) (t .from),
-          less-numbers (d .1) (e .1) (s .to) (t .to),
+          less-numbers ids rise (d .0) (e .0) (s .from) (t .from),
+          same-numbers ids rise (d .0) (e .0) (s .from) (t .from),
+          less-numbers ids rise (d .1) (e .1) (s .to) (t .to),
         ) at (t .above))
 
     valid-edges : (before : Before (ℤ × ℤ)) (es : List (ℤ × ℤ)) → Passes (edgeTest undirected (placeIn ids)) before es
