@@ -40,7 +40,7 @@ inward g v = partOf (g .vertices) (g .inOffsets) (g .inSources) v
 abbrev pub names : Graph → List ℤ
 names g = take (g .vertices) (g .ids)
 
--- "whose areas are too short for its stated counts", and "Identifiers strictly rise": the first n
+-- "Identifiers strictly rise": the first n of an area that isn't "too short for its stated counts"
 abbrev pub firstIdsRise : ℕ → List ℤ → Bool
 firstIdsRise n ids = leb n (length ids) && risingZ (take n ids)
 
@@ -48,11 +48,11 @@ firstIdsRise n ids = leb n (length ids) && risingZ (take n ids)
 unfoldable pub soundIds : Graph → Bool
 soundIds g = firstIdsRise (g .vertices) (g .ids)
 
--- "Offsets begin at 0, never fall and end at the arc count": the first n + 1
+-- the first n + 1 offsets "never fall"
 abbrev pub neverFall : ℕ → List ℕ → Bool
 neverFall n off = every n (λ v. leb (getD off v 0) (getD off (v + 1) 0))
 
--- the same sentence whole, of n vertices and m arcs: the offset at place 0 is 0, the one at place n is m, and none falls
+-- "Offsets begin at 0, never fall and end at the arc count", of n vertices and m arcs: the offset at place 0 is 0, the one at place n is m
 unfoldable pub soundOffsets : ℕ → ℕ → List ℕ → Bool
 soundOffsets n m off = eqb (getD off 0 0) 0 && eqb (getD off n 0) m && neverFall n off
 
@@ -101,8 +101,8 @@ pub record Side (n m : ℕ) (off tgt : List ℕ) : Type 0 where
   pub grows : (v : ℕ) → v < n → getD off v 0 ≤ getD off (v + 1) 0
   pub good : (v : ℕ) → v < n → soundPart n v (partOf n off tgt v) ≡ true
 
--- a sound graph, clause by clause: the "Library limits" of vertices and "stored arcs"; a place for each identifier, and "Identifiers strictly
--- rise"; each way; "the inward arcs are exactly the outward ones reversed"
+-- a sound graph, clause by clause: the "Library limits" of vertices and "stored arcs"; a place for each identifier, and "Identifiers
+-- strictly rise"; each way; "the inward arcs are exactly the outward ones reversed"
 pub record Sound (g : Graph) : Type 0 where
   pub fewVertices : g .vertices ≤ mostVertices
   pub fewArcs : g .arcs ≤ mostArcs

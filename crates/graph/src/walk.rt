@@ -102,7 +102,8 @@ fn reversed(
     at_ends(in_offsets, n, cursors)
 }
 
-// A lent graph is sound: what `sound` answers, in linear time where the working area has a place for each vertex. The area is zero afterwards.
+// A lent graph is sound: what `sound` answers, in linear time where the working area has a place for each vertex. The area is zero
+// afterwards.
 pub fn sound_over(
     size: Size,
     ids: &[i64],

@@ -68,7 +68,8 @@ pub test-passed : (undirected : Bool) (ids : List ℤ) (before : Before (ℤ × 
     → Tested undirected ids before e
 unfolding edgeTest
 test-passed undirected ids before e h =
-    go (sameZ (e .0) (e .1)) (undirected && ltZ (e .1) (e .0)) (isAbove before e) (isThere (placeIn ids (e .0))) (isThere (placeIn ids (e .1)))
+    go (sameZ (e .0) (e .1)) (undirected && ltZ (e .1) (e .0)) (isAbove before e) (isThere (placeIn ids (e .0)))
+    (isThere (placeIn ids (e .1)))
     refl refl refl refl refl h
   where
     go : (p q r x y : Bool) → sameZ (e .0) (e .1) ≡ p → (undirected && ltZ (e .1) (e .0)) ≡ q → isAbove before e ≡ r
@@ -183,5 +184,6 @@ vertices-refused most s r = file-refused identOf vertexFile most vertexTest s r
 
 -- an edge file is refused exactly at its first fault, said of its bytes
 pub edges-refused : (undirected : Bool) (most : ℕ) (ids : List ℤ) (s : List ℕ) (r : Refusal)
-    → (edgesOf undirected most (placeIn ids) s ≡ refuses r) ↔ FirstFault (twoOf identOf identOf) edgeFile most (edgeTest undirected (placeIn ids)) s r
+    → (edgesOf undirected most (placeIn ids) s ≡ refuses r)
+    ↔ FirstFault (twoOf identOf identOf) edgeFile most (edgeTest undirected (placeIn ids)) s r
 edges-refused undirected most ids s r = file-refused (twoOf identOf identOf) edgeFile most (edgeTest undirected (placeIn ids)) s r

@@ -87,7 +87,8 @@ module _ (undirected : Bool) (most : ℕ) (place : ℤ → Found) (s : List ℕ)
     (x : Listed) (c t : List ℕ) (told : edgesLeft x c t ≡ mapped (numberedInto place a b 0) (edgesOf undirected most place s)) where
   pub edges-lines : (n : ℕ) → x ≡ Lines n → edgeOutcome (gives n) c t ≡ edgeCall undirected most place s sc st
   edges-lines n q =
-      let g = mapped-gives (numberedInto place a b 0) (edgesOf undirected most place s) (n, c, t) (ap (λ y. edgesLeft y c t) (sym q) ∙ told) in
+      let g = mapped-gives (numberedInto place a b 0) (edgesOf undirected most place s) (n, c, t)
+      (ap (λ y. edgesLeft y c t) (sym q) ∙ told) in
       let es = allNumbered place (g .0) in
       let k : n ≡ length (g .0) = ap (λ (y : ℕ × List ℕ × List ℕ). y .0) (g .2) ∙ zero-add (length es) ∙ length-numbered place (g .0) in
       let u : c ≡ bumps (replicate sc 0) es = ap (λ (y : ℕ × List ℕ × List ℕ). y .1) (g .2) ∙ ap (λ (l : List ℕ). bumps l es) ea in

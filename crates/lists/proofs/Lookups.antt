@@ -1,4 +1,5 @@
--- Identifiers that rise: a bisection finds each where it stands, so an edge file says the same by either; and the numbers of the vertices that
+-- Identifiers that rise: a bisection finds each where it stands, so an edge file says the same by either;
+-- and the numbers of the vertices that
 -- are there are ordered as their identifiers. Assumes nothing.
 use Prim.Native.Nat.{ℕ, suc, _<_}
 use mathlib.Core.Path.{_≡_, refl, ap}
@@ -35,9 +36,11 @@ module _ (ids : List ℤ) (rise : risingZ ids ≡ true) where
   unfolding edgeTest
   same-test undirected before e = rw (same-place (e .0), same-place (e .1))
 
-  pub same-edges : (undirected : Bool) (most : ℕ) (s : List ℕ) → edgesOf undirected most (bisected ids) s ≡ edgesOf undirected most (placeIn ids) s
+  pub same-edges : (undirected : Bool) (most : ℕ) (s : List ℕ)
+      → edgesOf undirected most (bisected ids) s ≡ edgesOf undirected most (placeIn ids) s
   same-edges undirected most s =
-      values-same edgeFile most (edgeTest undirected (bisected ids)) (edgeTest undirected (placeIn ids)) (same-test undirected) 0 first (linesOf edgeLine s)
+      values-same edgeFile most (edgeTest undirected (bisected ids)) (edgeTest undirected (placeIn ids)) (same-test undirected) 0 first
+      (linesOf edgeLine s)
 
   pub same-numbered : (es : List (ℤ × ℤ)) → allNumbered (bisected ids) es ≡ allNumbered (placeIn ids) es
   same-numbered [] = refl
@@ -57,9 +60,11 @@ module _ (ids : List ℤ) (rise : risingZ ids ≡ true) where
     pub less-numbers : ltZ a b ≡ ltb (vertexNumber (placeIn ids a)) (vertexNumber (placeIn ids b))
     less-numbers =
         let p = there a ha in let q = there b hb in
-        rw (p .1, q .1) at (less-places signed-order (pos 0) ids rise (vertexNumber (placeIn ids a)) (vertexNumber (placeIn ids b)) (p .0) (q .0))
+        rw (p .1, q .1) at (less-places signed-order (pos 0) ids rise (vertexNumber (placeIn ids a)) (vertexNumber (placeIn ids b)) (p .0)
+        (q .0))
 
     pub same-numbers : sameZ a b ≡ eqb (vertexNumber (placeIn ids a)) (vertexNumber (placeIn ids b))
     same-numbers =
         let p = there a ha in let q = there b hb in
-        rw (p .1, q .1) at (same-places signed-order (pos 0) ids rise (vertexNumber (placeIn ids a)) (vertexNumber (placeIn ids b)) (p .0) (q .0))
+        rw (p .1, q .1) at (same-places signed-order (pos 0) ids rise (vertexNumber (placeIn ids a)) (vertexNumber (placeIn ids b)) (p .0)
+        (q .0))

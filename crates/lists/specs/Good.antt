@@ -1,5 +1,5 @@
--- 01 "Lists": the files that are accepted, said of their bytes and of the identifiers in them, with no word on how they are read; and the arcs
--- that an edge file lists.
+-- 01 "Lists": the files that are accepted, said of their bytes and of the identifiers in them, with no word on how they are read; and the
+-- arcs that an edge file lists.
 use Prim.Native.Nat.{ℕ, _≤_}
 use mathlib.Core.Path.{_≡_}
 use mathlib.Core.Bool.{Bool, true, false, not, _&&_, _||_}
@@ -21,8 +21,8 @@ pub record GoodVertices (most : ℕ) (s : List ℕ) (ids : List ℤ) : Type 0 wh
   pub few : length ids ≤ most
   pub rise : risingZ ids ≡ true
 
--- an edge file that lists the edges over the given identifiers: at most so many, "Edge lines strictly rise by first number, then second", no
--- edge joins a vertex to itself, undirected "smaller first", each end is in the vertex file
+-- an edge file that lists the edges over the given identifiers: at most so many, "Edge lines strictly rise by first number, then second",
+-- no edge joins a vertex to itself, undirected "smaller first", each end is in the vertex file
 pub record GoodEdges (undirected : Bool) (most : ℕ) (ids : List ℤ) (s : List ℕ) (es : List (ℤ × ℤ)) : Type 0 where
   pub lines : FileSays (twoOf identOf identOf) s es
   pub few : length es ≤ most

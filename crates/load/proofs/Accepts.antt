@@ -15,8 +15,8 @@ use Rattle.graph.specs.Arcs.{Arc, arcs}
 use Rattle.graph.specs.Find.{placeIn}
 use Rattle.lists.proofs.Accepts.{vertices-accepted, edges-accepted}
 use Rattle.load.specs.declared.Limits.{Limits}
-use Rattle.lists.specs.Files.{identifiers, edgesOf, allNumbered}
-use Rattle.load.specs.Load.{Lists, Room, isUndirected, vertexRoom, arcRoom, withRoom, arcsRead, listsRead, loaded}
+use Rattle.lists.specs.Files.{identifiers, edgesOf}
+use Rattle.load.specs.Load.{Lists, Room, isUndirected, placesFor, arcRoom, withRoom, listedArcs, arcsRead, listsRead, loaded}
 use Rattle.load.specs.Good.{GoodLoad}
 
 -- ---- the load
@@ -24,24 +24,21 @@ module _ (limits : Limits) (mode : ℕ) (room : Room) (vertices edges : List ℕ
   abbrev undirected : Bool
   undirected = isUndirected mode
 
-  abbrev hasPlaces : List ℤ → Bool
-  hasPlaces ids = vertexRoom (room .ids) (room .outOffsets) (room .inOffsets) (length ids)
-
   load-good : loaded limits mode room vertices edges ≡ gives g → GoodLoad limits mode room vertices edges g
   unfolding loaded listsRead arcsRead
   load-good h =
       let m = check-passed (leb mode 1) unknownNumber (listsRead limits undirected room vertices edges) g h in
       let a = onward-passed (identifiers (limits .vertices) vertices) _ g (m .1) in
-      let b = onward-passed (withRoom (hasPlaces (a .0)) (a .0)) _ g (a .2) in
-      let r = check-passed (hasPlaces (a .0)) noRoom (gives (a .0)) (b .0) (b .1) in
+      let b = onward-passed (withRoom (placesFor room (a .0)) (a .0)) _ g (a .2) in
+      let r = check-passed (placesFor room (a .0)) noRoom (gives (a .0)) (b .0) (b .1) in
       let c = onward-passed (arcsRead undirected (limits .edges) (b .0) edges (room .outTargets) (room .inSources)) _ g (b .2) in
       let d = onward-passed (edgesOf undirected (limits .edges) (placeIn (b .0)) edges) _ (c .0) (c .1) in
-      let es = arcs undirected (allNumbered (placeIn (b .0)) (d .0)) in
+      let es = listedArcs undirected (b .0) (d .0) in
       let k = check-passed (arcRoom (room .outTargets) (room .inSources) (length es)) noRoom (gives es) (c .0) (d .2) in
       let same-ids : a .0 ≡ b .0 = given-one (r .1) in
       let same-arcs : es ≡ c .0 = given-one (k .1) in
       let q : _≡_ {A = Lists} (record { ids = b .0; arcs = c .0 }) g = (let e = c .2 in cc) in
-      let p : hasPlaces (b .0) ≡ true = subst (λ (l : List ℤ). hasPlaces l ≡ true) same-ids (r .0) in
+      let p : placesFor room (b .0) ≡ true = subst (λ (l : List ℤ). placesFor room l ≡ true) same-ids (r .0) in
       let n = length (b .0) in
       let o = and-second (leb n (room .ids)) (ltb n (room .outOffsets) && ltb n (room .inOffsets)) p in
       let t : arcRoom (room .outTargets) (room .inSources) (length (c .0))
@@ -68,10 +65,10 @@ module _ (limits : Limits) (mode : ℕ) (room : Room) (vertices edges : List ℕ
   unfolding loaded listsRead arcsRead
   good-load l =
       let n = length (g .ids) in
-      let p : hasPlaces (g .ids) ≡ true =
+      let p : placesFor room (g .ids) ≡ true =
       and-both (le-leb n (room .ids) (l .idsFit)) (and-both (lt-ltb n (room .outOffsets) (l .outOffsetsFit))
       (lt-ltb n (room .inOffsets) (l .inOffsetsFit))) in
-      let t : arcRoom (room .outTargets) (room .inSources) (length (arcs undirected (allNumbered (placeIn (g .ids)) (l .list)))) ≡ true =
+      let t : arcRoom (room .outTargets) (room .inSources) (length (listedArcs undirected (g .ids) (l .list))) ≡ true =
       rw (← l .arcsAre) (and-both (le-leb (length (g .arcs)) (room .outTargets) (l .outTargetsFit))
       (le-leb (length (g .arcs)) (room .inSources) (l .inSourcesFit))) in
       rw (

@@ -19,7 +19,7 @@ use Rattle.basis.proofs.Saids.{mapped-gives, mapped-refuses}
 use Rattle.graph.specs.Arcs.{Arc, arcs, parts, start, offsets, seconds, bumps}
 use Rattle.graph.specs.Find.{placeIn, bisected}
 use Rattle.graph.proofs.Arcs.{length-seconds}
-use Rattle.store.specs.Held.{held, Ends, inArcs, heldInOffsets, heldInSources}
+use Rattle.store.specs.Held.{held, EndsBelow, inArcs, heldInOffsets, heldInSources}
 use Rattle.store.specs.Steps.{largestNumber, sums, degrees, Below}
 use Rattle.store.specs.Spread.{arcCount, heldFit, Spread, spreadLeft, spreadCall}
 use Rattle.store.proofs.Arcs.{bumps-degrees, degrees-none, sums-degrees, start-length}
@@ -41,11 +41,11 @@ edges-fewer : (undirected : Bool) (m : ℕ) → m ≤ arcCount undirected m
 edges-fewer true m = omega arith
 edges-fewer false m = omega arith
 
-below-ends : (n : ℕ) (es : List Arc) → Ends n es → Below (n + 1) es
+below-ends : (n : ℕ) (es : List Arc) → EndsBelow n es → Below (n + 1) es
 below-ends n [] h = tt
 below-ends n (e ∷ es) h = ((let g = h .0 in omega arith), below-ends n es (h .2))
 
-each-ends : (n : ℕ) (es : List Arc) → Ends n es → each (λ (e : Arc). ltb (e .1) n) es ≡ true
+each-ends : (n : ℕ) (es : List Arc) → EndsBelow n es → each (λ (e : Arc). ltb (e .1) n) es ≡ true
 unfolding each
 each-ends n [] h = refl
 each-ends n (e ∷ es) h = and-both (lt-ltb (e .1) n (h .1)) (each-ends n es (h .2))
@@ -62,12 +62,14 @@ sums-offsets l n size h b f =
 
 -- ---- the edges of a file, read into the areas fo and ft, which hold c and t then
 module _ (undirected : Bool) (most : ℕ) (ids : List ℤ) (s : List ℕ) (fo ft to tt : List ℕ) (storing : Storing ids fo to)
-    (x : Listed) (c t : List ℕ) (told : edgeOutcome (listedSays x) c t ≡ edgeCall undirected most (bisected ids) s (length fo) (length ft)) where
+    (x : Listed) (c t : List ℕ) (told : edgeOutcome (listedSays x) c t
+    ≡ edgeCall undirected most (bisected ids) s (length fo) (length ft)) where
   abbrev n : ℕ
   n = length ids
 
   abbrev result : Said Arranged
-  result = mapped (arrangedBy undirected n (length fo) (length ft) (length to) (length tt)) (edgesRead undirected most ids s (length ft) (length tt))
+  result = mapped (arrangedBy undirected n (length fo) (length ft) (length to) (length tt))
+      (edgesRead undirected most ids s (length ft) (length tt))
 
   answered : (r : Said ℕ) → listedSays x ≡ r → r ≡ mapped length (edgesOf undirected most (placeIn ids) s)
   answered r q = sym q ∙ ap (λ (y : EdgesRead). y .answer) told ∙ ap (mapped length) (same-edges ids (storing .rise) undirected most s)
@@ -103,7 +105,7 @@ module _ (undirected : Bool) (most : ℕ) (ids : List ℤ) (s : List ℕ) (fo ft
     valid =
         valid-file ids (storing .rise) undirected most s (taken .0) (taken .1)
 
-    ends : Ends n es
+    ends : EndsBelow n es
     ends = valid-ends n es (valid .fine)
 
     arcs-long : length (arcs undirected es) ≡ arcCount undirected m
@@ -133,7 +135,8 @@ module _ (undirected : Bool) (most : ℕ) (ids : List ℤ) (s : List ℕ) (fo ft
               and-off (leb (length (arcs undirected es)) (length ft)) false refl,
             ))
 
-        module _ (fb : b ≡ false) (small : length ft ≤ largestNumber) (o : List ℕ) (eo : o ≡ sums 0 (take (n + 1) c) ++ drop (n + 1) c) where
+        module _ (fb : b ≡ false) (small : length ft ≤ largestNumber) (o : List ℕ)
+            (eo : o ≡ sums 0 (take (n + 1) c) ++ drop (n + 1) c) where
           fits-back : arcCount undirected m ≤ length tt
           fits-back = let l = ltb-false (length tt) (arcCount undirected m) (sym eb ∙ fb) in omega arith
 
@@ -173,7 +176,8 @@ module _ (undirected : Bool) (most : ℕ) (ids : List ℤ) (s : List ℕ) (fo ft
               let w = and-both (lt-ltb n (length to) (storing .backPlaces)) all-fit in
               let f : spreadLeft d p u ≡ spreadLeft true (pad (length to) (heldInOffsets undirected n o t))
               (pad (length tt) (heldInSources undirected n o t)) = e ∙ rw w in
-              let h₁ = ap (λ (y : Spread). y .offsets) f ∙ ap (λ (l : List Arc). pad (length to) (offsets (inArcs undirected l) n)) held-is in
+              let h₁ = ap (λ (y : Spread). y .offsets) f
+              ∙ ap (λ (l : List Arc). pad (length to) (offsets (inArcs undirected l) n)) held-is in
               let h₂ = ap (λ (y : Spread). y .targets) f ∙ ap (λ (l : List Arc). pad (length tt) (parts (inArcs undirected l) n)) held-is in
               rw (taken .1, l₁, l₂) (ap gives (arranged-of count offsets-are targets-are h₁ h₂))
             where

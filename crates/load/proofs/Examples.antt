@@ -35,7 +35,8 @@ unfolding vertices edges each mem column within lineBy twoOf placeFrom linesFrom
 directed = refl
 
 -- one place in each area: no room for five identifiers (8), before any edge is read
-no-places : loadCall library 0 (roomOf 1 1 1 1 1) vertices edges ≡ outcome (refuses (plain 8)) (pos 0 ∷ []) (0 ∷ []) (0 ∷ []) (0 ∷ []) (0 ∷ [])
+no-places : loadCall library 0 (roomOf 1 1 1 1 1) vertices edges
+    ≡ outcome (refuses (plain 8)) (pos 0 ∷ []) (0 ∷ []) (0 ∷ []) (0 ∷ []) (0 ∷ [])
 unfolding vertices edges each mem column within lineBy twoOf placeFrom linesFrom valuesFrom edgeTest arcsRead listsRead loaded outcomeOf
     loadCall
 no-places = refl

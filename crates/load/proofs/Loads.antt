@@ -25,9 +25,9 @@ use Rattle.lists.specs.declared.Listed.{Listed}
 use Rattle.lists.specs.declared.Listed.the-variants.{Lines, Refused}
 use Rattle.lists.specs.Files.{identifiers}
 use Rattle.lists.specs.Calls.{listedSays, VerticesRead, vertexOutcome, idsArea, vertexCall}
-use Rattle.load.specs.Load.{Room, roomOf, vertexRoom, arcsRead, listsRead, loaded}
+use Rattle.load.specs.Load.{Room, roomIn, vertexRoom, arcsRead, listsRead, loaded}
 use Rattle.load.specs.Load.{Outcome, outcome, outcomeOf, loadCall, library, capped}
-use Rattle.load.specs.Steps.{Storing, Filled, filled, filledBy, filledLeft, outcomeBy, outcomeLeft, Emptied}
+use Rattle.load.specs.Steps.{Storing, Filled, filled, filledBy, filledLeft, outcomeBy, filledLoad, outcomeLeft, Emptied}
 
 -- ---- places for identifiers and offsets
 module _ (n ids oo io : ℕ) where
@@ -46,7 +46,8 @@ module _ (n ids oo io : ℕ) where
 -- ---- from the areas of the arcs to all five
 module _ (room : Room) (ids : List ℤ) (a : List ℤ) (h : a ≡ padZ (room .ids) ids) where
   pub five-areas : (r : Loaded) (oo ot io is : List ℕ) (x : Said (List Arc))
-      → filledLeft r oo ot io is ≡ mapped (filledBy (length ids) (room .outOffsets) (room .outTargets) (room .inOffsets) (room .inSources)) x
+      → filledLeft r oo ot io is ≡ mapped (filledBy (length ids) (room .outOffsets) (room .outTargets) (room .inOffsets) (room .inSources))
+      x
       → outcomeLeft r a oo ot io is ≡ mapped (outcomeBy room) (mapped (λ l. record { ids = ids; arcs = l }) x)
   unfolding outcomeOf
   five-areas (L.Refused o) oo ot io is (gives l) e = no-case cc
@@ -66,10 +67,10 @@ module _ (room : Room) (ids : List ℤ) (a : List ℤ) (h : a ≡ padZ (room .id
 -- ---- the filling of five areas
 module _ (limits : Limits) (mode : ℕ) (v e : List ℕ) (ids : List ℤ) (oo ot io is : List ℕ) where
   abbrev room : Room
-  room = roomOf (length ids) (length oo) (length ot) (length io) (length is)
+  room = roomIn ids oo ot io is
 
   abbrev result : Said Outcome
-  result = mapped (outcomeBy room) (loaded limits mode room v e)
+  result = filledLoad limits mode room v e
 
   pub fill-mode : 1 < mode → (r : Refusal) → r ≡ plain unknownNumber → refuses r ≡ result
   unfolding loaded
@@ -157,12 +158,10 @@ capped-both limits v e p q = cc
 -- ---- the whole call: filled, and cleared where it was refused
 module _ (limits : Limits) (mode : ℕ) (v e : List ℕ) (ids : List ℤ) (oo ot io is : List ℕ) (x : Loaded) (ids₁ : List ℤ)
     (oo₁ ot₁ io₁ is₁ : List ℕ)
-    (told : outcomeLeft x ids₁ oo₁ ot₁ io₁ is₁
-    ≡ mapped (outcomeBy (roomOf (length ids) (length oo) (length ot) (length io) (length is)))
-    (loaded limits mode (roomOf (length ids) (length oo) (length ot) (length io) (length is)) v e))
+    (told : outcomeLeft x ids₁ oo₁ ot₁ io₁ is₁ ≡ filledLoad limits mode (roomIn ids oo ot io is) v e)
     (most : Limits) (cap : limits ≡ most) where
   abbrev wide : Room
-  wide = roomOf (length ids) (length oo) (length ot) (length io) (length is)
+  wide = roomIn ids oo ot io is
 
   pub load-graph : (size : Size) → x ≡ L.Graph size → outcome (gives size) ids₁ oo₁ ot₁ io₁ is₁ ≡ loadCall most mode wide v e
   unfolding loadCall
@@ -177,6 +176,7 @@ module _ (limits : Limits) (mode : ℕ) (v e : List ℕ) (ids : List ℤ) (oo ot
       → outcome (refuses r) ids₂ oo₂ ot₂ io₂ is₂ ≡ loadCall most mode wide v e
   unfolding loadCall outcomeOf
   load-refused r q li loo lot lio lis ids₂ oo₂ ot₂ io₂ is₂ f =
-      let g = mapped-refuses (outcomeBy wide) (loaded limits mode wide v e) r (ap (λ y. outcomeLeft y ids₁ oo₁ ot₁ io₁ is₁) (sym q) ∙ told) in
+      let g = mapped-refuses (outcomeBy wide) (loaded limits mode wide v e) r
+      (ap (λ y. outcomeLeft y ids₁ oo₁ ot₁ io₁ is₁) (sym q) ∙ told) in
       rw (f .emptyIds, f .emptyOutOffsets, f .emptyOutTargets, f .emptyInOffsets, f .emptyInSources, li, loo, lot, lio, lis)
       (ap (outcomeOf wide) (sym g) ∙ ap (λ l. loadCall l mode wide v e) cap)

@@ -10,12 +10,11 @@ use Rattle.basis.specs.declared.refusal.Refusal.{Refusal}
 use Rattle.basis.specs.Refusal.{Said, vertexFile, edgeFile}
 use Rattle.basis.proofs.Saids.{Either, Any, either-refused, either-cond, refused-onward}
 use Rattle.text.proofs.Files.{Met}
-use Rattle.graph.specs.Arcs.{arcs}
 use Rattle.graph.specs.Find.{placeIn}
-use Rattle.lists.specs.Files.{identifiers, edgesOf, allNumbered}
+use Rattle.lists.specs.Files.{identifiers, edgesOf}
 use Rattle.lists.proofs.Refused.{vertices-met, edges-met}
 use Rattle.load.specs.declared.Limits.{Limits}
-use Rattle.load.specs.Load.{Room, isUndirected, vertexRoom, arcRoom, withRoom, arcsRead, listsRead, loaded}
+use Rattle.load.specs.Load.{Room, isUndirected, placesFor, arcRoom, withRoom, listedArcs, arcsRead, listsRead, loaded}
 
 pub record LoadRefusal (limits : Limits) (r : Refusal) : Type 0 where
   pub some : 0 < r .number
@@ -47,12 +46,12 @@ module _ (limits : Limits) where
       either-cond Any (LoadRefusal limits) (leb mode 1) _ _
       (λ _. refused-onward (LoadRefusal limits) ids _ (of-file vertexFile (limits .vertices) (omega arith) (omega arith) ids
       (vertices-met (limits .vertices) v))
-      (λ i. refused-onward (LoadRefusal limits) (withRoom (vertexRoom (room .ids) (room .outOffsets) (room .inOffsets) (length i)) i) _
-      (of-room (vertexRoom (room .ids) (room .outOffsets) (room .inOffsets) (length i)) i)
+      (λ i. refused-onward (LoadRefusal limits) (withRoom (placesFor room i) i) _
+      (of-room (placesFor room i) i)
       (λ i. let es = edgesOf undirected (limits .edges) (placeIn i) e in
       refused-onward (LoadRefusal limits) (arcsRead undirected (limits .edges) i e (room .outTargets) (room .inSources)) _
       (refused-onward (LoadRefusal limits) es _ (of-file edgeFile (limits .edges) (omega arith) (omega arith) es
       (edges-met undirected (limits .edges) (placeIn i) e))
-      (λ es. let l = arcs undirected (allNumbered (placeIn i) es) in of-room (arcRoom (room .outTargets) (room .inSources) (length l)) l))
+      (λ es. let l = listedArcs undirected i es in of-room (arcRoom (room .outTargets) (room .inSources) (length l)) l))
       (λ l. tt))))
       (λ _. record { some = omega arith; low = omega arith; inFile = omega arith; inLines = omega arith })

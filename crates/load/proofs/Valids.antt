@@ -35,7 +35,8 @@ module _ (ids : List ℤ) (rise : risingZ ids ≡ true) where
               (sym (same-numbers ids rise (e .0) (e .1) (t .from) (t .to)) ∙ t .apart);
         }
 
-  small-edge : (undirected : Bool) (before : Before (ℤ × ℤ)) (e : ℤ × ℤ) → Tested undirected ids before e → Smaller undirected (numbered (placeIn ids) e)
+  small-edge : (undirected : Bool) (before : Before (ℤ × ℤ)) (e : ℤ × ℤ) → Tested undirected ids before e
+      → Smaller undirected (numbered (placeIn ids) e)
   small-edge false before e t = tt
   small-edge true before e t =
       let f = fine-edge true before e t .apart in

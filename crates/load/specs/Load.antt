@@ -103,7 +103,8 @@ roomIn ids oo ot io is = roomOf (length ids) (length oo) (length ot) (length io)
 abbrev pub sizeOf : Lists → Size
 sizeOf g = record { vertices = length (g .ids); arcs = length (g .arcs) }
 
--- the outcome of what two files say: a refusal fills "every area lent for writing with zero", and after success "places beyond the ones used are zero"
+-- the outcome of what two files say: a refusal fills "every area lent for writing with zero", and after success "places beyond the ones
+-- used are zero"
 unfoldable pub outcomeOf : Room → Said Lists → Outcome
 outcomeOf room g =
     outcome (mapped sizeOf g) (areaOf (pos 0) (room .ids) (λ g. g .ids) g)

@@ -1,4 +1,4 @@
-// The edges of a file in the four areas of a graph, outward and inward.
+// The graph of two files in five areas: the identifiers as they are read, then the edges, outward and inward.
 use crate::Limits;
 use crate::Loaded;
 use basis::Refusal;

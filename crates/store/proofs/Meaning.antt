@@ -154,10 +154,12 @@ module _ (undirected : Bool) (n : ℕ) (es : List Arc) (valid : Valid undirected
       (rw (backward-twice l) at (mirror-built n io is oo ot (backward l) (join-backward n l joins) c (rw k d) a (rw k b))))
 
   -- w is in u's outward part exactly where the edge file has that arc
-  pub stored-outward : (u w : ℕ) → u < n → mem w (outward (storedGraph n (arcs undirected es) ids oo ot io is) u) ≡ hasArc (arcs undirected es) u w
+  pub stored-outward : (u w : ℕ) → u < n → mem w (outward (storedGraph n (arcs undirected es) ids oo ot io is) u)
+      ≡ hasArc (arcs undirected es) u w
   stored-outward u w h = ap (mem w) (part-stored n oo ot (arcs undirected es) joins a b u h) ∙ mem-targets (arcs undirected es) u w
 
-  pub stored-inward : (u w : ℕ) → w < n → mem u (inward (storedGraph n (arcs undirected es) ids oo ot io is) w) ≡ hasArc (arcs undirected es) u w
+  pub stored-inward : (u w : ℕ) → w < n → mem u (inward (storedGraph n (arcs undirected es) ids oo ot io is) w)
+      ≡ hasArc (arcs undirected es) u w
   stored-inward u w h =
       let k = length-backward (arcs undirected es) in
       ap (mem u) (part-stored n io is (backward (arcs undirected es)) (join-backward n (arcs undirected es) joins) c (rw k d) w h)
