@@ -18,10 +18,10 @@ use Rattle.basis.proofs.Tests.{clash, and-first, and-second, held}
 use Rattle.basis.proofs.Orders.{leb-min}
 use Rattle.basis.proofs.Areas.{pad-lent}
 use Rattle.graph.specs.declared.Size.{Size}
-use Rattle.graph.specs.Sound.{Graph, lent, soundGraph}
+use Rattle.graph.specs.Sound.{Graph, lent, soundGraph, Sound}
 use Rattle.graph.specs.Walk.{checked}
 use Rattle.graph.proofs.Walks.{check-told, check-area}
-use Rattle.graph.proofs.Sounds.{Sound, sound-of}
+use Rattle.graph.proofs.Sounds.{sound-of}
 use Rattle.kernels.proofs.Ends.{ends-unsound, ends-refused, ends-short, ends-done}
 use Rattle.cdlp.specs.Rounds.{cdlpOf}
 use Rattle.cdlp.specs.Promise.{goodRounds, roomFor, Outcome, outcome, leftBy, cdlpCall}

@@ -16,8 +16,8 @@ use Rattle.basis.proofs.Tests.{no-case}
 use Rattle.basis.proofs.Scans.{below-first, below-rest}
 use Rattle.basis.proofs.Areas.{column-at, column-ext}
 use Rattle.basis.proofs.Orders.{signed-order}
-use Rattle.graph.specs.Sound.{Graph, inward, outward, names, soundGraph, Undirected}
-use Rattle.graph.proofs.Sounds.{Sound, sound-of, inward-below, outward-below, same-neighbours}
+use Rattle.graph.specs.Sound.{Graph, inward, outward, names, soundGraph, Undirected, Sound}
+use Rattle.graph.proofs.Sounds.{sound-of, inward-below, outward-below, same-neighbours}
 use Rattle.kernels.specs.Answer.{kernelSays}
 use Rattle.kernels.proofs.Results.{pad-value, pad-behind}
 use Rattle.cdlp.specs.Label.{one, times, standing, mostCommon, smallestOr, nextLabel}

@@ -15,8 +15,8 @@ use Rattle.basis.proofs.Orders.{signed-order}
 use Rattle.basis.specs.Scan.{allBelow}
 use Rattle.basis.proofs.Scans.{below-up}
 use Rattle.graph.specs.declared.Size.{Size}
-use Rattle.graph.specs.Sound.{Graph, lent, inward, outward, names}
-use Rattle.graph.proofs.Sounds.{Sound, sound-of, names-length, inward-below, outward-below, inward-few, outward-few}
+use Rattle.graph.specs.Sound.{Graph, lent, inward, outward, names, Sound}
+use Rattle.graph.proofs.Sounds.{sound-of, names-length, inward-below, outward-below, inward-few, outward-few}
 use Rattle.cdlp.specs.Rounds.{around, labelsAt, oneRound, rounds, cdlpOf}
 use Rattle.cdlp.specs.Steps.{Inside, Board, near, numbersAfter, itself, upTo, Ready, Nameable}
 use Rattle.cdlp.proofs.Lists.{labels-front}

@@ -1,5 +1,7 @@
--- Laws of parts, of the bisection and of sound graphs, then the laws behind the soundness check, by search and by a walk,
+-- Laws of edges and counts, of parts, of the bisection and of sound graphs, then the laws behind the soundness check,
+-- by search and by a walk,
 -- and graphs computed.
+pub mod Arcs
 pub mod Parts
 pub mod Finds
 pub mod Sounds

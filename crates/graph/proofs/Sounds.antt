@@ -1,4 +1,5 @@
--- What a sound graph is, clause by clause: the readable meaning of `soundGraph`. Assumes nothing.
+-- A graph is sound, as the test `soundGraph` says it, exactly where it has the parts of `Sound`; and what they say of its vertices.
+-- Assumes nothing.
 use Prim.Native.Nat.{ℕ, zero, suc, _+_, _-_, _≤_, _<_}
 use mathlib.Core.Path.{_≡_, refl, sym, _∙_}
 use mathlib.Core.Logic.{_↔_}
@@ -11,6 +12,7 @@ use lib.IntN.{ℤ}
 use lib.ListN.{length, getD, take, drop, length-take}
 use lib.Dec.{eqb, leb, ltb}
 use borrow.Author.Tests.{ltb-true, leb-true, eqb-true, eqb-false, not-true, lt-ltb, le-leb, eq-eqb}
+use Rattle.basis.specs.Limits.{mostVertices, mostArcs}
 use Rattle.basis.specs.Order.{rising, risingZ}
 use Rattle.basis.specs.Scan.{every, each, allBelow, mem}
 use Rattle.basis.proofs.Tests.{and-first, and-second, and-both, same-test}
@@ -19,20 +21,12 @@ use Rattle.basis.proofs.Sets.{rising-starts, starts-same}
 use Rattle.basis.proofs.Orders.{rising-lt}
 use Rattle.graph.specs.Part.{partOf}
 use Rattle.graph.specs.Sound.{Graph, outward, inward, names, soundIds, soundOffsets, other}
-use Rattle.graph.specs.Sound.{soundPart, soundSide, mirrored, soundSides, soundGraph, Undirected}
+use Rattle.graph.specs.Sound.{soundPart, soundSide, mirrored, soundSides, soundGraph, Side, Sound, Undirected}
 use Rattle.graph.specs.Find.{placeIn, bisected}
 use Rattle.graph.proofs.Parts.{part-whole}
 use Rattle.graph.proofs.Finds.{find-rising}
 
 -- ---- one way of a sound graph
-pub record Side (n m : ℕ) (off tgt : List ℕ) : Type 0 where
-  pub offsetsRoom : n < length off
-  pub targetsRoom : m ≤ length tgt
-  pub begins : getD off 0 0 ≡ 0
-  pub ends : getD off n 0 ≡ m
-  pub grows : (v : ℕ) → v < n → getD off v 0 ≤ getD off (v + 1) 0
-  pub good : (v : ℕ) → v < n → soundPart n v (partOf n off tgt v) ≡ true
-
 pub side-of : (n m : ℕ) (off tgt : List ℕ) → soundSide n m off tgt ≡ true → Side n m off tgt
 unfolding soundSide soundOffsets
 side-of n m off tgt h =
@@ -68,20 +62,10 @@ others-below : (n v : ℕ) (l : List ℕ) → each (other n v) l ≡ true → al
 others-below n v l h = below-of n l (λ i g. other-below n v (getD l i 0) (each-at (other n v) 0 l h i g))
 
 -- ---- the whole graph
-pub record Sound (g : Graph) : Type 0 where
-  pub fewVertices : g .vertices ≤ 65536
-  pub fewArcs : g .arcs ≤ 2097152
-  pub idsRoom : g .vertices ≤ length (g .ids)
-  pub idsRise : risingZ (names g) ≡ true
-  pub outwardSide : Side (g .vertices) (g .arcs) (g .outOffsets) (g .outTargets)
-  pub inwardSide : Side (g .vertices) (g .arcs) (g .inOffsets) (g .inSources)
-  pub back : mirrored (g .vertices) (outward g) (inward g) ≡ true
-  pub forth : mirrored (g .vertices) (inward g) (outward g) ≡ true
-
 pub sound-of : (g : Graph) → soundGraph g ≡ true → Sound g
 unfolding soundSides soundGraph soundIds
 sound-of g h =
-    let a = leb (g .vertices) 65536 in let b = leb (g .arcs) 2097152 in
+    let a = leb (g .vertices) mostVertices in let b = leb (g .arcs) mostArcs in
     let i = leb (g .vertices) (length (g .ids)) in let j = risingZ (names g) in
     let c = soundSide (g .vertices) (g .arcs) (g .outOffsets) (g .outTargets) in
     let d = soundSide (g .vertices) (g .arcs) (g .inOffsets) (g .inSources) in
@@ -93,8 +77,8 @@ sound-of g h =
     let t = and-first (a && b) (i && j) r in
     let u = and-second (a && b) (i && j) r in
     record {
-      fewVertices = leb-true (g .vertices) 65536 (and-first a b t);
-      fewArcs = leb-true (g .arcs) 2097152 (and-second a b t);
+      fewVertices = leb-true (g .vertices) mostVertices (and-first a b t);
+      fewArcs = leb-true (g .arcs) mostArcs (and-second a b t);
       idsRoom = leb-true (g .vertices) (length (g .ids)) (and-first i j u);
       idsRise = and-second i j u;
       outwardSide = side-of (g .vertices) (g .arcs) (g .outOffsets) (g .outTargets) (and-first c d s);
@@ -173,7 +157,7 @@ unfolding soundSides soundGraph soundIds
 sound-from {g} s =
     and-both
     (and-both
-    (and-both (and-both (le-leb (g .vertices) 65536 (s .fewVertices)) (le-leb (g .arcs) 2097152 (s .fewArcs)))
+    (and-both (and-both (le-leb (g .vertices) mostVertices (s .fewVertices)) (le-leb (g .arcs) mostArcs (s .fewArcs)))
     (and-both (le-leb (g .vertices) (length (g .ids)) (s .idsRoom)) (s .idsRise)))
     (and-both (side-from (s .outwardSide)) (side-from (s .inwardSide))))
     (and-both (s .back) (s .forth))

@@ -12,6 +12,7 @@ use lib.Seq.{getD-take, drop-cons}
 use lib.Dec.{leb, ltb}
 use lib.Signed.{ltZ}
 use borrow.Author.Tests.{lt-ltb, le-ltb, le-leb, lt-leb, eq-eqb, ne-eqb, leb-true, ltb-true}
+use Rattle.basis.specs.Limits.{mostVertices, mostArcs}
 use Rattle.basis.specs.Order.{aboveBy, rising}
 use Rattle.basis.specs.Scan.{every, each, mem}
 use Rattle.basis.proofs.Tests.{same-test, and-first, and-second, and-off}
@@ -22,7 +23,7 @@ use Rattle.graph.specs.declared.find.Found.{Found}
 use Rattle.graph.specs.declared.find.Found.the-variants.{At, Missing}
 use Rattle.graph.specs.Part.{partOf}
 use Rattle.graph.specs.Find.{bisectBy, isThere}
-use Rattle.graph.specs.Sound.{Graph, outward, inward, lent, idsRise, soundIds, other, neverFall, soundOffsets}
+use Rattle.graph.specs.Sound.{Graph, outward, inward, lent, firstIdsRise, soundIds, other, neverFall, soundOffsets}
 use Rattle.graph.specs.Sound.{soundPart, soundParts, soundSide, mirrored, bothWays, soundSides, soundGraph}
 use Rattle.graph.specs.Steps.{bisectFinds, answered}
 use Rattle.graph.specs.Walk.{Ways}
@@ -37,7 +38,7 @@ module _ {A : Type 0} (less : A → A → Bool) (z : A) (l : List A) where
 
 -- ---- identifiers
 module _ (n : ℕ) (ids : List ℤ) where
-  pub ids-short : length ids < n → false ≡ idsRise n ids
+  pub ids-short : length ids < n → false ≡ firstIdsRise n ids
   ids-short h = rw (lt-leb n (length ids) h)
 
   module _ (l : n ≤ length ids) where
@@ -45,7 +46,7 @@ module _ (n : ℕ) (ids : List ℤ) where
     ids-at : (i : ℕ) → i < n → getD (take n ids) i (pos 0) ≡ getD ids i (pos 0)
     ids-at i h = getD-take n ids i (pos 0) h
 
-    pub ids-end : (i : ℕ) → n ≤ i + 1 → every i (ascends ltZ (pos 0) ids) ≡ true → true ≡ idsRise n ids
+    pub ids-end : (i : ℕ) → n ≤ i + 1 → every i (ascends ltZ (pos 0) ids) ≡ true → true ≡ firstIdsRise n ids
     ids-end i h a =
         rw (le-leb n (length ids) l)
         (sym (risingBy-of ltZ (pos 0) (take n ids)
@@ -53,7 +54,7 @@ module _ (n : ℕ) (ids : List ℤ) where
         rw (ids-at k (omega arith), ids-at (suc k) (omega arith), ← add-one k) (every-at (ascends ltZ (pos 0) ids) i k (omega arith) a))))
 
     pub ids-stop : (i : ℕ) (x y : ℤ) → i + 1 < n → x ≡ getD ids i (pos 0) → y ≡ getD ids (i + 1) (pos 0) → ltZ x y ≡ false
-        → false ≡ idsRise n ids
+        → false ≡ firstIdsRise n ids
     ids-stop i x y h p q t =
         rw (le-leb n (length ids) l)
         (sym (risingBy-fail ltZ (pos 0) (take n ids) i (let e = length-take n ids in omega arith)
@@ -232,29 +233,29 @@ unfolding soundGraph
 graph-is g = refl
 
 module _ (size : Size) (ids : List ℤ) (oo ot io is : List ℕ) where
-  pub sides-vertices : 65536 < size .vertices → false ≡ soundSides (lent size ids oo ot io is)
+  pub sides-vertices : mostVertices < size .vertices → false ≡ soundSides (lent size ids oo ot io is)
   unfolding soundSides
-  sides-vertices h = rw (lt-leb (size .vertices) 65536 h)
+  sides-vertices h = rw (lt-leb (size .vertices) mostVertices h)
 
-  module _ (a : size .vertices ≤ 65536) where
-    pub sides-arcs : 2097152 < size .arcs → false ≡ soundSides (lent size ids oo ot io is)
+  module _ (a : size .vertices ≤ mostVertices) where
+    pub sides-arcs : mostArcs < size .arcs → false ≡ soundSides (lent size ids oo ot io is)
     unfolding soundSides
-    sides-arcs h = rw (le-leb (size .vertices) 65536 a, lt-leb (size .arcs) 2097152 h)
+    sides-arcs h = rw (le-leb (size .vertices) mostVertices a, lt-leb (size .arcs) mostArcs h)
 
-    module _ (b : size .arcs ≤ 2097152) where
-      pub sides-ids : idsRise (size .vertices) ids ≡ false → false ≡ soundSides (lent size ids oo ot io is)
+    module _ (b : size .arcs ≤ mostArcs) where
+      pub sides-ids : firstIdsRise (size .vertices) ids ≡ false → false ≡ soundSides (lent size ids oo ot io is)
       unfolding soundSides soundIds
-      sides-ids h = rw (le-leb (size .vertices) 65536 a, le-leb (size .arcs) 2097152 b, h)
+      sides-ids h = rw (le-leb (size .vertices) mostVertices a, le-leb (size .arcs) mostArcs b, h)
 
-      module _ (i : idsRise (size .vertices) ids ≡ true) where
+      module _ (i : firstIdsRise (size .vertices) ids ≡ true) where
         pub sides-out : soundSide (size .vertices) (size .arcs) oo ot ≡ false → false ≡ soundSides (lent size ids oo ot io is)
         unfolding soundSides soundIds
-        sides-out h = rw (le-leb (size .vertices) 65536 a, le-leb (size .arcs) 2097152 b, i, h)
+        sides-out h = rw (le-leb (size .vertices) mostVertices a, le-leb (size .arcs) mostArcs b, i, h)
 
         pub sides-in : soundSide (size .vertices) (size .arcs) oo ot ≡ true → (t : Bool) → t ≡ soundSide (size .vertices) (size .arcs) io is
             → t ≡ soundSides (lent size ids oo ot io is)
         unfolding soundSides soundIds
-        sides-in h t e = rw (le-leb (size .vertices) 65536 a, le-leb (size .arcs) 2097152 b, i, h) e
+        sides-in h t e = rw (le-leb (size .vertices) mostVertices a, le-leb (size .arcs) mostArcs b, i, h) e
 
   pub graph-sides : soundSides (lent size ids oo ot io is) ≡ false → false ≡ soundGraph (lent size ids oo ot io is)
   graph-sides h = rw (graph-is (lent size ids oo ot io is), h)
@@ -271,7 +272,7 @@ module _ (size : Size) (ids : List ℤ) (oo ot io is : List ℕ) where
 
     sides-ways : (soundSide (size .vertices) (size .arcs) oo ot && soundSide (size .vertices) (size .arcs) io is) ≡ true
     sides-ways =
-        and-second ((leb (size .vertices) 65536 && leb (size .arcs) 2097152) && soundIds (lent size ids oo ot io is))
+        and-second ((leb (size .vertices) mostVertices && leb (size .arcs) mostArcs) && soundIds (lent size ids oo ot io is))
         (soundSide (size .vertices) (size .arcs) oo ot && soundSide (size .vertices) (size .arcs) io is) (unfold soundSides in s)
 
     pub sides-outward : soundParts (size .vertices) oo ot ≡ true

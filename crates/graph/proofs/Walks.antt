@@ -22,9 +22,9 @@ use Rattle.basis.proofs.Scans.{mem-none, mem-head, mem-append, each-at, below-a
 use Rattle.basis.proofs.Orders.{rising-lt, risingBy-of}
 use Rattle.basis.proofs.Areas.{copied-length, copied-at}
 use Rattle.graph.specs.Part.{partOf}
-use Rattle.graph.specs.Sound.{soundPart, other, soundParts, mirrored, bothWays}
+use Rattle.graph.specs.Sound.{soundPart, other, soundParts, mirrored, bothWays, Side}
 use Rattle.graph.specs.Walk.{Ways, Checked, checked, isNext, stepped, walked, atEnds}
-use Rattle.graph.proofs.Sounds.{Side, side-of, offset-most, part-slice, part-rises}
+use Rattle.graph.proofs.Sounds.{side-of, offset-most, part-slice, part-rises}
 use Rattle.graph.proofs.Sounds.{part-others, other-below, mirrored-at, mirrored-of}
 
 or-none : (t : Bool) → (t || false) ≡ t

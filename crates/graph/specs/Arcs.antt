@@ -1,8 +1,8 @@
 -- 01 "Lists" and "The loaded graph": the arcs of an edge list, and the lists that store them.
-use Prim.Native.Nat.{ℕ, zero, suc}
+use Prim.Native.Nat.{ℕ, zero, suc, _+_}
 use mathlib.Core.Bool.{Bool, true, false, cond}
 use mathlib.Core.List.{List, [], _∷_, _++_}
-use lib.ListN.{length}
+use lib.ListN.{length, getD, set}
 use lib.Dec.{eqb}
 use Rattle.basis.specs.Area.{column}
 
@@ -42,3 +42,17 @@ start l v = length (parts l v)
 -- "Offsets begin at 0, never fall and end at the arc count": the n + 1 offsets
 abbrev pub offsets : List Arc → ℕ → List ℕ
 offsets l n = column (start l) 0 (suc n)
+
+-- the second ends of edges: where edges rise, their outward targets in order
+abbrev pub seconds : List Arc → List ℕ
+seconds [] = []
+seconds (e ∷ l) = e .1 ∷ seconds l
+
+-- one more at place k of an area of counts
+abbrev pub bump : List ℕ → ℕ → List ℕ
+bump counts k = set counts k (getD counts k 0 + 1)
+
+-- one more for each arc, at the place of its first end
+abbrev pub bumps : List ℕ → List Arc → List ℕ
+bumps counts [] = counts
+bumps counts (a ∷ l) = bumps (bump counts (a .0)) l

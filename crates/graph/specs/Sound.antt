@@ -1,5 +1,6 @@
--- 01 "The loaded graph": what a lent graph is, and when it is sound, as a test that computes.
-use Prim.Native.Nat.{ℕ, _+_, _<_}
+-- 01 "The loaded graph": what a lent graph is, and when it is sound: as a test that computes, and clause by clause (laws `sound-of` and
+-- `sound-from`).
+use Prim.Native.Nat.{ℕ, _+_, _≤_, _<_}
 use mathlib.Core.Path.{_≡_}
 use mathlib.Core.Bool.{Bool, true, not, _&&_}
 use mathlib.Core.List.{List}
@@ -39,19 +40,19 @@ inward g v = partOf (g .vertices) (g .inOffsets) (g .inSources) v
 abbrev pub names : Graph → List ℤ
 names g = take (g .vertices) (g .ids)
 
--- "whose areas are too short for its stated counts", and "Identifiers strictly rise": the first n
-abbrev pub idsRise : ℕ → List ℤ → Bool
-idsRise n ids = leb n (length ids) && risingZ (take n ids)
+-- "Identifiers strictly rise": the first n of an area that isn't "too short for its stated counts"
+abbrev pub firstIdsRise : ℕ → List ℤ → Bool
+firstIdsRise n ids = leb n (length ids) && risingZ (take n ids)
 
 -- the same of a lent graph's identifiers
 unfoldable pub soundIds : Graph → Bool
-soundIds g = idsRise (g .vertices) (g .ids)
+soundIds g = firstIdsRise (g .vertices) (g .ids)
 
--- "Offsets begin at 0, never fall and end at the arc count": the first n + 1
+-- the first n + 1 offsets "never fall"
 abbrev pub neverFall : ℕ → List ℕ → Bool
 neverFall n off = every n (λ v. leb (getD off v 0) (getD off (v + 1) 0))
 
--- the same sentence whole, of n vertices and m arcs: the offset at place 0 is 0, the one at place n is m, and none falls
+-- "Offsets begin at 0, never fall and end at the arc count", of n vertices and m arcs: the offset at place 0 is 0, the one at place n is m
 unfoldable pub soundOffsets : ℕ → ℕ → List ℕ → Bool
 soundOffsets n m off = eqb (getD off 0 0) 0 && eqb (getD off n 0) m && neverFall n off
 
@@ -83,11 +84,34 @@ bothWays n out into = mirrored n out into && mirrored n into out
 unfoldable pub soundSides : Graph → Bool
 soundSides g =
     (leb (g .vertices) mostVertices && leb (g .arcs) mostArcs) && soundIds g
-    && (soundSide (g .vertices) (g .arcs) (g .outOffsets) (g .outTargets) && soundSide (g .vertices) (g .arcs) (g .inOffsets) (g .inSources))
+    && (soundSide (g .vertices) (g .arcs) (g .outOffsets) (g .outTargets)
+    && soundSide (g .vertices) (g .arcs) (g .inOffsets) (g .inSources))
 
 -- "A graph that breaks any of this, or a limit, or whose areas are too short for its stated counts, is unsound (9)"
 unfoldable pub soundGraph : Graph → Bool
 soundGraph g = soundSides g && bothWays (g .vertices) (outward g) (inward g)
+
+-- one way of a sound graph of n vertices and m arcs, clause by clause: no area is "too short for its stated counts"; "Offsets begin at 0,
+-- never fall and end at the arc count"; "Each vertex's part strictly rises, names only other vertices below n"
+pub record Side (n m : ℕ) (off tgt : List ℕ) : Type 0 where
+  pub offsetsRoom : n < length off
+  pub targetsRoom : m ≤ length tgt
+  pub begins : getD off 0 0 ≡ 0
+  pub ends : getD off n 0 ≡ m
+  pub grows : (v : ℕ) → v < n → getD off v 0 ≤ getD off (v + 1) 0
+  pub good : (v : ℕ) → v < n → soundPart n v (partOf n off tgt v) ≡ true
+
+-- a sound graph, clause by clause: the "Library limits" of vertices and "stored arcs"; a place for each identifier, and "Identifiers
+-- strictly rise"; each way; "the inward arcs are exactly the outward ones reversed"
+pub record Sound (g : Graph) : Type 0 where
+  pub fewVertices : g .vertices ≤ mostVertices
+  pub fewArcs : g .arcs ≤ mostArcs
+  pub idsRoom : g .vertices ≤ length (g .ids)
+  pub idsRise : risingZ (names g) ≡ true
+  pub outwardSide : Side (g .vertices) (g .arcs) (g .outOffsets) (g .outTargets)
+  pub inwardSide : Side (g .vertices) (g .arcs) (g .inOffsets) (g .inSources)
+  pub back : mirrored (g .vertices) (outward g) (inward g) ≡ true
+  pub forth : mirrored (g .vertices) (inward g) (outward g) ≡ true
 
 -- 000, 2.3: "For undirected graphs, each edge is bidirectional": an arc leads back wherever one leads out
 abbrev pub Undirected : Graph → Type 0

@@ -1,5 +1,5 @@
--- One walk over the outward arcs, with a cursor for each vertex, the place in the sources area that its next inward arc takes: what the steps of the quick
--- soundness check say.
+-- One walk over the outward arcs, with a cursor for each vertex, the place in the sources area that its next inward arc takes: what the
+-- steps of the quick soundness check say.
 use Prim.Native.Nat.{ℕ, zero, suc, _+_}
 use mathlib.Core.Path.{_≡_}
 use mathlib.Core.Bool.{Bool, true, false, _&&_}

@@ -4,7 +4,8 @@ ghost use mathlib.Core.Bool.{true};
 ghost use Prim.Native.Nat.{_<_};
 ghost use lib.ListN.{length};
 ghost use Rattle.graph.specs.Part.{partOf};
-ghost use Rattle.graph.specs.Sound.{lent, idsRise, neverFall, soundOffsets, soundPart, soundParts, soundSide, mirrored, soundSides, soundGraph};
+ghost use Rattle.graph.specs.Sound.{lent, firstIdsRise, neverFall, soundOffsets, soundPart, soundParts};
+ghost use Rattle.graph.specs.Sound.{soundSide, mirrored, soundSides, soundGraph};
 ghost use Rattle.graph.specs.Steps.{bisectFinds, answered};
 use crate::Size;
 use crate::part::part;
@@ -13,7 +14,7 @@ use basis::limits::MOST_VERTICES;
 
 // The first n identifiers are there and rise.
 fn ids_rise(ids: &[i64], n: usize) -> bool
-    ensures { λ r. ⌜ r ≡ idsRise n (now (ids .entry)) ⌝ }
+    ensures { λ r. ⌜ r ≡ firstIdsRise n (now (ids .entry)) ⌝ }
 {
     if ids.len() < n {
         return false;
@@ -169,7 +170,9 @@ fn side_answered(
     n: usize,
 ) -> bool
     requires { ⌜ soundParts n (now «back_offsets») (now back) ≡ true ⌝ }
-    ensures { λ r. ⌜ r ≡ mirrored n (partOf n (now («from_offsets» .entry)) (now (from .entry))) (partOf n (now («back_offsets» .entry)) (now (back .entry))) ⌝ }
+    ensures { λ r. ⌜
+        r ≡ mirrored n (partOf n (now («from_offsets» .entry)) (now (from .entry)))
+        (partOf n (now («back_offsets» .entry)) (now (back .entry))) ⌝ }
 {
     let mut u = 0;
     while u < n {
@@ -190,7 +193,10 @@ pub(crate) fn sides_sound(
     in_offsets: &[usize],
     in_sources: &[usize],
 ) -> bool
-    ensures { λ r. ⌜ r ≡ soundSides (lent size (now (ids .entry)) (now («out_offsets» .entry)) (now («out_targets» .entry)) (now («in_offsets» .entry)) (now («in_sources» .entry))) ⌝ }
+    ensures { λ r. ⌜
+        r ≡ soundSides
+        (lent size (now (ids .entry)) (now («out_offsets» .entry)) (now («out_targets» .entry))
+        (now («in_offsets» .entry)) (now («in_sources» .entry))) ⌝ }
 {
     let n = size.vertices;
     let m = size.arcs;
@@ -218,7 +224,10 @@ pub fn sound(
     in_offsets: &[usize],
     in_sources: &[usize],
 ) -> bool
-    ensures { λ r. ⌜ r ≡ soundGraph (lent size (now (ids .entry)) (now («out_offsets» .entry)) (now («out_targets» .entry)) (now («in_offsets» .entry)) (now («in_sources» .entry))) ⌝ }
+    ensures { λ r. ⌜
+        r ≡ soundGraph
+        (lent size (now (ids .entry)) (now («out_offsets» .entry)) (now («out_targets» .entry))
+        (now («in_offsets» .entry)) (now («in_sources» .entry))) ⌝ }
 {
     let n = size.vertices;
     if !sides_sound(size, ids, out_offsets, out_targets, in_offsets, in_sources) {

@@ -15,10 +15,13 @@ use crate::sound::sound;
 use basis::area::clear;
 use basis::area::copy;
 
-// The arcs from u, in order: u stands at the target's cursor, which moves on. That a cursor passes its part's end shows at the end of the walk.
+// The arcs from u, in order: u stands at the target's cursor, which moves on. That a cursor passes its part's end shows at the end of the
+// walk.
 fn arcs_walked(targets: &[usize], in_sources: &[usize], u: usize, cursors: &mut [usize]) -> bool
     requires { ⌜ allBelow (length (now cursors)) (now targets) ≡ true ⌝ }
-    ensures { λ r. ⌜ checked r (now (cursors .exit)) ≡ stepped (now («in_sources» .entry)) u (now (targets .entry)) (now (cursors .entry)) ⌝ }
+    ensures { λ r. ⌜
+        checked r (now (cursors .exit))
+        ≡ stepped (now («in_sources» .entry)) u (now (targets .entry)) (now (cursors .entry)) ⌝ }
 {
     let mut i = 0;
     while i < targets.len() {
@@ -45,7 +48,10 @@ fn all_walked(
     cursors: &mut [usize],
 ) -> bool
     requires { ⌜ (soundParts n (now «out_offsets») (now «out_targets») ≡ true) × (n ≤ length (now cursors)) ⌝ }
-    ensures { λ r. ⌜ checked r (now (cursors .exit)) ≡ walked (now («in_sources» .entry)) (partOf n (now («out_offsets» .entry)) (now («out_targets» .entry))) n (now (cursors .entry)) ⌝ }
+    ensures { λ r. ⌜
+        checked r (now (cursors .exit))
+        ≡ walked (now («in_sources» .entry)) (partOf n (now («out_offsets» .entry)) (now («out_targets» .entry))) n
+        (now (cursors .entry)) ⌝ }
 {
     let mut u = 0;
     while u < n {
@@ -85,7 +91,9 @@ fn reversed(
 ) -> bool
     requires { ⌜ Ways n (partOf n (now «out_offsets») (now «out_targets»)) (now «in_offsets») (now «in_sources») ⌝ }
     requires { ⌜ n ≤ length (now cursors) ⌝ }
-    ensures { λ r. ⌜ r ≡ bothWays n (partOf n (now («out_offsets» .entry)) (now («out_targets» .entry))) (partOf n (now («in_offsets» .entry)) (now («in_sources» .entry))) ⌝ }
+    ensures { λ r. ⌜
+        r ≡ bothWays n (partOf n (now («out_offsets» .entry)) (now («out_targets» .entry)))
+        (partOf n (now («in_offsets» .entry)) (now («in_sources» .entry))) ⌝ }
 {
     copy(in_offsets, n, cursors);
     if !all_walked(out_targets, out_offsets, in_sources, n, cursors) {
@@ -94,7 +102,8 @@ fn reversed(
     at_ends(in_offsets, n, cursors)
 }
 
-// A lent graph is sound: what `sound` answers, in linear time where the working area has a place for each vertex. The area is zero afterwards.
+// A lent graph is sound: what `sound` answers, in linear time where the working area has a place for each vertex. The area is zero
+// afterwards.
 pub fn sound_over(
     size: Size,
     ids: &[i64],
@@ -104,7 +113,13 @@ pub fn sound_over(
     in_sources: &[usize],
     cursors: &mut [usize],
 ) -> bool
-    ensures { λ r. ⌜ checked r (now (cursors .exit)) ≡ checked (soundGraph (lent size (now (ids .entry)) (now («out_offsets» .entry)) (now («out_targets» .entry)) (now («in_offsets» .entry)) (now («in_sources» .entry)))) (cleared (now (cursors .entry))) ⌝ }
+    ensures { λ r. ⌜
+        checked r (now (cursors .exit))
+        ≡ checked
+        (soundGraph
+        (lent size (now (ids .entry)) (now («out_offsets» .entry)) (now («out_targets» .entry))
+        (now («in_offsets» .entry)) (now («in_sources» .entry))))
+        (cleared (now (cursors .entry))) ⌝ }
 {
     let n = size.vertices;
     if cursors.len() < n {

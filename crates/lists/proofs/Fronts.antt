@@ -15,13 +15,13 @@ use Rattle.basis.specs.Area.{pad, padZ, padWith}
 use Rattle.basis.proofs.Areas.{pad-lent}
 use Rattle.basis.proofs.Saids.{mapped-gives, mapped-refuses}
 use Rattle.graph.specs.declared.find.Found.{Found}
-use Rattle.store.specs.Held.{seconds}
-use Rattle.store.specs.Steps.{bumps}
+use Rattle.graph.specs.Arcs.{seconds, bumps}
 use Rattle.lists.specs.declared.Listed.{Listed}
 use Rattle.lists.specs.declared.Listed.the-variants.{Lines, Refused}
 use Rattle.lists.specs.Files.{identifiers, edgesOf, allNumbered}
 use Rattle.lists.specs.Calls.{vertexOutcome, vertexCall, edgeOutcome, edgeCall}
 use Rattle.lists.specs.Steps.{idsInto, idsLeft, numberedInto, edgesLeft}
+use Rattle.lists.proofs.Lookups.{length-numbered}
 
 -- ---- values written to an area of one value throughout
 module _ {A : Type 0} (z : A) where
@@ -76,9 +76,9 @@ module _ (most : ℕ) (s : List ℕ) (size : ℕ) (a : List ℤ) (e : a ≡ repl
       ∙ put-front (pos 0) size (g .0) in
       rw (g .1) (ap₂ (λ (k : ℕ) (l : List ℤ). vertexOutcome (gives k) l) c d)
 
-  pub vertices-refused : (r : Refusal) → x ≡ Refused r → length b ≡ length a → (c : List ℤ) → c ≡ replicate (length b) (pos 0)
+  pub vertices-zero : (r : Refusal) → x ≡ Refused r → length b ≡ length a → (c : List ℤ) → c ≡ replicate (length b) (pos 0)
       → vertexOutcome (refuses r) c ≡ vertexCall most s size
-  vertices-refused r q k c f =
+  vertices-zero r q k c f =
       rw (mapped-refuses (idsInto a 0) (identifiers most s) r (ap (λ y. idsLeft y b) (sym q) ∙ told))
       (ap (vertexOutcome (refuses r)) (f ∙ again (pos 0) size a b e k))
 
@@ -87,7 +87,8 @@ module _ (undirected : Bool) (most : ℕ) (place : ℤ → Found) (s : List ℕ)
     (x : Listed) (c t : List ℕ) (told : edgesLeft x c t ≡ mapped (numberedInto place a b 0) (edgesOf undirected most place s)) where
   pub edges-lines : (n : ℕ) → x ≡ Lines n → edgeOutcome (gives n) c t ≡ edgeCall undirected most place s sc st
   edges-lines n q =
-      let g = mapped-gives (numberedInto place a b 0) (edgesOf undirected most place s) (n, c, t) (ap (λ y. edgesLeft y c t) (sym q) ∙ told) in
+      let g = mapped-gives (numberedInto place a b 0) (edgesOf undirected most place s) (n, c, t)
+      (ap (λ y. edgesLeft y c t) (sym q) ∙ told) in
       let es = allNumbered place (g .0) in
       let k : n ≡ length (g .0) = ap (λ (y : ℕ × List ℕ × List ℕ). y .0) (g .2) ∙ zero-add (length es) ∙ length-numbered place (g .0) in
       let u : c ≡ bumps (replicate sc 0) es = ap (λ (y : ℕ × List ℕ × List ℕ). y .1) (g .2) ∙ ap (λ (l : List ℕ). bumps l es) ea in
@@ -98,14 +99,10 @@ module _ (undirected : Bool) (most : ℕ) (place : ℤ → Found) (s : List ℕ)
       edges-of : {k m : ℕ} {c d t u : List ℕ} → k ≡ m → c ≡ d → t ≡ u → edgeOutcome (gives k) c t ≡ edgeOutcome (gives m) d u
       edges-of p q r = cc
 
-      length-numbered : (place : ℤ → Found) (es : List (ℤ × ℤ)) → length (allNumbered place es) ≡ length es
-      length-numbered place [] = refl
-      length-numbered place (e ∷ es) = ap suc (length-numbered place es)
-
-  pub edges-refused : (r : Refusal) → x ≡ Refused r → length c ≡ length a → length t ≡ length b → (d u : List ℕ)
+  pub edges-zero : (r : Refusal) → x ≡ Refused r → length c ≡ length a → length t ≡ length b → (d u : List ℕ)
       → d ≡ replicate (length c) 0 → u ≡ replicate (length t) 0
       → edgeOutcome (refuses r) d u ≡ edgeCall undirected most place s sc st
-  edges-refused r q kc kt d u ed eu =
+  edges-zero r q kc kt d u ed eu =
       rw (mapped-refuses (numberedInto place a b 0) (edgesOf undirected most place s) r (ap (λ y. edgesLeft y c t) (sym q) ∙ told))
       (ap₂ (λ (l m : List ℕ). edgeOutcome (refuses r) l m) (ed ∙ again 0 sc a c ea kc) (eu ∙ again 0 st b t eb kt))
 

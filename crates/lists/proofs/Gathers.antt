@@ -17,10 +17,8 @@ use Rattle.text.specs.Word.{identOf}
 use Rattle.text.specs.Line.{twoOf}
 use Rattle.text.specs.File.{after}
 use Rattle.text.proofs.Files.{left, left-start}
-use Rattle.graph.specs.Arcs.{Arc}
+use Rattle.graph.specs.Arcs.{Arc, seconds, bump}
 use Rattle.graph.specs.declared.find.Found.{Found}
-use Rattle.store.specs.Held.{seconds}
-use Rattle.store.specs.Steps.{bump}
 use Rattle.lists.specs.declared.Listed.{Listed}
 use Rattle.lists.specs.declared.Listed.the-variants.{Lines, Refused}
 use Rattle.lists.specs.declared.edges.Edges.{Edges}
@@ -28,7 +26,7 @@ use Rattle.lists.specs.declared.edges.EdgeStep.{EdgeStep}
 use Rattle.lists.specs.declared.edges.EdgeStep.the-variants as ES
 use Rattle.lists.specs.Files.{edgeTest, edgesOf, numbered, allNumbered}
 use Rattle.lists.specs.Calls.{listedSays}
-use Rattle.lists.specs.Steps.{Step, more, stop, beforeBy, pairOf, withNumbers, edgeStep, edgeStepSays, numberedInto, edgesLeft}
+use Rattle.lists.specs.Steps.{LineStep, more, stop, beforeBy, pairOf, withNumbers, edgeStep, edgeStepSays, numberedInto, edgesLeft}
 use Rattle.lists.proofs.Runs.{left-lines, left-refused, left-more, Moved, before-next}
 
 -- ---- what the loop keeps
@@ -53,7 +51,7 @@ into-more place counts targets k e (gives es) =
     ≡ sets (set targets k (numbered place e .1)) (suc k) (seconds (allNumbered place es)) = rw add-one in
     cc
 
-numbers-more : (place : ℤ → Found) (x : Step (ℤ × ℤ)) (e : ℤ × ℤ) (a : Arc) (next k : ℕ) → more (e, a) next k ≡ withNumbers place x
+numbers-more : (place : ℤ → Found) (x : LineStep (ℤ × ℤ)) (e : ℤ × ℤ) (a : Arc) (next k : ℕ) → more (e, a) next k ≡ withNumbers place x
     → (more e next k ≡ x) × (a ≡ numbered place e)
 numbers-more place (stop r) e a next k h = no-case cc
 numbers-more place (more d n m) e a next k h =
@@ -61,13 +59,14 @@ numbers-more place (more d n m) e a next k h =
     let p : e ≡ d = ap (λ (x : (ℤ × ℤ) × Arc). x .0) q in
     (cc, ap (λ (x : (ℤ × ℤ) × Arc). x .1) q ∙ ap (numbered place) (sym p))
 
-numbers-stop : (place : ℤ → Found) (x : Step (ℤ × ℤ)) (r : Said ℕ) → stop r ≡ withNumbers place x → stop r ≡ x
+numbers-stop : (place : ℤ → Found) (x : LineStep (ℤ × ℤ)) (r : Said ℕ) → stop r ≡ withNumbers place x → stop r ≡ x
 numbers-stop place (stop q) r h = cc
 numbers-stop place (more d n m) r h = no-case cc
 
 module _ (s : List ℕ) (most : ℕ) (undirected : Bool) (place : ℤ → Found) (counts₀ targets₀ : List ℕ) where
   abbrev edgeLeft : Edges → Said (List (ℤ × ℤ))
-  edgeLeft c = left (twoOf identOf identOf) edgeFile most (edgeTest undirected place) s (c .lines) (beforeBy (c .lines) (pairOf c)) (c .at .at)
+  edgeLeft c =
+      left (twoOf identOf identOf) edgeFile most (edgeTest undirected place) s (c .lines) (beforeBy (c .lines) (pairOf c)) (c .at .at)
 
   -- with the lines that are left, its count and its areas come out as the file says
   pub record Gathering (c : Edges) (counts targets : List ℕ) : Type 0 where
@@ -88,20 +87,24 @@ module _ (s : List ℕ) (most : ℕ) (undirected : Bool) (place : ℤ → Found)
         longCounts = refl;
         longTargets = refl;
         few = λ i. subst (λ (l : List ℕ). getD l i 0 ≤ 0) (sym a) (let e = replicate-at {A = ℕ} 0 (length counts₀) i in omega arith);
-        same = ap (mapped (numberedInto place counts₀ targets₀ 0)) (left-start (twoOf identOf identOf) edgeFile most (edgeTest undirected place) s);
+        same = ap (mapped (numberedInto place counts₀ targets₀ 0))
+            (left-start (twoOf identOf identOf) edgeFile most (edgeTest undirected place) s);
       }
 
   module _ (c : Edges) (counts targets : List ℕ) (g : Gathering c counts targets) (x : EdgeStep)
       (told : edgeStepSays x ≡ withNumbers place (edgeStep undirected most place s c)) where
     module _ (u v : ℕ) (d : Edges) (e : x ≡ ES.More u v d) where
       stepped : (more (pairOf d) (d .at .at) (d .lines) ≡ edgeStep undirected most place s c) × ((u, v) ≡ numbered place (pairOf d))
-      stepped = numbers-more place (edgeStep undirected most place s c) (pairOf d) (u, v) (d .at .at) (d .lines) (ap edgeStepSays (sym e) ∙ told)
+      stepped =
+          numbers-more place (edgeStep undirected most place s c) (pairOf d) (u, v) (d .at .at) (d .lines) (ap edgeStepSays (sym e) ∙ told)
 
-      moved : Moved (twoOf identOf identOf) edgeFile most (edgeTest undirected place) s (c .lines) (beforeBy (c .lines) (pairOf c)) (c .at .at)
+      moved : Moved (twoOf identOf identOf) edgeFile most (edgeTest undirected place) s (c .lines) (beforeBy (c .lines) (pairOf c))
+          (c .at .at)
           (pairOf d) (d .at .at) (d .lines)
       unfolding edgeStep
       moved =
-          left-more (twoOf identOf identOf) edgeFile most (edgeTest undirected place) s (c .lines) (beforeBy (c .lines) (pairOf c)) (c .at .at)
+          left-more (twoOf identOf identOf) edgeFile most (edgeTest undirected place) s (c .lines) (beforeBy (c .lines) (pairOf c))
+          (c .at .at)
           (g .low) (pairOf d) (d .at .at) (d .lines) (stepped .0)
 
       first-end : u ≡ numbered place (pairOf d) .0
@@ -139,16 +142,19 @@ module _ (s : List ℕ) (most : ℕ) (undirected : Bool) (place : ℤ → Found)
     pub gathering-stop : (out : Listed) → x ≡ ES.Stop out
         → edgesLeft out counts targets ≡ mapped (numberedInto place counts₀ targets₀ 0) (edgesOf undirected most place s)
     unfolding edgeStep
-    gathering-stop out e = go out (numbers-stop place (edgeStep undirected most place s c) (listedSays out) (ap edgeStepSays (sym e) ∙ told))
+    gathering-stop out e =
+        go out (numbers-stop place (edgeStep undirected most place s c) (listedSays out) (ap edgeStepSays (sym e) ∙ told))
       where
         go : (out : Listed) → stop (listedSays out) ≡ edgeStep undirected most place s c
             → edgesLeft out counts targets ≡ mapped (numberedInto place counts₀ targets₀ 0) (edgesOf undirected most place s)
         go (Lines n) e =
-            let l = left-lines (twoOf identOf identOf) edgeFile most (edgeTest undirected place) s (c .lines) (beforeBy (c .lines) (pairOf c))
+            let l = left-lines (twoOf identOf identOf) edgeFile most (edgeTest undirected place) s (c .lines)
+            (beforeBy (c .lines) (pairOf c))
             (c .at .at) n e in
             (let a = l .0 in let b = add-zero (c .lines) in cc) ∙ ap (mapped (numberedInto place counts targets (c .lines))) (sym (l .1))
             ∙ g .same
         go (Refused o) e =
             ap (mapped (numberedInto place counts targets (c .lines)))
-            (sym (left-refused (twoOf identOf identOf) edgeFile most (edgeTest undirected place) s (c .lines) (beforeBy (c .lines) (pairOf c))
+            (sym (left-refused (twoOf identOf identOf) edgeFile most (edgeTest undirected place) s (c .lines)
+            (beforeBy (c .lines) (pairOf c))
             (c .at .at) o (g .low) e)) ∙ g .same

@@ -28,8 +28,8 @@ use Rattle.lists.specs.declared.vertices.Vertices.{Vertices}
 use Rattle.lists.specs.declared.edges.Edges.{Edges}
 use Rattle.lists.specs.declared.edges.Ends.{Ends}
 use Rattle.lists.specs.declared.edges.Ends.the-variants as EN
-use Rattle.lists.specs.Files.{vertexTest, isAbove, numberOf, edgeTest, numbered}
-use Rattle.lists.specs.Steps.{Step, more, stop, byFault, stepBy, beforeBy, vertexStep, orderFault}
+use Rattle.lists.specs.Files.{vertexTest, isAbove, vertexNumber, edgeTest, numbered}
+use Rattle.lists.specs.Steps.{LineStep, more, stop, byFault, stepBy, beforeBy, vertexStep, orderFault}
 use Rattle.lists.specs.Steps.{Looked, found, unknown, lookedBy, endsSays, pairOf, withNumbers, edgeStep}
 
 -- ---- too many lines come before any other fault
@@ -189,7 +189,8 @@ lookFault unknown = 7
 test-by : (undirected : Bool) (place : ℤ → Found) (before : Before (ℤ × ℤ)) (e : ℤ × ℤ)
     → edgeTest undirected place before e ≡ orElse (orderFault undirected before e) (lookFault (lookedBy (place (e .0)) (place (e .1))))
 unfolding edgeTest orderFault
-test-by undirected place before e = go (sameZ (e .0) (e .1)) (undirected && ltZ (e .1) (e .0)) (isAbove before e) (place (e .0)) (place (e .1))
+test-by undirected place before e =
+    go (sameZ (e .0) (e .1)) (undirected && ltZ (e .1) (e .0)) (isAbove before e) (place (e .0)) (place (e .1))
   where
     go : (p q r : Bool) (x y : Found)
         → cond p 5 (cond q 6 (cond r (cond (isThere x && isThere y) 0 7) 4))
@@ -211,7 +212,7 @@ limit-none most k o e = go (leb most k) refl e
 
 module _ (undirected : Bool) (most : ℕ) (place : ℤ → Found) (s : List ℕ) (c : Edges) (x : EdgeLine)
     (e : edgeSays x ≡ edgeLine s (c .at .at)) where
-  abbrev step : LineSaid (ℤ × ℤ) → Step (ℤ × ℤ)
+  abbrev step : LineSaid (ℤ × ℤ) → LineStep (ℤ × ℤ)
   step = stepBy edgeFile most (edgeTest undirected place) (c .lines) (beforeBy (c .lines) (pairOf c))
 
   by-edge : (y : EdgeLine) → x ≡ y → withNumbers place (step (edgeSays y)) ≡ withNumbers place (edgeStep undirected most place s c)
@@ -225,13 +226,15 @@ module _ (undirected : Bool) (most : ℕ) (place : ℤ → Found) (s : List ℕ)
       → r ≡ at f edgeFile (c .lines + 1)
       → stop (refuses r) ≡ withNumbers place (edgeStep undirected most place s c)
   edge-bad n p q f g r h =
-      ap (withNumbers place) (by-bad edgeFile most (edgeTest undirected place) (c .lines) (beforeBy (c .lines) (pairOf c)) n (p .at) f g r h)
+      ap (withNumbers place) (by-bad edgeFile most (edgeTest undirected place) (c .lines) (beforeBy (c .lines) (pairOf c)) n (p .at) f g r
+      h)
       ∙ by-edge (EL.Fault n p) q
 
   -- the edge from a to b, handed on as a′ and b′, and the one before it
   module _ (a b : ℤ) (p : Cursor) (q : x ≡ EL.Line a b p) (a′ b′ d′ e′ : ℤ) (ha : a′ ≡ a) (hb : b′ ≡ b) (hd : d′ ≡ c .first)
       (he : e′ ≡ c .second)
-      (o : ℕ) (h : o ≡ orderFault undirected (beforeBy (c .lines) (d′, e′)) (a′, b′)) (f : ℕ) (g : f ≡ cond (leb most (c .lines)) tooMany o) where
+      (o : ℕ) (h : o ≡ orderFault undirected (beforeBy (c .lines) (d′, e′)) (a′, b′)) (f : ℕ)
+      (g : f ≡ cond (leb most (c .lines)) tooMany o) where
     abbrev before : Before (ℤ × ℤ)
     before = beforeBy (c .lines) (pairOf c)
 
@@ -272,7 +275,8 @@ module _ (undirected : Bool) (most : ℕ) (place : ℤ → Found) (s : List ℕ)
           → stop (refuses r) ≡ withNumbers place (edgeStep undirected most place s c)
       edge-unknown u r j =
           let l : 7 ≡ lineFault = ap (λ t. lookFault (endsSays t)) (sym u) ∙ by-look in
-          ap (withNumbers place) (by-fault edgeFile most (edgeTest undirected place) (c .lines) before (a, b) (p .at) 7 l (λ i. omega arith) r j)
+          ap (withNumbers place) (by-fault edgeFile most (edgeTest undirected place) (c .lines) before (a, b) (p .at) 7 l (λ i. omega arith)
+          r j)
           ∙ by-edge (EL.Line a b p) q
 
       pub edge-more : (u v : ℕ) → y ≡ EN.Known u v
@@ -280,10 +284,11 @@ module _ (undirected : Bool) (most : ℕ) (place : ℤ → Found) (s : List ℕ)
       edge-more u v k =
           let l : 0 ≡ lineFault = ap (λ t. lookFault (endsSays t)) (sym k) ∙ by-look in
           let n : numbered place (a, b) ≡ (u, v) = numbers (place a) (place b) (looked ∙ ap endsSays k) in
-          rw (ha, hb, ← n) (ap (withNumbers place) (by-more edgeFile most (edgeTest undirected place) (c .lines) before (a, b) (p .at) 0 l refl)
+          rw (ha, hb, ← n) (ap (withNumbers place)
+          (by-more edgeFile most (edgeTest undirected place) (c .lines) before (a, b) (p .at) 0 l refl)
           ∙ by-edge (EL.Line a b p) q)
         where
-          numbers : (x y : Found) → lookedBy x y ≡ found (u, v) → _≡_ {A = ℕ × ℕ} (numberOf x, numberOf y) (u, v)
+          numbers : (x y : Found) → lookedBy x y ≡ found (u, v) → _≡_ {A = ℕ × ℕ} (vertexNumber x, vertexNumber y) (u, v)
           numbers (At i) (At j) h = cc
           numbers (At i) Missing h = no-case cc
           numbers Missing y h = no-case cc

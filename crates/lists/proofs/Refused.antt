@@ -40,5 +40,6 @@ edge-low undirected place before e =
 pub vertices-met : (most : ℕ) (s : List ℕ) → Either Any (Met vertexFile most) (identifiers most s)
 vertices-met most s = file-met identOf vertexFile most vertexTest vertex-low s
 
-pub edges-met : (undirected : Bool) (most : ℕ) (place : ℤ → Found) (s : List ℕ) → Either Any (Met edgeFile most) (edgesOf undirected most place s)
+pub edges-met : (undirected : Bool) (most : ℕ) (place : ℤ → Found) (s : List ℕ)
+    → Either Any (Met edgeFile most) (edgesOf undirected most place s)
 edges-met undirected most place s = file-met (twoOf identOf identOf) edgeFile most (edgeTest undirected place) (edge-low undirected place) s

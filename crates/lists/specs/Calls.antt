@@ -7,8 +7,7 @@ use lib.ListN.{length, take, replicate}
 use Rattle.basis.specs.Refusal.{Said, gives, refuses, mapped}
 use Rattle.basis.specs.Area.{areaOf}
 use Rattle.graph.specs.declared.find.Found.{Found}
-use Rattle.store.specs.Held.{seconds}
-use Rattle.store.specs.Steps.{bumps}
+use Rattle.graph.specs.Arcs.{seconds, bumps}
 use Rattle.lists.specs.declared.Listed.{Listed}
 use Rattle.lists.specs.declared.Listed.the-variants.{Lines, Refused}
 use Rattle.lists.specs.Files.{identifiers, edgesOf, allNumbered}
@@ -19,12 +18,12 @@ listedSays (Lines n) = gives n
 listedSays (Refused r) = refuses r
 
 -- what the reading of a vertex file answers, and what stands in the area of identifiers then
-pub record Vertexes : Type 0 where
+pub record VerticesRead : Type 0 where
   pub answer : Said ℕ
   pub ids : List ℤ
 
 -- the same, by its fields in order: the count of lines or the refusal, the area of identifiers
-abbrev pub vertexOutcome : Said ℕ → List ℤ → Vertexes
+abbrev pub vertexOutcome : Said ℕ → List ℤ → VerticesRead
 vertexOutcome answer ids = record { answer = answer; ids = ids }
 
 -- the identifiers in an area of the given length, as far as there is room, and zeros behind them
@@ -32,7 +31,7 @@ abbrev pub idsArea : ℕ → Said (List ℤ) → List ℤ
 idsArea size s = areaOf (pos 0) size (take size) s
 
 -- the reading of a vertex file of at most so many lines into an area of the given length
-abbrev pub vertexCall : ℕ → List ℕ → ℕ → Vertexes
+abbrev pub vertexCall : ℕ → List ℕ → ℕ → VerticesRead
 vertexCall most s size = vertexOutcome (mapped length (identifiers most s)) (idsArea size (identifiers most s))
 
 -- the same of an edge file: the answer, how many edges begin at each vertex, and their second ends
@@ -54,7 +53,11 @@ countsArea place size (refuses r) = replicate size 0
 abbrev pub targetsArea : (ℤ → Found) → ℕ → Said (List (ℤ × ℤ)) → List ℕ
 targetsArea place size s = areaOf 0 size (λ es. take size (seconds (allNumbered place es))) s
 
+-- the answer and the areas of an edge file by the edges that it lists, or by its refusal
+abbrev pub edgeCallBy : (ℤ → Found) → ℕ → ℕ → Said (List (ℤ × ℤ)) → EdgesRead
+edgeCallBy place c t es = edgeOutcome (mapped length es) (countsArea place c es) (targetsArea place t es)
+
 -- the reading of an edge file of at most so many lines between the vertices that `place` finds, into areas of the given lengths
 abbrev pub edgeCall : Bool → ℕ → (ℤ → Found) → List ℕ → ℕ → ℕ → EdgesRead
 edgeCall undirected most place s c t =
-    edgeOutcome (mapped length (edgesOf undirected most place s)) (countsArea place c (edgesOf undirected most place s)) (targetsArea place t (edgesOf undirected most place s))
+    edgeCallBy place c t (edgesOf undirected most place s)

@@ -32,11 +32,12 @@ isAbove first e = true
 isAbove (after d) e = abovePair d e
 
 -- the number of a vertex that was found; 0 where it is missing, and then its edge is refused
-abbrev pub numberOf : Found → ℕ
-numberOf (At k) = k
-numberOf Missing = 0
+abbrev pub vertexNumber : Found → ℕ
+vertexNumber (At k) = k
+vertexNumber Missing = 0
 
--- "an edge joins a vertex to itself"; "undirected, and the first number is the larger"; "not above the one before it"; "names a vertex not in the vertex file"
+-- "an edge joins a vertex to itself"; "undirected, and the first number is the larger"; "not above the one before it"; "names a vertex not
+-- in the vertex file"
 unfoldable pub edgeTest : Bool → (ℤ → Found) → Before (ℤ × ℤ) → ℤ × ℤ → ℕ
 edgeTest undirected place before e =
     cond (sameZ (e .0) (e .1)) selfEdge
@@ -49,7 +50,7 @@ edgesOf undirected most place s = valuesOf edgeFile most (edgeTest undirected pl
 
 -- an edge, by the numbers of its vertices
 abbrev pub numbered : (ℤ → Found) → ℤ × ℤ → Arc
-numbered place e = (numberOf (place (e .0)), numberOf (place (e .1)))
+numbered place e = (vertexNumber (place (e .0)), vertexNumber (place (e .1)))
 
 -- a list of edges, by the numbers of their vertices, in order
 abbrev pub allNumbered : (ℤ → Found) → List (ℤ × ℤ) → List Arc

@@ -20,12 +20,11 @@ ghost use mathlib.Core.Bool.{_&&_};
 ghost use Prim.Native.Nat.{_+_, _-_, _<_, _^_};
 ghost use lib.ListN.{length, set};
 ghost use lib.Signed.{ltZ};
-ghost use Rattle.basis.specs.Refusal.{mapped};
 ghost use Rattle.basis.specs.Area.{cleared};
 ghost use Rattle.graph.specs.Find.{bisected};
-ghost use Rattle.lists.specs.Files.{isAbove, edgesOf};
+ghost use Rattle.lists.specs.Files.{isAbove};
 ghost use Rattle.lists.specs.Calls.{listedSays, edgeOutcome, edgeCall};
-ghost use Rattle.lists.specs.Steps.{beforeBy, orderFault, lookedBy, endsSays, withNumbers, edgeStep, edgeStepSays, numberedInto, edgesLeft};
+ghost use Rattle.lists.specs.Steps.{beforeBy, orderFault, lookedBy, endsSays, numberedStep, edgeStepSays, edgesScanned, edgesLeft};
 
 // A reader of edge lines: its place, the lines passed, and the ends of the last edge.
 struct Edges {
@@ -41,7 +40,7 @@ enum Ends {
     Unknown,
 }
 
-// The numbers of an edge's vertices, and the reader past its line.
+// The numbers of an edge's vertices and the reader past its line, or how the reading ended.
 enum EdgeStep {
     More(usize, usize, Edges),
     Stop(Listed),
@@ -109,7 +108,7 @@ fn look_up(ids: &[i64], a: i64, b: i64) -> Ends
 // One edge line more.
 fn edge_step(s: &[u8], most: usize, undirected: bool, ids: &[i64], c: Edges) -> EdgeStep
     requires { ⌜ c .lines < 2 ^ 64 - 1 ⌝ }
-    ensures { λ r. ⌜ edgeStepSays r ≡ withNumbers (bisected (now (ids .entry))) (edgeStep undirected most (bisected (now (ids .entry))) (now (s .entry)) c) ⌝ }
+    ensures { λ r. ⌜ edgeStepSays r ≡ numberedStep undirected most (bisected (now (ids .entry))) (now (s .entry)) c ⌝ }
 {
     let place = c.at;
     let k = c.lines;
@@ -167,7 +166,9 @@ fn scan_edges(
     targets: &mut [usize],
 ) -> Listed
     requires { ⌜ now counts ≡ cleared (now counts) ⌝ }
-    ensures { λ r. ⌜ edgesLeft r (now (counts .exit)) (now (targets .exit)) ≡ mapped (numberedInto (bisected (now (ids .entry))) (now (counts .entry)) (now (targets .entry)) 0) (edgesOf undirected most (bisected (now (ids .entry))) (now (s .entry))) ⌝ }
+    ensures { λ r. ⌜
+        edgesLeft r (now (counts .exit)) (now (targets .exit))
+        ≡ edgesScanned undirected most (bisected (now (ids .entry))) (now (s .entry)) (now (counts .entry)) (now (targets .entry)) ⌝ }
 {
     let mut c = Edges {
         at: Cursor { at: 0 },
@@ -201,7 +202,10 @@ pub fn read_edges(
     counts: &mut [usize],
     targets: &mut [usize],
 ) -> Listed
-    ensures { λ r. ⌜ edgeOutcome (listedSays r) (now (counts .exit)) (now (targets .exit)) ≡ edgeCall undirected most (bisected (now (ids .entry))) (now (s .entry)) (length (now (counts .entry))) (length (now (targets .entry))) ⌝ }
+    ensures { λ r. ⌜
+        edgeOutcome (listedSays r) (now (counts .exit)) (now (targets .exit))
+        ≡ edgeCall undirected most (bisected (now (ids .entry))) (now (s .entry))
+        (length (now (counts .entry))) (length (now (targets .entry))) ⌝ }
 {
     clear(counts);
     clear(targets);

@@ -25,6 +25,7 @@ struct Vertices {
     last: i64,
 }
 
+// The reader past a line, or how the reading ended.
 enum VertexStep {
     More(Vertices),
     Stop(Listed),

@@ -1,5 +1,5 @@
 -- Laws of storing the edges of a file: both pairs of areas as the edges say. Assumes nothing.
-use Prim.Native.Nat.{ℕ, suc, _+_, _-_, _≤_, _<_}
+use Prim.Native.Nat.{ℕ, _+_, _-_, _≤_, _<_}
 use mathlib.Core.Path.{_≡_, refl, sym, ap, ap₂, _∙_}
 use mathlib.Core.Bool.{Bool, true, false}
 use mathlib.Core.List.{List, [], _∷_, _++_}
@@ -16,12 +16,13 @@ use Rattle.basis.specs.Area.{pad}
 use Rattle.basis.specs.Scan.{each}
 use Rattle.basis.proofs.Tests.{and-off, and-both}
 use Rattle.basis.proofs.Saids.{mapped-gives, mapped-refuses}
-use Rattle.graph.specs.Arcs.{Arc, arcs, parts, start, offsets}
+use Rattle.graph.specs.Arcs.{Arc, arcs, parts, start, offsets, seconds, bumps}
 use Rattle.graph.specs.Find.{placeIn, bisected}
-use Rattle.store.specs.Held.{held, Ends, inArcs, inOffsets, inSources, seconds}
-use Rattle.store.specs.Steps.{bumps, largest, sums, counted, Below}
+use Rattle.graph.proofs.Arcs.{length-seconds}
+use Rattle.store.specs.Held.{held, EndsBelow, inArcs, heldInOffsets, heldInSources}
+use Rattle.store.specs.Steps.{largestNumber, sums, degrees, Below}
 use Rattle.store.specs.Spread.{arcCount, heldFit, Spread, spreadLeft, spreadCall}
-use Rattle.store.proofs.Arcs.{bumps-counted, counted-none, sums-counted, start-length}
+use Rattle.store.proofs.Arcs.{bumps-degrees, degrees-none, sums-degrees, start-length}
 use Rattle.store.proofs.Passes.{length-backward}
 use Rattle.store.proofs.Fits.{arc-count}
 use Rattle.store.proofs.Order.{Valid, valid-ends}
@@ -30,54 +31,48 @@ use Rattle.lists.specs.declared.Listed.{Listed}
 use Rattle.lists.specs.declared.Listed.the-variants.{Lines, Refused}
 use Rattle.lists.specs.Files.{edgesOf, allNumbered}
 use Rattle.lists.specs.Calls.{listedSays, EdgesRead, edgeOutcome, countsArea, targetsArea, edgeCall}
+use Rattle.lists.proofs.Lookups.{same-edges, same-numbered, length-numbered}
 use Rattle.load.specs.Load.{arcRoom}
-use Rattle.load.specs.Steps.{edgesRead, Arranged, arranged, arrangedBy, Blank}
+use Rattle.load.specs.Steps.{edgesRead, Arranged, arranged, arrangedBy, Storing}
 use Rattle.load.proofs.Valids.{valid-file}
-use Rattle.load.proofs.Lookups.{same-edges, same-numbered}
 
 -- ---- lengths of edges and arcs
-pub length-numbered : (ids : List ℤ) (es : List (ℤ × ℤ)) → length (allNumbered (placeIn ids) es) ≡ length es
-length-numbered ids [] = refl
-length-numbered ids (e ∷ es) = ap suc (length-numbered ids es)
-
-pub length-seconds : (es : List Arc) → length (seconds es) ≡ length es
-length-seconds [] = refl
-length-seconds (e ∷ es) = ap suc (length-seconds es)
-
 edges-fewer : (undirected : Bool) (m : ℕ) → m ≤ arcCount undirected m
 edges-fewer true m = omega arith
 edges-fewer false m = omega arith
 
-below-ends : (n : ℕ) (es : List Arc) → Ends n es → Below (n + 1) es
+below-ends : (n : ℕ) (es : List Arc) → EndsBelow n es → Below (n + 1) es
 below-ends n [] h = tt
 below-ends n (e ∷ es) h = ((let g = h .0 in omega arith), below-ends n es (h .2))
 
-each-ends : (n : ℕ) (es : List Arc) → Ends n es → each (λ (e : Arc). ltb (e .1) n) es ≡ true
+each-ends : (n : ℕ) (es : List Arc) → EndsBelow n es → each (λ (e : Arc). ltb (e .1) n) es ≡ true
 unfolding each
 each-ends n [] h = refl
 each-ends n (e ∷ es) h = and-both (lt-ltb (e .1) n (h .1)) (each-ends n es (h .2))
 
 -- ---- edges l counted in an area of the given size, and summed up
-sums-offsets : (l : List Arc) (n size : ℕ) → n < size → Below (n + 1) l → length l ≤ largest
+sums-offsets : (l : List Arc) (n size : ℕ) → n < size → Below (n + 1) l → length l ≤ largestNumber
     → sums 0 (take (n + 1) (bumps (replicate size 0) l)) ++ drop (n + 1) (bumps (replicate size 0) l) ≡ pad size (offsets l n)
 sums-offsets l n size h b f =
-    let c : bumps (replicate size 0) l ≡ counted l (n + 1) (replicate (size - (n + 1)) 0) =
-    ap (λ (x : List ℕ). bumps x l) (counted-none (n + 1) size (omega arith))
-    ∙ bumps-counted [] l (n + 1) (replicate (size - (n + 1)) 0) b in
+    let c : bumps (replicate size 0) l ≡ degrees l (n + 1) (replicate (size - (n + 1)) 0) =
+    ap (λ (x : List ℕ). bumps x l) (degrees-none (n + 1) size (omega arith))
+    ∙ bumps-degrees [] l (n + 1) (replicate (size - (n + 1)) 0) b in
     let k = offsets-length l n in
-    rw (c, sums-counted l (n + 1) (replicate (size - (n + 1)) 0) (rw (start-length l (n + 1) b) f), add-one n, k)
+    rw (c, sums-degrees l (n + 1) (replicate (size - (n + 1)) 0) (rw (start-length l (n + 1) b) f), add-one n, k)
 
 -- ---- the edges of a file, read into the areas fo and ft, which hold c and t then
-module _ (undirected : Bool) (most : ℕ) (ids : List ℤ) (s : List ℕ) (fo ft to tt : List ℕ) (blank : Blank ids fo to)
-    (x : Listed) (c t : List ℕ) (told : edgeOutcome (listedSays x) c t ≡ edgeCall undirected most (bisected ids) s (length fo) (length ft)) where
+module _ (undirected : Bool) (most : ℕ) (ids : List ℤ) (s : List ℕ) (fo ft to tt : List ℕ) (storing : Storing ids fo to)
+    (x : Listed) (c t : List ℕ) (told : edgeOutcome (listedSays x) c t
+    ≡ edgeCall undirected most (bisected ids) s (length fo) (length ft)) where
   abbrev n : ℕ
   n = length ids
 
   abbrev result : Said Arranged
-  result = mapped (arrangedBy undirected n (length fo) (length ft) (length to) (length tt)) (edgesRead undirected most ids s (length ft) (length tt))
+  result = mapped (arrangedBy undirected n (length fo) (length ft) (length to) (length tt))
+      (edgesRead undirected most ids s (length ft) (length tt))
 
   answered : (r : Said ℕ) → listedSays x ≡ r → r ≡ mapped length (edgesOf undirected most (placeIn ids) s)
-  answered r q = sym q ∙ ap (λ (y : EdgesRead). y .answer) told ∙ ap (mapped length) (same-edges ids (blank .rise) undirected most s)
+  answered r q = sym q ∙ ap (λ (y : EdgesRead). y .answer) told ∙ ap (mapped length) (same-edges ids (storing .rise) undirected most s)
 
   pub arrange-refused : (r : Refusal) → x ≡ Refused r → refuses r ≡ result
   unfolding edgesRead
@@ -91,26 +86,26 @@ module _ (undirected : Bool) (most : ℕ) (ids : List ℤ) (s : List ℕ) (fo ft
     es = allNumbered (placeIn ids) (taken .0)
 
     found : edgesOf undirected most (bisected ids) s ≡ gives (taken .0)
-    found = same-edges ids (blank .rise) undirected most s ∙ taken .1
+    found = same-edges ids (storing .rise) undirected most s ∙ taken .1
 
     count : m ≡ length es
-    count = taken .2 ∙ sym (length-numbered ids (taken .0))
+    count = taken .2 ∙ sym (length-numbered (placeIn ids) (taken .0))
 
     counts : c ≡ bumps (replicate (length fo) 0) es
     counts =
         ap (λ (y : EdgesRead). y .counts) told ∙ ap (countsArea (bisected ids) (length fo)) found
-        ∙ ap (bumps (replicate (length fo) 0)) (same-numbered ids (blank .rise) (taken .0))
+        ∙ ap (bumps (replicate (length fo) 0)) (same-numbered ids (storing .rise) (taken .0))
 
     stored : t ≡ pad (length ft) (take (length ft) (seconds es))
     stored =
         ap (λ (y : EdgesRead). y .targets) told ∙ ap (targetsArea (bisected ids) (length ft)) found
-        ∙ ap (λ (l : List Arc). pad (length ft) (take (length ft) (seconds l))) (same-numbered ids (blank .rise) (taken .0))
+        ∙ ap (λ (l : List Arc). pad (length ft) (take (length ft) (seconds l))) (same-numbered ids (storing .rise) (taken .0))
 
     valid : Valid undirected n es
     valid =
-        valid-file ids (blank .rise) undirected most s (taken .0) (taken .1)
+        valid-file ids (storing .rise) undirected most s (taken .0) (taken .1)
 
-    ends : Ends n es
+    ends : EndsBelow n es
     ends = valid-ends n es (valid .fine)
 
     arcs-long : length (arcs undirected es) ≡ arcCount undirected m
@@ -140,7 +135,8 @@ module _ (undirected : Bool) (most : ℕ) (ids : List ℤ) (s : List ℕ) (fo ft
               and-off (leb (length (arcs undirected es)) (length ft)) false refl,
             ))
 
-        module _ (fb : b ≡ false) (small : length ft ≤ largest) (o : List ℕ) (eo : o ≡ sums 0 (take (n + 1) c) ++ drop (n + 1) c) where
+        module _ (fb : b ≡ false) (small : length ft ≤ largestNumber) (o : List ℕ)
+            (eo : o ≡ sums 0 (take (n + 1) c) ++ drop (n + 1) c) where
           fits-back : arcCount undirected m ≤ length tt
           fits-back = let l = ltb-false (length tt) (arcCount undirected m) (sym eb ∙ fb) in omega arith
 
@@ -150,7 +146,7 @@ module _ (undirected : Bool) (most : ℕ) (ids : List ℤ) (s : List ℕ) (fo ft
           offsets-are : o ≡ pad (length fo) (offsets es n)
           offsets-are =
               eo ∙ ap (λ (l : List ℕ). sums 0 (take (n + 1) l) ++ drop (n + 1) l) counts
-              ∙ sums-offsets es n (length fo) (blank .places) (below-ends n es ends) (let f = edges-fit in omega arith)
+              ∙ sums-offsets es n (length fo) (storing .places) (below-ends n es ends) (let f = edges-fit in omega arith)
 
           targets-are : t ≡ pad (length ft) (parts es n)
           targets-are =
@@ -162,7 +158,7 @@ module _ (undirected : Bool) (most : ℕ) (ids : List ℤ) (s : List ℕ) (fo ft
 
           held-is : held n o t ≡ es
           held-is =
-              ap₂ (held n) offsets-are targets-are ∙ held-built es n (valid .pairs) ends (length fo) (length ft) (blank .places) start-is
+              ap₂ (held n) offsets-are targets-are ∙ held-built es n (valid .pairs) ends (length fo) (length ft) (storing .places) start-is
 
           all-fit : heldFit undirected n o t (length tt) ≡ true
           unfolding heldFit
@@ -177,10 +173,11 @@ module _ (undirected : Bool) (most : ℕ) (ids : List ℤ) (s : List ℕ) (fo ft
           arrange-end d p u e =
               let l₁ = le-leb (length (arcs undirected es)) (length ft) (rw arcs-long fits) in
               let l₂ = le-leb (length (arcs undirected es)) (length tt) (rw arcs-long fits-back) in
-              let w = and-both (lt-ltb n (length to) (blank .backPlaces)) all-fit in
-              let f : spreadLeft d p u ≡ spreadLeft true (pad (length to) (inOffsets undirected n o t))
-              (pad (length tt) (inSources undirected n o t)) = e ∙ rw w in
-              let h₁ = ap (λ (y : Spread). y .offsets) f ∙ ap (λ (l : List Arc). pad (length to) (offsets (inArcs undirected l) n)) held-is in
+              let w = and-both (lt-ltb n (length to) (storing .backPlaces)) all-fit in
+              let f : spreadLeft d p u ≡ spreadLeft true (pad (length to) (heldInOffsets undirected n o t))
+              (pad (length tt) (heldInSources undirected n o t)) = e ∙ rw w in
+              let h₁ = ap (λ (y : Spread). y .offsets) f
+              ∙ ap (λ (l : List Arc). pad (length to) (offsets (inArcs undirected l) n)) held-is in
               let h₂ = ap (λ (y : Spread). y .targets) f ∙ ap (λ (l : List Arc). pad (length tt) (parts (inArcs undirected l) n)) held-is in
               rw (taken .1, l₁, l₂) (ap gives (arranged-of count offsets-are targets-are h₁ h₂))
             where

@@ -34,12 +34,14 @@ unfolding vertices edges each mem column within lineBy twoOf placeFrom linesFrom
     loadCall
 directed = refl
 
--- the same files read as undirected: 5 2 has the larger number first
-turned : loadCall library 0 (roomOf 1 1 1 1 1) vertices edges ≡ outcome (refuses (plain 8)) (pos 0 ∷ []) (0 ∷ []) (0 ∷ []) (0 ∷ []) (0 ∷ [])
+-- one place in each area: no room for five identifiers (8), before any edge is read
+no-places : loadCall library 0 (roomOf 1 1 1 1 1) vertices edges
+    ≡ outcome (refuses (plain 8)) (pos 0 ∷ []) (0 ∷ []) (0 ∷ []) (0 ∷ []) (0 ∷ [])
 unfolding vertices edges each mem column within lineBy twoOf placeFrom linesFrom valuesFrom edgeTest arcsRead listsRead loaded outcomeOf
     loadCall
-turned = refl
+no-places = refl
 
+-- the same files read as undirected: 5 2 has the larger number first (6)
 larger-first : loaded library 0 (roomOf 5 6 9 6 9) vertices edges ≡ refuses (at 6 2 3)
 unfolding vertices edges each mem within lineBy twoOf placeFrom linesFrom valuesFrom edgeTest arcsRead listsRead loaded
 larger-first = refl

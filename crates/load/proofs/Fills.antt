@@ -19,6 +19,7 @@ use Rattle.basis.proofs.Areas.{column-ext, drop-replicate, pad-length, copied-f
 use Rattle.basis.proofs.Saids.{mapped-gives, mapped-refuses, given-one, check-passed}
 use Rattle.graph.specs.Find.{placeIn}
 use Rattle.graph.specs.Arcs.{Arc, arcs, parts, start, offsets}
+use Rattle.graph.proofs.Arcs.{length-seconds}
 use Rattle.store.specs.Held.{inArcs}
 use Rattle.store.specs.Spread.{arcCount}
 use Rattle.store.proofs.Arcs.{start-length}
@@ -28,11 +29,10 @@ use Rattle.store.proofs.Built.{offsets-length, both-parts, parts-seconds}
 use Rattle.lists.specs.declared.Listed.{Listed}
 use Rattle.lists.specs.declared.Listed.the-variants.{Lines, Refused}
 use Rattle.lists.specs.Files.{edgesOf, allNumbered}
-use Rattle.load.specs.Load.{arcRoom, withRoom, arcsRead}
+use Rattle.load.specs.Load.{arcRoom, withRoom, listedArcs, arcsRead}
 use Rattle.load.specs.Steps.{edgesRead, Arranged, arranged, arrangedBy, arrangedLeft, Filled, filled, filledBy}
 use Rattle.load.proofs.Valids.{valid-file}
 use Rattle.store.proofs.Fits.{arc-count}
-use Rattle.load.proofs.Arranges.{length-seconds}
 
 -- ---- the arcs of a file are those of its edges, and the order of the two rooms does not matter
 mapped-room : {A B : Type 0} (f : A → B) (t : Bool) (x : A) → withRoom t (f x) ≡ mapped f (withRoom t x)
@@ -45,12 +45,14 @@ module _ (undirected : Bool) (most : ℕ) (ids : List ℤ) (s : List ℕ) where
   arcs-edges t t′ = go (edgesOf undirected most (placeIn ids) s)
     where
       go : (x : Said (List (ℤ × ℤ)))
-          → onward x (λ es. withRoom (arcRoom t t′ (length (arcs undirected (allNumbered (placeIn ids) es))))
-          (arcs undirected (allNumbered (placeIn ids) es)))
+          → onward x (λ es. withRoom (arcRoom t t′ (length (listedArcs undirected ids es)))
+          (listedArcs undirected ids es))
           ≡ mapped (arcs undirected)
-          (onward x (λ es. withRoom (arcRoom t t′ (length (arcs undirected (allNumbered (placeIn ids) es)))) (allNumbered (placeIn ids) es)))
+          (onward x (λ es. withRoom (arcRoom t t′ (length (listedArcs undirected ids es)))
+          (allNumbered (placeIn ids) es)))
       go (gives es) =
-          mapped-room (arcs undirected) (arcRoom t t′ (length (arcs undirected (allNumbered (placeIn ids) es)))) (allNumbered (placeIn ids) es)
+          mapped-room (arcs undirected) (arcRoom t t′ (length (listedArcs undirected ids es)))
+          (allNumbered (placeIn ids) es)
       go (refuses r) = refl
 
   pub edges-swap : (t t′ : ℕ) → edgesRead undirected most ids s t t′ ≡ edgesRead undirected most ids s t′ t
@@ -58,12 +60,14 @@ module _ (undirected : Bool) (most : ℕ) (ids : List ℤ) (s : List ℕ) where
   edges-swap t t′ = go (edgesOf undirected most (placeIn ids) s)
     where
       go : (x : Said (List (ℤ × ℤ)))
-          → onward x (λ es. withRoom (arcRoom t t′ (length (arcs undirected (allNumbered (placeIn ids) es)))) (allNumbered (placeIn ids) es))
-          ≡ onward x (λ es. withRoom (arcRoom t′ t (length (arcs undirected (allNumbered (placeIn ids) es)))) (allNumbered (placeIn ids) es))
+          → onward x (λ es. withRoom (arcRoom t t′ (length (listedArcs undirected ids es)))
+          (allNumbered (placeIn ids) es))
+          ≡ onward x (λ es. withRoom (arcRoom t′ t (length (listedArcs undirected ids es)))
+          (allNumbered (placeIn ids) es))
       go (gives es) =
           ap (λ (b : Bool). withRoom b (allNumbered (placeIn ids) es))
-          (and-swap (leb (length (arcs undirected (allNumbered (placeIn ids) es))) t)
-          (leb (length (arcs undirected (allNumbered (placeIn ids) es))) t′))
+          (and-swap (leb (length (listedArcs undirected ids es)) t)
+          (leb (length (listedArcs undirected ids es)) t′))
       go (refuses r) = refl
 
   -- edges that were read with room are valid
@@ -74,12 +78,13 @@ module _ (undirected : Bool) (most : ℕ) (ids : List ℤ) (s : List ℕ) where
     taken = go (edgesOf undirected most (placeIn ids) s) refl e
       where
         go : (x : Said (List (ℤ × ℤ))) → edgesOf undirected most (placeIn ids) s ≡ x
-            → onward x (λ es. withRoom (arcRoom t t′ (length (arcs undirected (allNumbered (placeIn ids) es)))) (allNumbered (placeIn ids) es))
+            → onward x (λ es. withRoom (arcRoom t t′ (length (listedArcs undirected ids es)))
+            (allNumbered (placeIn ids) es))
             ≡ gives es
             → (l : List (ℤ × ℤ)) × (edgesOf undirected most (placeIn ids) s ≡ gives l) × (allNumbered (placeIn ids) l ≡ es)
             × (arcRoom t t′ (length (arcs undirected es)) ≡ true)
         go (gives l) q h =
-            let r = check-passed (arcRoom t t′ (length (arcs undirected (allNumbered (placeIn ids) l)))) noRoom
+            let r = check-passed (arcRoom t t′ (length (listedArcs undirected ids l))) noRoom
             (gives (allNumbered (placeIn ids) l)) es h in
             let e = given-one (r .1) in
             (l, q, e, subst (λ (x : List Arc). arcRoom t t′ (length (arcs undirected x)) ≡ true) e (r .0))
@@ -93,7 +98,8 @@ module _ (undirected : Bool) (most : ℕ) (ids : List ℤ) (s : List ℕ) where
     pub read-fits : arcCount undirected (length es) ≤ t
     read-fits =
         let l = leb-true (length (arcs undirected es)) t
-        (and-first (leb (length (arcs undirected es)) t) (leb (length (arcs undirected es)) t′) (taken .3)) in omega (arith, arc-count undirected es)
+        (and-first (leb (length (arcs undirected es)) t) (leb (length (arcs undirected es)) t′) (taken .3)) in
+        omega (arith, arc-count undirected es)
 
 -- ---- areas, by each
 filled-of : (n : ℕ) {m k : ℕ} {a b c d a′ b′ c′ d′ : List ℕ} → m ≡ k → a ≡ a′ → b ≡ b′ → c ≡ c′ → d ≡ d′
@@ -199,7 +205,8 @@ module _ (most : ℕ) (ids : List ℤ) (s : List ℕ) (lo lt li ls : ℕ) (rise 
     out-offsets = column-ext (start inward) (start (arcs true es)) (suc n) (λ v l. ap length (both-parts es v n (valid .fine)))
 
     pub undirected-lines : (i′ j′ : List ℕ) → n < li → i′ ≡ copied (n + 1) o i → j′ ≡ copied (m + m) t j
-        → gives (filled (record { vertices = n; arcs = m + m }) o t i′ j′) ≡ mapped (filledBy n lo lt li ls) (arcsRead true most ids s lt ls)
+        → gives (filled (record { vertices = n; arcs = m + m }) o t i′ j′)
+        ≡ mapped (filledBy n lo lt li ls) (arcsRead true most ids s lt ls)
     undirected-lines i′ j′ room ei ej =
         let a : i ≡ pad li (offsets es n) = ap (λ (y : Arranged). y .offsets) (given .2) in
         let b : j ≡ pad ls (parts es n) = ap (λ (y : Arranged). y .targets) (given .2) in

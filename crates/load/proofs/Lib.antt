@@ -1,6 +1,5 @@
 -- Laws of a load, and what it means.
 pub mod Valids
-pub mod Lookups
 pub mod Arranges
 pub mod Fills
 pub mod Loads

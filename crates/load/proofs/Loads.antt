@@ -1,36 +1,33 @@
 -- Laws of a whole load: from the vertex file and the edge file to the five areas. Assumes nothing.
 use Prim.Native.Nat.{ℕ, _-_, _≤_, _<_, min}
 use mathlib.Core.Path.{_≡_, refl, sym, ap, ap₂, subst, _∙_}
-use mathlib.Core.Bool.{Bool, true, false, cond, _&&_}
-use mathlib.Core.List.{List, [], _∷_}
+use mathlib.Core.Bool.{Bool, true, false, _&&_}
+use mathlib.Core.List.{List}
 use native.Mathlib.Omega.{arith}
 use borrow.Author.Tests.{le-leb, lt-leb, lt-ltb, le-ltb, leb-true, ltb-true}
 use lib.ListN.{length, take, replicate}
 use lib.Seq.{take-at, take-all}
 use lib.Dec.{eqb, leb, ltb}
 use lib.IntN.{ℤ, pos}
-use lib.Signed.{ltZ}
-use Rattle.basis.specs.Refusal.{Said, gives, refuses, plain, noRoom, unknownNumber, vertexFile, mapped}
+use Rattle.basis.specs.Refusal.{Said, gives, refuses, plain, noRoom, unknownNumber, mapped}
 use Rattle.basis.specs.declared.refusal.Refusal.{Refusal}
 use Rattle.basis.specs.Area.{padZ}
-use Rattle.basis.specs.Order.{aboveBy, risingZ}
-use Rattle.basis.proofs.Tests.{and-first, and-second, and-both, and-off, no-case}
+use Rattle.basis.specs.Order.{risingZ}
+use Rattle.basis.proofs.Tests.{and-first, and-second, and-off, no-case}
 use Rattle.basis.proofs.Saids.{mapped-gives, mapped-refuses}
-use Rattle.text.specs.Word.{identOf}
-use Rattle.text.specs.File.{first, after, Passes}
-use Rattle.text.proofs.Files.{file-accepted}
 use Rattle.graph.specs.declared.Size.{Size}
 use Rattle.graph.specs.Arcs.{Arc, arcs}
+use Rattle.lists.proofs.Accepts.{vertices-accepted}
 use Rattle.load.specs.declared.Limits.{Limits}
 use Rattle.load.specs.declared.Loaded.{Loaded}
 use Rattle.load.specs.declared.Loaded.the-variants as L
 use Rattle.lists.specs.declared.Listed.{Listed}
 use Rattle.lists.specs.declared.Listed.the-variants.{Lines, Refused}
-use Rattle.lists.specs.Files.{vertexTest, identifiers}
-use Rattle.lists.specs.Calls.{listedSays, Vertexes, vertexOutcome, idsArea, vertexCall}
-use Rattle.load.specs.Load.{Room, roomOf, vertexRoom, arcsRead, listsRead, loaded}
+use Rattle.lists.specs.Files.{identifiers}
+use Rattle.lists.specs.Calls.{listedSays, VerticesRead, vertexOutcome, idsArea, vertexCall}
+use Rattle.load.specs.Load.{Room, roomIn, vertexRoom, arcsRead, listsRead, loaded}
 use Rattle.load.specs.Load.{Outcome, outcome, outcomeOf, loadCall, library, capped}
-use Rattle.load.specs.Steps.{Blank, Filled, filled, filledBy, filledLeft, outcomeBy, outcomeLeft, Emptied}
+use Rattle.load.specs.Steps.{Storing, Filled, filled, filledBy, filledLeft, outcomeBy, filledLoad, outcomeLeft, Emptied}
 
 -- ---- places for identifiers and offsets
 module _ (n ids oo io : ℕ) where
@@ -46,26 +43,11 @@ module _ (n ids oo io : ℕ) where
   pub places-all : n ≤ ids → n < oo → n < io → true ≡ vertexRoom ids oo io n
   places-all h g k = rw (le-leb n ids h, lt-ltb n oo g, lt-ltb n io k)
 
--- ---- identifiers that were accepted rise
-pub test-rises : (y z : ℤ) → vertexTest (after y) z ≡ 0 → ltZ y z ≡ true
-test-rises y z h = go (ltZ y z) refl h
-  where
-    go : (t : Bool) → ltZ y z ≡ t → _≡_ {A = ℕ} (cond t 0 4) 0 → ltZ y z ≡ true
-    go true q h = q
-    go false q h = absurd (let o : ⊥ = omega arith in o)
-
-above-after : (y : ℤ) (l : List ℤ) → Passes vertexTest (after y) l → aboveBy ltZ y l ≡ true
-above-after y [] p = refl
-above-after y (z ∷ l) p = and-both (test-rises y z (p .0)) (above-after z l (p .1))
-
-pub ids-rise : (l : List ℤ) → Passes vertexTest first l → risingZ l ≡ true
-ids-rise [] p = refl
-ids-rise (z ∷ l) p = above-after z l (p .1)
-
 -- ---- from the areas of the arcs to all five
 module _ (room : Room) (ids : List ℤ) (a : List ℤ) (h : a ≡ padZ (room .ids) ids) where
   pub five-areas : (r : Loaded) (oo ot io is : List ℕ) (x : Said (List Arc))
-      → filledLeft r oo ot io is ≡ mapped (filledBy (length ids) (room .outOffsets) (room .outTargets) (room .inOffsets) (room .inSources)) x
+      → filledLeft r oo ot io is ≡ mapped (filledBy (length ids) (room .outOffsets) (room .outTargets) (room .inOffsets) (room .inSources))
+      x
       → outcomeLeft r a oo ot io is ≡ mapped (outcomeBy room) (mapped (λ l. record { ids = ids; arcs = l }) x)
   unfolding outcomeOf
   five-areas (L.Refused o) oo ot io is (gives l) e = no-case cc
@@ -85,10 +67,10 @@ module _ (room : Room) (ids : List ℤ) (a : List ℤ) (h : a ≡ padZ (room .id
 -- ---- the filling of five areas
 module _ (limits : Limits) (mode : ℕ) (v e : List ℕ) (ids : List ℤ) (oo ot io is : List ℕ) where
   abbrev room : Room
-  room = roomOf (length ids) (length oo) (length ot) (length io) (length is)
+  room = roomIn ids oo ot io is
 
   abbrev result : Said Outcome
-  result = mapped (outcomeBy room) (loaded limits mode room v e)
+  result = filledLoad limits mode room v e
 
   pub fill-mode : 1 < mode → (r : Refusal) → r ≡ plain unknownNumber → refuses r ≡ result
   unfolding loaded
@@ -97,7 +79,7 @@ module _ (limits : Limits) (mode : ℕ) (v e : List ℕ) (ids : List ℤ) (oo ot
   module _ (h : mode ≤ 1) (x : Listed) (a : List ℤ)
       (told : vertexOutcome (listedSays x) a ≡ vertexCall (limits .vertices) v (length ids)) where
     answered : (r : Said ℕ) → listedSays x ≡ r → r ≡ mapped length (identifiers (limits .vertices) v)
-    answered r q = sym q ∙ ap (λ (y : Vertexes). y .answer) told
+    answered r q = sym q ∙ ap (λ (y : VerticesRead). y .answer) told
 
     pub fill-refused : (r : Refusal) → x ≡ Refused r → refuses r ≡ result
     unfolding loaded listsRead
@@ -127,7 +109,7 @@ module _ (limits : Limits) (mode : ℕ) (v e : List ℕ) (ids : List ℤ) (oo ot
 
         padded : a ≡ padZ (length ids) list
         padded =
-            ap (λ (y : Vertexes). y .ids) told ∙ ap (idsArea (length ids)) (taken .1)
+            ap (λ (y : VerticesRead). y .ids) told ∙ ap (idsArea (length ids)) (taken .1)
             ∙ ap (padZ (length ids)) (take-all (length ids) list (let c = taken .2 in let g = fits in omega arith))
 
         front : take n a ≡ list
@@ -144,11 +126,11 @@ module _ (limits : Limits) (mode : ℕ) (v e : List ℕ) (ids : List ℤ) (oo ot
           lent-long : length b ≡ n
           lent-long = ap length lent ∙ sym (taken .2)
 
-          pub fill-blank : Blank b oo io
-          fill-blank =
+          pub fill-storing : Storing b oo io
+          fill-storing =
               record {
                 rise = subst (λ (l : List ℤ). risingZ l ≡ true) (sym lent)
-                    (ids-rise list (file-accepted identOf vertexFile (limits .vertices) vertexTest v list .0 (taken .1) .pass));
+                    (vertices-accepted (limits .vertices) v list .0 (taken .1) .rise);
                 places = let l = ltb-true n (length oo) (and-first (ltb n (length oo)) (ltb n (length io)) both-fit) in
                     omega (arith, lent-long);
                 backPlaces =
@@ -176,12 +158,10 @@ capped-both limits v e p q = cc
 -- ---- the whole call: filled, and cleared where it was refused
 module _ (limits : Limits) (mode : ℕ) (v e : List ℕ) (ids : List ℤ) (oo ot io is : List ℕ) (x : Loaded) (ids₁ : List ℤ)
     (oo₁ ot₁ io₁ is₁ : List ℕ)
-    (told : outcomeLeft x ids₁ oo₁ ot₁ io₁ is₁
-    ≡ mapped (outcomeBy (roomOf (length ids) (length oo) (length ot) (length io) (length is)))
-    (loaded limits mode (roomOf (length ids) (length oo) (length ot) (length io) (length is)) v e))
+    (told : outcomeLeft x ids₁ oo₁ ot₁ io₁ is₁ ≡ filledLoad limits mode (roomIn ids oo ot io is) v e)
     (most : Limits) (cap : limits ≡ most) where
   abbrev wide : Room
-  wide = roomOf (length ids) (length oo) (length ot) (length io) (length is)
+  wide = roomIn ids oo ot io is
 
   pub load-graph : (size : Size) → x ≡ L.Graph size → outcome (gives size) ids₁ oo₁ ot₁ io₁ is₁ ≡ loadCall most mode wide v e
   unfolding loadCall
@@ -196,6 +176,7 @@ module _ (limits : Limits) (mode : ℕ) (v e : List ℕ) (ids : List ℤ) (oo ot
       → outcome (refuses r) ids₂ oo₂ ot₂ io₂ is₂ ≡ loadCall most mode wide v e
   unfolding loadCall outcomeOf
   load-refused r q li loo lot lio lis ids₂ oo₂ ot₂ io₂ is₂ f =
-      let g = mapped-refuses (outcomeBy wide) (loaded limits mode wide v e) r (ap (λ y. outcomeLeft y ids₁ oo₁ ot₁ io₁ is₁) (sym q) ∙ told) in
+      let g = mapped-refuses (outcomeBy wide) (loaded limits mode wide v e) r
+      (ap (λ y. outcomeLeft y ids₁ oo₁ ot₁ io₁ is₁) (sym q) ∙ told) in
       rw (f .emptyIds, f .emptyOutOffsets, f .emptyOutTargets, f .emptyInOffsets, f .emptyInSources, li, loo, lot, lio, lis)
       (ap (outcomeOf wide) (sym g) ∙ ap (λ l. loadCall l mode wide v e) cap)

@@ -13,46 +13,34 @@ use lib.ListN.{length, getD, replicate}
 use lib.Seq.{take-at}
 use lib.Dec.{eqb, leb}
 use lib.IntN.{ℤ, pos}
-use Rattle.basis.specs.Refusal.{Said, gives, refuses, plain, noRoom, unknownNumber, vertexFile, edgeFile, onward, mapped, check}
+use Rattle.basis.specs.Refusal.{Said, gives, refuses, plain, noRoom, unknownNumber, onward, mapped, check}
 use Rattle.basis.specs.declared.refusal.Refusal.{Refusal}
 use Rattle.basis.specs.Area.{padZ}
+use Rattle.basis.specs.Limits.{mostVertices, mostEdges}
 use Rattle.basis.specs.Order.{sameZ, risingZ}
 use Rattle.basis.specs.Scan.{each, mem}
 use Rattle.basis.proofs.Tests.{and-first, and-second, and-both, eqb-swap, and-swap}
 use Rattle.basis.proofs.Saids.{refused-given, onward-refused, mapped-refuses}
 use Rattle.basis.proofs.Areas.{pad-length}
 use Rattle.basis.proofs.Orders.{signed-order, same-places}
-use Rattle.text.specs.Word.{identOf}
-use Rattle.text.specs.Line.{twoOf}
-use Rattle.text.specs.File.{FirstFault}
-use Rattle.text.proofs.Files.{file-refused}
 use Rattle.graph.specs.Arcs.{Arc, arcs}
 use Rattle.graph.specs.Find.{placeIn, isThere}
 use Rattle.graph.specs.Sound.{Graph, outward, inward, soundIds, soundGraph, Undirected}
 use Rattle.store.proofs.Fits.{arc-count}
 use Rattle.store.proofs.Order.{Valid}
 use Rattle.store.proofs.Meaning.{hasArc, storedGraph, stored-sound, stored-outward, stored-inward}
+use Rattle.lists.proofs.Accepts.{vertices-accepted, edges-accepted, vertices-refused, edges-refused}
+use Rattle.lists.proofs.Lookups.{length-numbered, there}
+use Rattle.lists.specs.Good.{GoodVertices, GoodEdges, hasEdge, listsArc}
 use Rattle.load.specs.declared.Limits.{Limits}
-use Rattle.lists.specs.Files.{vertexTest, identifiers, numberOf, edgeTest, edgesOf, numbered, allNumbered}
-use Rattle.load.specs.Load.{Lists, Room, isUndirected, vertexRoom, arcRoom, withRoom, arcsRead}
+use Rattle.lists.specs.Files.{identifiers, vertexNumber, edgesOf, numbered, allNumbered}
+use Rattle.load.specs.Load.{Lists, Room, isUndirected, placesFor, arcRoom, withRoom, listedArcs, arcsRead}
 use Rattle.load.specs.Load.{listsRead, sizeOf, loaded, Outcome, outcomeOf, loadCall, capped}
 use Rattle.store.specs.Spread.{arcCount}
-use Rattle.load.specs.Good.{GoodVertices, GoodEdges, GoodLoad, RefusedLoad, unknownMode}
-use Rattle.load.specs.Good.{vertexFault, noPlaces, edgeFault, noArcs, hasEdge, listsArc, graphLeft}
-use Rattle.load.proofs.Valids.{there, valid-file}
-use Rattle.load.proofs.Arranges.{length-numbered}
-use Rattle.load.proofs.Accepts.{vertices-accepted, edges-accepted, load-accepted}
-
--- ---- a refused file
--- a vertex file is refused exactly at its first fault, said of its bytes
-pub vertices-refused : (most : ℕ) (s : List ℕ) (r : Refusal)
-    → (identifiers most s ≡ refuses r) ↔ FirstFault identOf vertexFile most vertexTest s r
-vertices-refused most s r = file-refused identOf vertexFile most vertexTest s r
-
--- an edge file is refused exactly at its first fault, said of its bytes
-pub edges-refused : (undirected : Bool) (most : ℕ) (ids : List ℤ) (s : List ℕ) (r : Refusal)
-    → (edgesOf undirected most (placeIn ids) s ≡ refuses r) ↔ FirstFault (twoOf identOf identOf) edgeFile most (edgeTest undirected (placeIn ids)) s r
-edges-refused undirected most ids s r = file-refused (twoOf identOf identOf) edgeFile most (edgeTest undirected (placeIn ids)) s r
+use Rattle.load.specs.Good.{GoodLoad, RefusedLoad, unknownMode}
+use Rattle.load.specs.Good.{vertexFault, noPlaces, edgeFault, noArcs, graphLeft}
+use Rattle.load.proofs.Valids.{valid-file}
+use Rattle.load.proofs.Accepts.{load-accepted}
 
 -- ---- a refused load
 room-refused : {A : Type 0} (t : Bool) (x : A) (r : Refusal) → withRoom t x ≡ refuses r → (t ≡ false) × (r ≡ plain noRoom)
@@ -63,14 +51,8 @@ module _ (limits : Limits) (mode : ℕ) (room : Room) (vertices edges : List ℕ
   abbrev Why : Type 0
   Why = RefusedLoad limits mode room vertices edges r
 
-  abbrev hasPlaces : List ℤ → Bool
-  hasPlaces ids = vertexRoom (room .ids) (room .outOffsets) (room .inOffsets) (length ids)
-
-  abbrev arcsOf : List ℤ → List (ℤ × ℤ) → List Arc
-  arcsOf ids list = arcs (isUndirected mode) (allNumbered (placeIn ids) list)
-
   abbrev hasArcs : List ℤ → List (ℤ × ℤ) → Bool
-  hasArcs ids list = arcRoom (room .outTargets) (room .inSources) (length (arcsOf ids list))
+  hasArcs ids list = arcRoom (room .outTargets) (room .inSources) (length (listedArcs (isUndirected mode) ids list))
 
   abbrev edgesSaid : List ℤ → Said (List (ℤ × ℤ))
   edgesSaid ids = edgesOf (isUndirected mode) (limits .edges) (placeIn ids) edges
@@ -82,18 +64,18 @@ module _ (limits : Limits) (mode : ℕ) (room : Room) (vertices edges : List ℕ
   listsSaid ids = mapped (λ l. record { ids = ids; arcs = l }) (arcsSaid ids)
 
   module _ (m : mode ≤ 1) (ids : List ℤ) (v : GoodVertices (limits .vertices) vertices ids) where
-    from-edges : hasPlaces ids ≡ true → arcsSaid ids ≡ refuses r → Why
+    from-edges : placesFor room ids ≡ true → arcsSaid ids ≡ refuses r → Why
     unfolding arcsRead
     from-edges p e = by (onward-refused (edgesSaid ids) _ r e)
       where
         by : (edgesSaid ids ≡ refuses r) ⊎ ((list : List (ℤ × ℤ)) × (edgesSaid ids ≡ gives list)
-            × (withRoom (hasArcs ids list) (arcsOf ids list) ≡ refuses r)) → Why
+            × (withRoom (hasArcs ids list) (listedArcs (isUndirected mode) ids list) ≡ refuses r)) → Why
         by (inl f) = edgeFault m ids v p (edges-refused (isUndirected mode) (limits .edges) ids edges r .0 f)
         by (inr k) =
-            let w = room-refused (hasArcs ids (k .0)) (arcsOf ids (k .0)) r (k .2) in
+            let w = room-refused (hasArcs ids (k .0)) (listedArcs (isUndirected mode) ids (k .0)) r (k .2) in
             noArcs m ids v p (k .0) (edges-accepted (isUndirected mode) (limits .edges) ids edges (k .0) .0 (k .1)) (w .0) (w .1)
 
-    from-places : (t : Bool) → hasPlaces ids ≡ t → onward (withRoom t ids) listsSaid ≡ refuses r → Why
+    from-places : (t : Bool) → placesFor room ids ≡ t → onward (withRoom t ids) listsSaid ≡ refuses r → Why
     from-places true p e = from-edges p (mapped-refuses (λ l. record { ids = ids; arcs = l }) (arcsSaid ids) r (sym e))
     from-places false p e = noPlaces m ids v p (cc)
 
@@ -108,9 +90,9 @@ module _ (limits : Limits) (mode : ℕ) (room : Room) (vertices edges : List ℕ
 
       by : (identifiers (limits .vertices) vertices ≡ refuses r)
           ⊎ ((ids : List ℤ) × (identifiers (limits .vertices) vertices ≡ gives ids)
-          × (onward (withRoom (hasPlaces ids) ids) listsSaid ≡ refuses r)) → Why
+          × (onward (withRoom (placesFor room ids) ids) listsSaid ≡ refuses r)) → Why
       by (inl f) = vertexFault m (vertices-refused (limits .vertices) vertices r .0 f)
-      by (inr k) = from-places m (k .0) (vertices-accepted (limits .vertices) vertices (k .0) .0 (k .1)) (hasPlaces (k .0)) refl (k .2)
+      by (inr k) = from-places m (k .0) (vertices-accepted (limits .vertices) vertices (k .0) .0 (k .1)) (placesFor room (k .0)) refl (k .2)
 
   why-refused : Why → loaded limits mode room vertices edges ≡ refuses r
   unfolding loaded listsRead arcsRead
@@ -150,10 +132,11 @@ module _ (ids : List ℤ) (rise : risingZ ids ≡ true) (u w : ℕ) (hu : u < le
   abbrev name : ℕ → ℤ
   name v = getD ids v (pos 0)
 
-  same-first : (id : ℤ) (v : ℕ) → v < length ids → isThere (placeIn ids id) ≡ true → sameZ id (name v) ≡ eqb (numberOf (placeIn ids id)) v
+  same-first : (id : ℤ) (v : ℕ) → v < length ids → isThere (placeIn ids id) ≡ true
+      → sameZ id (name v) ≡ eqb (vertexNumber (placeIn ids id)) v
   same-first id v h t =
       let p = there ids rise id t in
-      rw (p .1) at (same-places signed-order (pos 0) ids rise (numberOf (placeIn ids id)) v (p .0) h)
+      rw (p .1) at (same-places signed-order (pos 0) ids rise (vertexNumber (placeIn ids id)) v (p .0) h)
 
   same-edge : (e : ℤ × ℤ) → isThere (placeIn ids (e .0)) ≡ true → isThere (placeIn ids (e .1)) ≡ true
       → (eqb (numbered (placeIn ids) e .0) u && eqb w (numbered (placeIn ids) e .1)) ≡ (sameZ (e .0) (name u) && sameZ (e .1) (name w))
@@ -252,15 +235,16 @@ module _ (limits : Limits) (mode : ℕ) (room : Room) (vertices edges : List ℕ
   in-fits : length (arcs undirected es) ≤ room .inSources
   in-fits = rw (← ok .arcsAre) (ok .inSourcesFit)
 
-  sound-within : limits .vertices ≤ 65536 → limits .edges ≤ 1048576 → soundGraph graph ≡ true
+  sound-within : limits .vertices ≤ mostVertices → limits .edges ≤ mostEdges → soundGraph graph ≡ true
   sound-within a b =
       let e = ok .goodEdges .few in
       let v = ok .goodVertices .few in
       let c = arc-count undirected es in
       let d = edges-few undirected (length es) in
-      let k = length-numbered (g .ids) (ok .list) in
+      let k = length-numbered (placeIn (g .ids)) (ok .list) in
       ap soundGraph left-stored
-      ∙ stored-sound undirected (length (g .ids)) es valid (padZ (room .ids) (g .ids)) (room .outOffsets) (room .outTargets) (room .inOffsets)
+      ∙ stored-sound undirected (length (g .ids)) es valid (padZ (room .ids) (g .ids)) (room .outOffsets) (room .outTargets)
+      (room .inOffsets)
       (room .inSources)
       (ok .outOffsetsFit) out-fits (ok .inOffsetsFit) in-fits sound-ids (omega arith) (omega arith)
 
@@ -276,7 +260,8 @@ module _ (limits : Limits) (mode : ℕ) (room : Room) (vertices edges : List ℕ
       → mem w (outward graph u) ≡ listsArc undirected list (getD (g .ids) u (pos 0)) (getD (g .ids) w (pos 0))
   load-outward list fine u w hu hw =
       ap (λ (x : Graph). mem w (outward x u)) left-stored
-      ∙ stored-outward undirected (length (g .ids)) es valid (padZ (room .ids) (g .ids)) (room .outOffsets) (room .outTargets) (room .inOffsets)
+      ∙ stored-outward undirected (length (g .ids)) es valid (padZ (room .ids) (g .ids)) (room .outOffsets) (room .outTargets)
+      (room .inOffsets)
       (room .inSources)
       (ok .outOffsetsFit) out-fits (ok .inOffsetsFit) in-fits u w hu
       ∙ has-listed (g .ids) (ok .goodVertices .rise) u w hu hw undirected (ok .list) (ok .goodEdges .there)
@@ -287,7 +272,8 @@ module _ (limits : Limits) (mode : ℕ) (room : Room) (vertices edges : List ℕ
       → mem u (inward graph w) ≡ listsArc undirected list (getD (g .ids) u (pos 0)) (getD (g .ids) w (pos 0))
   load-inward list fine u w hu hw =
       ap (λ (x : Graph). mem u (inward x w)) left-stored
-      ∙ stored-inward undirected (length (g .ids)) es valid (padZ (room .ids) (g .ids)) (room .outOffsets) (room .outTargets) (room .inOffsets)
+      ∙ stored-inward undirected (length (g .ids)) es valid (padZ (room .ids) (g .ids)) (room .outOffsets) (room .outTargets)
+      (room .inOffsets)
       (room .inSources)
       (ok .outOffsetsFit) out-fits (ok .inOffsetsFit) in-fits u w hw
       ∙ has-listed (g .ids) (ok .goodVertices .rise) u w hu hw undirected (ok .list) (ok .goodEdges .there)

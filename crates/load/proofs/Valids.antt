@@ -1,99 +1,47 @@
 -- The edges of an accepted file are valid as edges between vertex numbers: what order and lookup say of identifiers, said of numbers.
 -- Assumes nothing.
-use Prim.Native.Nat.{ℕ, _<_}
+use Prim.Native.Nat.{ℕ}
 use mathlib.Core.Path.{_≡_, refl, sym, _∙_}
-use mathlib.Core.Bool.{Bool, true, false, cond, _&&_, _||_}
+use mathlib.Core.Bool.{Bool, true, false, _&&_, _||_}
 use mathlib.Core.List.{List, [], _∷_}
 use native.Mathlib.Omega.{arith}
 use borrow.Author.Tests.{ltb-true, ltb-false, eqb-true, eqb-false}
-use lib.ListN.{length, getD}
+use lib.ListN.{length}
 use lib.Dec.{ltb, eqb}
-use lib.IntN.{ℤ, pos}
-use lib.Signed.{ltZ}
+use lib.IntN.{ℤ}
 use Rattle.basis.specs.Refusal.{gives, edgeFile}
-use Rattle.basis.specs.Order.{sameZ, risingZ}
+use Rattle.basis.specs.Order.{risingZ}
 use Rattle.basis.proofs.Tests.{clash}
-use Rattle.basis.proofs.Orders.{signed-order, less-places, same-places}
 use Rattle.text.specs.Word.{identOf}
 use Rattle.text.specs.Line.{twoOf}
 use Rattle.text.specs.File.{Before, first, after, Passes}
 use Rattle.text.proofs.Files.{file-accepted}
 use Rattle.graph.specs.Arcs.{Arc}
-use Rattle.graph.specs.Find.{placeIn, isThere}
-use Rattle.graph.specs.declared.find.Found.{Found}
-use Rattle.graph.specs.declared.find.Found.the-variants.{At, Missing}
-use Rattle.graph.proofs.Finds.{place-at}
+use Rattle.graph.specs.Find.{placeIn}
 use Rattle.store.proofs.Order.{Fine, Smaller, Lex, Valid, lex-cons}
-use Rattle.lists.specs.Files.{isAbove, numberOf, edgeTest, edgesOf, numbered, allNumbered}
+use Rattle.lists.specs.Files.{edgeTest, edgesOf, numbered, allNumbered}
+use Rattle.lists.proofs.Lookups.{there, less-numbers, same-numbers}
+use Rattle.lists.proofs.Accepts.{Tested, test-passed}
 
--- ---- what the test of an edge says
-pub record Tested (undirected : Bool) (ids : List ℤ) (before : Before (ℤ × ℤ)) (e : ℤ × ℤ) : Type 0 where
-  pub apart : sameZ (e .0) (e .1) ≡ false
-  pub smaller : (undirected && ltZ (e .1) (e .0)) ≡ false
-  pub above : isAbove before e ≡ true
-  pub from : isThere (placeIn ids (e .0)) ≡ true
-  pub to : isThere (placeIn ids (e .1)) ≡ true
-
-pub test-passed : (undirected : Bool) (ids : List ℤ) (before : Before (ℤ × ℤ)) (e : ℤ × ℤ) → edgeTest undirected (placeIn ids) before e ≡ 0
-    → Tested undirected ids before e
-unfolding edgeTest
-test-passed undirected ids before e h =
-    go (sameZ (e .0) (e .1)) (undirected && ltZ (e .1) (e .0)) (isAbove before e) (isThere (placeIn ids (e .0))) (isThere (placeIn ids (e .1)))
-    refl refl refl refl refl h
-  where
-    go : (p q r x y : Bool) → sameZ (e .0) (e .1) ≡ p → (undirected && ltZ (e .1) (e .0)) ≡ q → isAbove before e ≡ r
-        → isThere (placeIn ids (e .0)) ≡ x → isThere (placeIn ids (e .1)) ≡ y
-        → _≡_ {A = ℕ} (cond p 5 (cond q 6 (cond r (cond (x && y) 0 7) 4))) 0 → Tested undirected ids before e
-    go true q r x y a b c d f h = absurd (let z : ⊥ = omega arith in z)
-    go false true r x y a b c d f h = absurd (let z : ⊥ = omega arith in z)
-    go false false false x y a b c d f h = absurd (let z : ⊥ = omega arith in z)
-    go false false true false y a b c d f h = absurd (let z : ⊥ = omega arith in z)
-    go false false true true false a b c d f h = absurd (let z : ⊥ = omega arith in z)
-    go false false true true true a b c d f h = record { apart = a; smaller = b; above = c; from = d; to = f }
-
-pub passed-test : (undirected : Bool) (ids : List ℤ) (before : Before (ℤ × ℤ)) (e : ℤ × ℤ) → Tested undirected ids before e
-    → edgeTest undirected (placeIn ids) before e ≡ 0
-unfolding edgeTest
-passed-test undirected ids before e t = rw (t .apart, t .smaller, t .above, t .from, t .to)
-
--- ---- identifiers that rise, and the numbers of those that are there
+-- ---- of an edge, and of an edge after another
 module _ (ids : List ℤ) (rise : risingZ ids ≡ true) where
-  pub there : (id : ℤ) → isThere (placeIn ids id) ≡ true
-      → (numberOf (placeIn ids id) < length ids) × (getD ids (numberOf (placeIn ids id)) (pos 0) ≡ id)
-  there id h = go (placeIn ids id) refl h
-    where
-      go : (x : Found) → placeIn ids id ≡ x → isThere x ≡ true → (numberOf x < length ids) × (getD ids (numberOf x) (pos 0) ≡ id)
-      go (At i) q h = place-at ids id rise i .0 q
-      go Missing q h = clash h refl
-
-  module _ (a b : ℤ) (ha : isThere (placeIn ids a) ≡ true) (hb : isThere (placeIn ids b) ≡ true) where
-    pub less-numbers : ltZ a b ≡ ltb (numberOf (placeIn ids a)) (numberOf (placeIn ids b))
-    less-numbers =
-        let p = there a ha in let q = there b hb in
-        rw (p .1, q .1) at (less-places signed-order (pos 0) ids rise (numberOf (placeIn ids a)) (numberOf (placeIn ids b)) (p .0) (q .0))
-
-    pub same-numbers : sameZ a b ≡ eqb (numberOf (placeIn ids a)) (numberOf (placeIn ids b))
-    same-numbers =
-        let p = there a ha in let q = there b hb in
-        rw (p .1, q .1) at (same-places signed-order (pos 0) ids rise (numberOf (placeIn ids a)) (numberOf (placeIn ids b)) (p .0) (q .0))
-
-  -- ---- of an edge, and of an edge after another
   module _ (undirected : Bool) where
     pub fine-edge : (before : Before (ℤ × ℤ)) (e : ℤ × ℤ) → Tested undirected ids before e → Fine (length ids) (numbered (placeIn ids) e)
     fine-edge before e t =
         record {
-          source = there (e .0) (t .from) .0;
-          target = there (e .1) (t .to) .0;
+          source = there ids rise (e .0) (t .from) .0;
+          target = there ids rise (e .1) (t .to) .0;
           apart = eqb-false (numbered (placeIn ids) e .0) (numbered (placeIn ids) e .1)
-              (sym (same-numbers (e .0) (e .1) (t .from) (t .to)) ∙ t .apart);
+              (sym (same-numbers ids rise (e .0) (e .1) (t .from) (t .to)) ∙ t .apart);
         }
 
-  small-edge : (undirected : Bool) (before : Before (ℤ × ℤ)) (e : ℤ × ℤ) → Tested undirected ids before e → Smaller undirected (numbered (placeIn ids) e)
+  small-edge : (undirected : Bool) (before : Before (ℤ × ℤ)) (e : ℤ × ℤ) → Tested undirected ids before e
+      → Smaller undirected (numbered (placeIn ids) e)
   small-edge false before e t = tt
   small-edge true before e t =
       let f = fine-edge true before e t .apart in
       let l = ltb-false (numbered (placeIn ids) e .1) (numbered (placeIn ids) e .0)
-      (sym (less-numbers (e .1) (e .0) (t .to) (t .from)) ∙ t .smaller) in
+      (sym (less-numbers ids rise (e .1) (e .0) (t .to) (t .from)) ∙ t .smaller) in
       omega arith
 
   lex-of : (d e : Arc) → (ltb (d .0) (e .0) || (eqb (d .0) (e .0) && ltb (d .1) (e .1))) ≡ true → Lex d e
@@ -111,9 +59,9 @@ module _ (ids : List ℤ) (rise : risingZ ids ≡ true) where
     lex-edge c d e s t =
         lex-of (numbered (placeIn ids) d) (numbered (placeIn ids) e)
         (rw (
-          less-numbers (d .0) (e .0) (s .from) (t .from),
-          same-numbers (d .0) (e .0) (s .from) (t .from),
-          less-numbers (d .1) (e .1) (s .to) (t .to),
+          less-numbers ids rise (d .0) (e .0) (s .from) (t .from),
+          same-numbers ids rise (d .0) (e .0) (s .from) (t .from),
+          less-numbers ids rise (d .1) (e .1) (s .to) (t .to),
         ) at (t .above))
 
     valid-edges : (before : Before (ℤ × ℤ)) (es : List (ℤ × ℤ)) → Passes (edgeTest undirected (placeIn ids)) before es

@@ -1,5 +1,5 @@
 -- 01 "Lists", "The loaded graph": what a load answers, and what stands in the five areas then.
-use Prim.Native.Nat.{ℕ, min}
+use Prim.Native.Nat.{ℕ, _+_, min}
 use mathlib.Core.Bool.{Bool, _&&_}
 use mathlib.Core.List.{List}
 use lib.IntN.{ℤ, pos}
@@ -46,23 +46,32 @@ vertexRoom ids oo io n = leb n ids && (ltb n oo && ltb n io)
 abbrev pub arcRoom : ℕ → ℕ → ℕ → Bool
 arcRoom t t′ m = leb m t && leb m t′
 
+-- room in the lent areas for a list of identifiers and their offsets
+abbrev pub placesFor : Room → List ℤ → Bool
+placesFor room ids = vertexRoom (room .ids) (room .outOffsets) (room .inOffsets) (length ids)
+
 -- what is given where there is room enough
 abbrev pub withRoom : {A : Type 0} → Bool → A → Said A
 withRoom enough x = check enough noRoom (gives x)
+
+-- the arcs of a list of edges over the given identifiers, by the numbers of their vertices
+abbrev pub listedArcs : Bool → List ℤ → List (ℤ × ℤ) → List Arc
+listedArcs undirected ids es = arcs undirected (allNumbered (placeIn ids) es)
 
 -- the arcs of an edge file over the given identifiers, if there is room for them
 unfoldable pub arcsRead : Bool → ℕ → List ℤ → List ℕ → ℕ → ℕ → Said (List Arc)
 arcsRead undirected most ids s t t′ =
     onward (edgesOf undirected most (placeIn ids) s)
-    (λ es. withRoom (arcRoom t t′ (length (arcs undirected (allNumbered (placeIn ids) es)))) (arcs undirected (allNumbered (placeIn ids) es)))
+    (λ es. withRoom (arcRoom t t′ (length (listedArcs undirected ids es))) (listedArcs undirected ids es))
 
--- "the vertex file line by line (1, 2, 3, 4); room for identifiers (n places) and offsets (n+1 places each way); the edge file line by line (1, 2, 3, 5, 6, 4, 7);
--- room for the arcs each way"
+-- "the vertex file line by line (1, 2, 3, 4); room for identifiers (n places) and offsets (n+1 places each way); the edge file line by line
+-- (1, 2, 3, 5, 6, 4, 7); room for the arcs each way"
 unfoldable pub listsRead : Limits → Bool → Room → List ℕ → List ℕ → Said Lists
 listsRead limits undirected room vertices edges =
     onward (identifiers (limits .vertices) vertices)
-    (λ ids. onward (withRoom (vertexRoom (room .ids) (room .outOffsets) (room .inOffsets) (length ids)) ids)
-    (λ ids. mapped (λ l. record { ids = ids; arcs = l }) (arcsRead undirected (limits .edges) ids edges (room .outTargets) (room .inSources))))
+    (λ ids. onward (withRoom (placesFor room ids) ids)
+    (λ ids. mapped (λ l. record { ids = ids; arcs = l })
+    (arcsRead undirected (limits .edges) ids edges (room .outTargets) (room .inSources))))
 
 -- "the mode (12)" before all
 unfoldable pub loaded : Limits → ℕ → Room → List ℕ → List ℕ → Said Lists
@@ -86,11 +95,16 @@ outcome answer ids oo ot io is = record { answer = answer; ids = ids; outOffsets
 abbrev pub roomOf : ℕ → ℕ → ℕ → ℕ → ℕ → Room
 roomOf ids oo ot io is = record { ids = ids; outOffsets = oo; outTargets = ot; inOffsets = io; inSources = is }
 
--- how large the graph is
+-- the room of five areas: how many places each has
+abbrev pub roomIn : List ℤ → List ℕ → List ℕ → List ℕ → List ℕ → Room
+roomIn ids oo ot io is = roomOf (length ids) (length oo) (length ot) (length io) (length is)
+
+-- how large the graph is that two files say
 abbrev pub sizeOf : Lists → Size
 sizeOf g = record { vertices = length (g .ids); arcs = length (g .arcs) }
 
--- the outcome of what two files say: a refusal fills "every area lent for writing with zero", and after success "places beyond the ones used are zero"
+-- the outcome of what two files say: a refusal fills "every area lent for writing with zero", and after success "places beyond the ones
+-- used are zero"
 unfoldable pub outcomeOf : Room → Said Lists → Outcome
 outcomeOf room g =
     outcome (mapped sizeOf g) (areaOf (pos 0) (room .ids) (λ g. g .ids) g)
@@ -115,6 +129,10 @@ capped limits = record { vertices = min (limits .vertices) (library .vertices); 
 abbrev pub desk : Limits
 desk = record { vertices = deskVertices; edges = deskEdges }
 
--- areas for a graph within them: 1,024 identifiers, then 1,025 offsets and 4,096 arcs outward, two for each edge, then as many inward
+-- the most arcs within them: two for each edge
+abbrev pub deskArcs : ℕ
+deskArcs = deskEdges + deskEdges
+
+-- areas for a graph within them: the identifiers, then the offsets and the arcs outward, then as many inward
 abbrev pub deskRoom : Room
-deskRoom = roomOf 1024 1025 4096 1025 4096
+deskRoom = roomOf deskVertices (deskVertices + 1) deskArcs (deskVertices + 1) deskArcs

@@ -1,4 +1,4 @@
-// The edges of a file in the four areas of a graph, outward and inward.
+// The graph of two files in five areas: the identifiers as they are read, then the edges, outward and inward.
 use crate::Limits;
 use crate::Loaded;
 use basis::Refusal;
@@ -14,10 +14,8 @@ use store::spread::spread;
 use store::sums::sum_up;
 ghost use mathlib.Core.Path.{_≡_};
 ghost use mathlib.Core.Bool.{true, false};
-ghost use lib.ListN.{length};
-ghost use Rattle.basis.specs.Refusal.{mapped};
-ghost use Rattle.load.specs.Load.{vertexRoom, roomOf, arcsRead, loaded};
-ghost use Rattle.load.specs.Steps.{edgesRead, arrangedBy, arrangedLeft, Blank, filledBy, filledLeft, outcomeBy, outcomeLeft};
+ghost use Rattle.load.specs.Load.{vertexRoom, roomIn};
+ghost use Rattle.load.specs.Steps.{Storing, arrangedCall, arrangedLeft, filledCall, filledLeft, filledLoad, outcomeLeft};
 
 // The edges of a file: stored by their first ends in one pair of areas as they are read, and their arcs the other way in the other pair.
 fn arrange(
@@ -30,8 +28,11 @@ fn arrange(
     back: &mut [usize],
     sources: &mut [usize],
 ) -> Listed
-    requires { ⌜ Blank (now ids) (now offsets) (now back) ⌝ }
-    ensures { λ r. ⌜ arrangedLeft r (now (offsets .exit)) (now (targets .exit)) (now (back .exit)) (now (sources .exit)) ≡ mapped (arrangedBy undirected (length (now (ids .entry))) (length (now (offsets .entry))) (length (now (targets .entry))) (length (now (back .entry))) (length (now (sources .entry)))) (edgesRead undirected most (now (ids .entry)) (now (s .entry)) (length (now (targets .entry))) (length (now (sources .entry)))) ⌝ }
+    requires { ⌜ Storing (now ids) (now offsets) (now back) ⌝ }
+    ensures { λ r. ⌜
+        arrangedLeft r (now (offsets .exit)) (now (targets .exit)) (now (back .exit)) (now (sources .exit))
+        ≡ arrangedCall undirected most (now (ids .entry)) (now (s .entry))
+        (now (offsets .entry)) (now (targets .entry)) (now (back .entry)) (now (sources .entry)) ⌝ }
 {
     let n = ids.len();
     let listed = read_edges(s, most, undirected, ids, offsets, targets);
@@ -61,8 +62,11 @@ fn fill_directed(
     in_offsets: &mut [usize],
     in_sources: &mut [usize],
 ) -> Loaded
-    requires { ⌜ Blank (now ids) (now «out_offsets») (now «in_offsets») ⌝ }
-    ensures { λ r. ⌜ filledLeft r (now («out_offsets» .exit)) (now («out_targets» .exit)) (now («in_offsets» .exit)) (now («in_sources» .exit)) ≡ mapped (filledBy (length (now (ids .entry))) (length (now («out_offsets» .entry))) (length (now («out_targets» .entry))) (length (now («in_offsets» .entry))) (length (now («in_sources» .entry)))) (arcsRead false most (now (ids .entry)) (now (s .entry)) (length (now («out_targets» .entry))) (length (now («in_sources» .entry)))) ⌝ }
+    requires { ⌜ Storing (now ids) (now «out_offsets») (now «in_offsets») ⌝ }
+    ensures { λ r. ⌜
+        filledLeft r (now («out_offsets» .exit)) (now («out_targets» .exit)) (now («in_offsets» .exit)) (now («in_sources» .exit))
+        ≡ filledCall false most (now (ids .entry)) (now (s .entry))
+        (now («out_offsets» .entry)) (now («out_targets» .entry)) (now («in_offsets» .entry)) (now («in_sources» .entry)) ⌝ }
 {
     let n = ids.len();
     let listed = arrange(
@@ -94,8 +98,11 @@ fn fill_undirected(
     in_offsets: &mut [usize],
     in_sources: &mut [usize],
 ) -> Loaded
-    requires { ⌜ Blank (now ids) (now «out_offsets») (now «in_offsets») ⌝ }
-    ensures { λ r. ⌜ filledLeft r (now («out_offsets» .exit)) (now («out_targets» .exit)) (now («in_offsets» .exit)) (now («in_sources» .exit)) ≡ mapped (filledBy (length (now (ids .entry))) (length (now («out_offsets» .entry))) (length (now («out_targets» .entry))) (length (now («in_offsets» .entry))) (length (now («in_sources» .entry)))) (arcsRead true most (now (ids .entry)) (now (s .entry)) (length (now («out_targets» .entry))) (length (now («in_sources» .entry)))) ⌝ }
+    requires { ⌜ Storing (now ids) (now «out_offsets») (now «in_offsets») ⌝ }
+    ensures { λ r. ⌜
+        filledLeft r (now («out_offsets» .exit)) (now («out_targets» .exit)) (now («in_offsets» .exit)) (now («in_sources» .exit))
+        ≡ filledCall true most (now (ids .entry)) (now (s .entry))
+        (now («out_offsets» .entry)) (now («out_targets» .entry)) (now («in_offsets» .entry)) (now («in_sources» .entry)) ⌝ }
 {
     let n = ids.len();
     let listed = arrange(
@@ -130,8 +137,11 @@ fn store_edges(
     in_offsets: &mut [usize],
     in_sources: &mut [usize],
 ) -> Loaded
-    requires { ⌜ Blank (now ids) (now «out_offsets») (now «in_offsets») ⌝ }
-    ensures { λ r. ⌜ filledLeft r (now («out_offsets» .exit)) (now («out_targets» .exit)) (now («in_offsets» .exit)) (now («in_sources» .exit)) ≡ mapped (filledBy (length (now (ids .entry))) (length (now («out_offsets» .entry))) (length (now («out_targets» .entry))) (length (now («in_offsets» .entry))) (length (now («in_sources» .entry)))) (arcsRead undirected most (now (ids .entry)) (now (s .entry)) (length (now («out_targets» .entry))) (length (now («in_sources» .entry)))) ⌝ }
+    requires { ⌜ Storing (now ids) (now «out_offsets») (now «in_offsets») ⌝ }
+    ensures { λ r. ⌜
+        filledLeft r (now («out_offsets» .exit)) (now («out_targets» .exit)) (now («in_offsets» .exit)) (now («in_sources» .exit))
+        ≡ filledCall undirected most (now (ids .entry)) (now (s .entry))
+        (now («out_offsets» .entry)) (now («out_targets» .entry)) (now («in_offsets» .entry)) (now («in_sources» .entry)) ⌝ }
 {
     if undirected {
         return fill_undirected(
@@ -183,7 +193,13 @@ pub(crate) fn fill(
     in_offsets: &mut [usize],
     in_sources: &mut [usize],
 ) -> Loaded
-    ensures { λ r. ⌜ outcomeLeft r (now (ids .exit)) (now («out_offsets» .exit)) (now («out_targets» .exit)) (now («in_offsets» .exit)) (now («in_sources» .exit)) ≡ mapped (outcomeBy (roomOf (length (now (ids .entry))) (length (now («out_offsets» .entry))) (length (now («out_targets» .entry))) (length (now («in_offsets» .entry))) (length (now («in_sources» .entry))))) (loaded limits mode (roomOf (length (now (ids .entry))) (length (now («out_offsets» .entry))) (length (now («out_targets» .entry))) (length (now («in_offsets» .entry))) (length (now («in_sources» .entry)))) (now (vertices .entry)) (now (edges .entry))) ⌝ }
+    ensures { λ r. ⌜
+        outcomeLeft r (now (ids .exit)) (now («out_offsets» .exit)) (now («out_targets» .exit)) (now («in_offsets» .exit))
+        (now («in_sources» .exit))
+        ≡ filledLoad limits mode
+        (roomIn (now (ids .entry)) (now («out_offsets» .entry)) (now («out_targets» .entry)) (now («in_offsets» .entry))
+        (now («in_sources» .entry)))
+        (now (vertices .entry)) (now (edges .entry)) ⌝ }
 {
     if 1 < mode {
         return Loaded::Refused(Refusal::plain(UNKNOWN_NUMBER));

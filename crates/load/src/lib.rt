@@ -11,8 +11,7 @@ use basis::limits::MOST_VERTICES;
 use basis::order::lesser;
 use graph::Size;
 ghost use mathlib.Core.Path.{_≡_};
-ghost use lib.ListN.{length};
-ghost use Rattle.load.specs.Load.{says, roomOf, outcome, loadCall, library, capped};
+ghost use Rattle.load.specs.Load.{says, roomIn, outcome, loadCall, library, capped};
 ghost use Rattle.load.specs.Steps.{Emptied};
 
 // How many lines a vertex file and an edge file may have.
@@ -27,6 +26,7 @@ pub enum Loaded {
     Refused(Refusal),
 }
 
+// Five areas are cleared.
 fn clear_all(
     ids: &mut [i64],
     out_offsets: &mut [usize],
@@ -34,7 +34,11 @@ fn clear_all(
     in_offsets: &mut [usize],
     in_sources: &mut [usize],
 )
-    ensures { λ _. ⌜ Emptied (now (ids .entry)) (now («out_offsets» .entry)) (now («out_targets» .entry)) (now («in_offsets» .entry)) (now («in_sources» .entry)) (now (ids .exit)) (now («out_offsets» .exit)) (now («out_targets» .exit)) (now («in_offsets» .exit)) (now («in_sources» .exit)) ⌝ }
+    ensures { λ _. ⌜
+        Emptied (now (ids .entry)) (now («out_offsets» .entry)) (now («out_targets» .entry)) (now («in_offsets» .entry))
+        (now («in_sources» .entry))
+        (now (ids .exit)) (now («out_offsets» .exit)) (now («out_targets» .exit)) (now («in_offsets» .exit))
+        (now («in_sources» .exit)) ⌝ }
 {
     clear_signed(ids);
     clear(out_offsets);
@@ -70,8 +74,8 @@ pub fn load_within(
         outcome (says r) (now (ids .exit)) (now («out_offsets» .exit)) (now («out_targets» .exit)) (now («in_offsets» .exit))
         (now («in_sources» .exit))
         ≡ loadCall (capped limits) mode
-        (roomOf (length (now (ids .entry))) (length (now («out_offsets» .entry))) (length (now («out_targets» .entry)))
-        (length (now («in_offsets» .entry))) (length (now («in_sources» .entry))))
+        (roomIn (now (ids .entry)) (now («out_offsets» .entry)) (now («out_targets» .entry)) (now («in_offsets» .entry))
+        (now («in_sources» .entry)))
         (now (vertices .entry)) (now (edges .entry)) ⌝ }
 {
     let filled = fill(
@@ -105,7 +109,13 @@ pub fn load(
     in_offsets: &mut [usize],
     in_sources: &mut [usize],
 ) -> Loaded
-    ensures { λ r. ⌜ outcome (says r) (now (ids .exit)) (now («out_offsets» .exit)) (now («out_targets» .exit)) (now («in_offsets» .exit)) (now («in_sources» .exit)) ≡ loadCall library mode (roomOf (length (now (ids .entry))) (length (now («out_offsets» .entry))) (length (now («out_targets» .entry))) (length (now («in_offsets» .entry))) (length (now («in_sources» .entry)))) (now (vertices .entry)) (now (edges .entry)) ⌝ }
+    ensures { λ r. ⌜
+        outcome (says r) (now (ids .exit)) (now («out_offsets» .exit)) (now («out_targets» .exit)) (now («in_offsets» .exit))
+        (now («in_sources» .exit))
+        ≡ loadCall library mode
+        (roomIn (now (ids .entry)) (now («out_offsets» .entry)) (now («out_targets» .entry)) (now («in_offsets» .entry))
+        (now («in_sources» .entry)))
+        (now (vertices .entry)) (now (edges .entry)) ⌝ }
 {
     load_within(
         Limits {

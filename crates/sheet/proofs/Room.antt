@@ -22,7 +22,7 @@ use Rattle.text.specs.Line.{LineSaid, line, none, fault, lf, lineBy}
 use Rattle.text.specs.File.{Says}
 use Rattle.text.proofs.Places.{Small, ident-small, LineHas, line-any}
 use Rattle.load.specs.Load.{Lists, loaded, sizeOf, outcomeOf, loadCall, desk, deskRoom}
-use Rattle.load.proofs.Refused.{load-turned}
+use Rattle.load.proofs.Refused.{load-refusal}
 use Rattle.plan.specs.Lines.{lfs, sheetFault, inSheet, sheetLine}
 use Rattle.plan.specs.Jobs.{jobOf}
 use Rattle.plan.specs.Sheet.{mostBytes, mostJobs, modeOf, limited, countLine, anyOf, nextOf, linePast}
@@ -40,7 +40,7 @@ use Rattle.sheet.proofs.Lengths.{Brief, refused-most, jobs-most}
 load-brief : (mode : ℕ) (v e : List ℕ) → Either Any Brief (loaded desk mode deskRoom v e)
 load-brief mode v e =
     either-refused Any (λ r t. record { number = omega (arith, t .low); file = omega (arith, t .inFile); line = omega (arith, t .inLines) })
-    (loaded desk mode deskRoom v e) (load-turned desk mode deskRoom v e)
+    (loaded desk mode deskRoom v e) (load-refusal desk mode deskRoom v e)
 
 -- ---- an accepted load: its identifiers are in range
 ids-small : (ws : List (List ℕ)) (ids : List ℤ) → Says identOf ws ids → All Small ids

@@ -11,6 +11,7 @@ use lib.Dec.{eqb, leb}
 use lib.IntN.{ℤ}
 use borrow.Author.Tests.{eq-eqb, ne-eqb, lt-ltb, le-leb}
 use Rattle.basis.specs.Area.{pad}
+use Rattle.basis.specs.Limits.{mostVertices, mostArcs}
 use Rattle.basis.specs.Scan.{each, mem}
 use Rattle.basis.proofs.Tests.{clash, and-both, and-swap, eqb-swap}
 use Rattle.basis.proofs.Scans.{every-of, each-of, mem-index}
@@ -139,23 +140,26 @@ module _ (undirected : Bool) (n : ℕ) (es : List Arc) (valid : Valid undirected
   joins = arcs-join undirected n es (valid .fine)
 
   -- it is sound, where its identifiers are and the limits are kept
-  pub stored-sound : soundIds (storedGraph n (arcs undirected es) ids oo ot io is) ≡ true → n ≤ 65536 → length (arcs undirected es) ≤ 2097152
+  pub stored-sound : soundIds (storedGraph n (arcs undirected es) ids oo ot io is) ≡ true → n ≤ mostVertices
+      → length (arcs undirected es) ≤ mostArcs
       → soundGraph (storedGraph n (arcs undirected es) ids oo ot io is) ≡ true
   unfolding soundSides soundGraph
   stored-sound i ln lm =
       let l = arcs undirected es in
       let k = length-backward l in
-      and-both (and-both (and-both (and-both (le-leb n 65536 ln) (le-leb (length l) 2097152 lm)) i)
+      and-both (and-both (and-both (and-both (le-leb n mostVertices ln) (le-leb (length l) mostArcs lm)) i)
       (and-both (side-sound n oo ot l joins a b (ordered-out undirected n es valid))
       (rw k at (side-sound n io is (backward l) (join-backward n l joins) c (rw k d) (ordered-in undirected n es valid)))))
       (and-both (mirror-built n oo ot io is l joins a b c d)
       (rw (backward-twice l) at (mirror-built n io is oo ot (backward l) (join-backward n l joins) c (rw k d) a (rw k b))))
 
   -- w is in u's outward part exactly where the edge file has that arc
-  pub stored-outward : (u w : ℕ) → u < n → mem w (outward (storedGraph n (arcs undirected es) ids oo ot io is) u) ≡ hasArc (arcs undirected es) u w
+  pub stored-outward : (u w : ℕ) → u < n → mem w (outward (storedGraph n (arcs undirected es) ids oo ot io is) u)
+      ≡ hasArc (arcs undirected es) u w
   stored-outward u w h = ap (mem w) (part-stored n oo ot (arcs undirected es) joins a b u h) ∙ mem-targets (arcs undirected es) u w
 
-  pub stored-inward : (u w : ℕ) → w < n → mem u (inward (storedGraph n (arcs undirected es) ids oo ot io is) w) ≡ hasArc (arcs undirected es) u w
+  pub stored-inward : (u w : ℕ) → w < n → mem u (inward (storedGraph n (arcs undirected es) ids oo ot io is) w)
+      ≡ hasArc (arcs undirected es) u w
   stored-inward u w h =
       let k = length-backward (arcs undirected es) in
       ap (mem u) (part-stored n io is (backward (arcs undirected es)) (join-backward n (arcs undirected es) joins) c (rw k d) w h)

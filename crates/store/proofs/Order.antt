@@ -13,7 +13,7 @@ use Rattle.basis.specs.Order.{aboveBy, rising}
 use Rattle.basis.proofs.Tests.{and-both}
 use Rattle.basis.proofs.Alls.{All, all-map}
 use Rattle.graph.specs.Arcs.{Arc, edgeArcs, arcs, targetsOf, backward}
-use Rattle.store.specs.Held.{Ends}
+use Rattle.store.specs.Held.{EndsBelow}
 use Rattle.store.proofs.Passes.{backward-append}
 
 -- ---- lists of edges, by pairs
@@ -51,7 +51,7 @@ lex-trans e f g h k =
 pub lex-cons : (e f : Arc) (l : List Arc) → Lex e f → Pairs Lex (f ∷ l) → Pairs Lex (e ∷ f ∷ l)
 lex-cons e f l h p = ((h, all-map (λ g k. lex-trans e f g h k) l (p .0)), p)
 
-pub valid-ends : (n : ℕ) (l : List Arc) → All (Fine n) l → Ends n l
+pub valid-ends : (n : ℕ) (l : List Arc) → All (Fine n) l → EndsBelow n l
 valid-ends n [] h = tt
 valid-ends n (e ∷ l) h = (h .0 .source, h .0 .target, valid-ends n l (h .1))
 

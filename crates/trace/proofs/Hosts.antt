@@ -18,12 +18,13 @@ use Rattle.graph.specs.Sound.{outward, inward, names, lent}
 use Rattle.graph.specs.Sound as Sound
 use Rattle.graph.specs.declared.Size.{Size}
 use Rattle.lists.specs.Files.{identifiers, edgesOf, allNumbered}
+use Rattle.lists.proofs.Accepts.{vertices-accepted, edges-accepted}
 use Rattle.load.specs.declared.Loaded.{Loaded}
 use Rattle.load.specs.declared.Loaded.the-variants.{Graph, Refused}
 use Rattle.load.specs.Load.{says, Lists, arcRoom, vertexRoom, withRoom, arcsRead, listsRead, loaded}
 use Rattle.load.specs.Load.{isUndirected, sizeOf, outcome, outcomeOf, loadCall, desk, deskRoom}
 use Rattle.load.specs.Good.{GoodLoad, graphLeft}
-use Rattle.load.proofs.Accepts.{vertices-accepted, edges-accepted, load-accepted}
+use Rattle.load.proofs.Accepts.{load-accepted}
 use Rattle.load.proofs.Meaning.{load-sound}
 use Rattle.bfs.specs.Call.{depthsFrom}
 use Rattle.wcc.specs.Component.{wccOf}

@@ -11,23 +11,23 @@ use Rattle.basis.proofs.Saids.{Either, Any}
 use Rattle.graph.specs.declared.Size.{Size}
 use Rattle.graph.specs.Arcs.{arcs}
 use Rattle.graph.specs.Find.{placeIn}
+use Rattle.lists.proofs.Lookups.{length-numbered}
 use Rattle.load.specs.declared.Limits.{Limits}
 use Rattle.lists.specs.Files.{allNumbered}
 use Rattle.load.specs.Load.{Room, loaded, isUndirected, sizeOf, outcome, outcomeOf, loadCall, library}
 use Rattle.store.specs.Spread.{arcCount}
 use Rattle.load.proofs.Accepts.{load-accepted}
-use Rattle.load.proofs.Arranges.{length-numbered}
-use Rattle.load.proofs.Refused.{Turned, load-turned}
+use Rattle.load.proofs.Refused.{LoadRefusal, load-refusal}
 use Rattle.store.proofs.Fits.{arc-count}
 use Rattle.trace.specs.Code.{coded, wide, Readable}
 use Rattle.trace.specs.Load.{loadValue, loadTold, loadTells}
 use Rattle.trace.proofs.Codes.{onward-readable, readable-by, readable-given, readable-refused, readable-silent, untold}
 
 -- ---- what is refused
-turned-readable : {A : Type 0} (room : ℕ) (limits : Limits) → limits .vertices + limits .edges + 1 < room → (s : Said A)
-    → Either Any (Turned limits) s → Readable room s untold
-turned-readable room limits few (gives x) h = readable-silent x (omega arith)
-turned-readable room limits few (refuses r) h =
+refusal-readable : {A : Type 0} (room : ℕ) (limits : Limits) → limits .vertices + limits .edges + 1 < room → (s : Said A)
+    → Either Any (LoadRefusal limits) s → Readable room s untold
+refusal-readable room limits few (gives x) h = readable-silent x (omega arith)
+refusal-readable room limits few (refuses r) h =
     readable-refused r (h .some)
     (record { number = omega (arith, h .low); file = omega (arith, h .inFile); line = omega (arith, h .inLines) })
 
@@ -35,11 +35,11 @@ pub loaded-readable : (room : ℕ) (limits : Limits) → limits .vertices + limi
     → (mode : ℕ) (r : Room) (vertices edges : List ℕ)
     → Readable room (loaded limits mode r vertices edges) untold
 loaded-readable room limits few mode r vertices edges =
-    turned-readable room limits few (loaded limits mode r vertices edges) (load-turned limits mode r vertices edges)
+    refusal-readable room limits few (loaded limits mode r vertices edges) (load-refusal limits mode r vertices edges)
 
 -- ---- what is given: "each edge once .. and it stores two arcs" at the most
 pub arcs-few : (undirected : Bool) (ids : List ℤ) (es : List (ℤ × ℤ)) → length (arcs undirected (allNumbered (placeIn ids) es)) ≤ length es + length es
-arcs-few undirected ids es = rw (arc-count undirected (allNumbered (placeIn ids) es), length-numbered ids es) (go undirected)
+arcs-few undirected ids es = rw (arc-count undirected (allNumbered (placeIn ids) es), length-numbered (placeIn ids) es) (go undirected)
   where
     go : (undirected : Bool) → arcCount undirected (length es) ≤ length es + length es
     go true = omega arith

@@ -17,12 +17,12 @@ use Rattle.store.proofs.Order.{Fine, Valid, arcs-join, join-backward}
 use Rattle.store.proofs.Passes.{length-backward}
 use Rattle.store.proofs.Built.{offsets-length}
 use Rattle.store.proofs.Meaning.{start-all, part-stored, storedGraph}
+use Rattle.lists.proofs.Accepts.{edges-accepted}
 use Rattle.load.specs.declared.Limits.{Limits}
 use Rattle.graph.specs.Find.{placeIn}
 use Rattle.lists.specs.Files.{allNumbered}
 use Rattle.load.specs.Load.{Lists, Room, isUndirected}
 use Rattle.load.specs.Good.{GoodLoad}
-use Rattle.load.proofs.Accepts.{edges-accepted}
 use Rattle.load.proofs.Valids.{valid-file}
 use Rattle.trace.specs.Host.{graphOf}
 

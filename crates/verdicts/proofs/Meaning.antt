@@ -12,8 +12,8 @@ use Rattle.text.specs.Word.{identOf}
 use Rattle.text.specs.Decimal.{decimalOf}
 use Rattle.text.specs.declared.decimal.Decimal.{Decimal}
 use Rattle.graph.specs.Find.{placeIn, isThere}
-use Rattle.graph.specs.Sound.{Graph, names, outward, soundGraph}
-use Rattle.graph.proofs.Sounds.{Sound, sound-of, names-length}
+use Rattle.graph.specs.Sound.{Graph, names, outward, soundGraph, Sound}
+use Rattle.graph.proofs.Sounds.{sound-of, names-length}
 use Rattle.kernels.specs.Answer.{kernelSays}
 use Rattle.bfs.specs.Call.{depthsFrom}
 use Rattle.wcc.specs.Component.{Linked, wccOf}

@@ -14,8 +14,8 @@ use Rattle.basis.specs.Order.{sameZ}
 use Rattle.basis.specs.Scan.{mem}
 use Rattle.basis.proofs.Orders.{same-places, less-places, signed-order}
 use Rattle.basis.proofs.Areas.{column-length, column-at}
-use Rattle.graph.specs.Sound.{Graph, outward, inward, names, soundGraph}
-use Rattle.graph.proofs.Sounds.{Sound, sound-of, outward-below, names-length, arcs-agree}
+use Rattle.graph.specs.Sound.{Graph, outward, inward, names, soundGraph, Sound}
+use Rattle.graph.proofs.Sounds.{sound-of, outward-below, names-length, arcs-agree}
 use Rattle.kernels.specs.Answer.{kernelSays}
 use Rattle.kernels.proofs.Results.{pad-value, pad-behind}
 use Rattle.wcc.specs.Component.{along, back, first, labelOf, wccOf}

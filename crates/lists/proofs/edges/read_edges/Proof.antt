@@ -1,5 +1,5 @@
 use borrow.Author.Needs.{needs}
-use Rattle.lists.proofs.Fronts.{stays-clear, edges-lines, edges-refused}
+use Rattle.lists.proofs.Fronts.{stays-clear, edges-lines, edges-zero}
 use Rattle.lists.proofs.edges.read_edges.Statement.{statement}
 use Rattle.lists.proofs.edges.read_edges.Tie as tie
 
@@ -40,7 +40,7 @@ same-length-4 : tie.Need-same-length-4
 same-length-4 c = search needs
 
 returns-2 : tie.Need-returns-2
-returns-2 c = search edges-refused
+returns-2 c = search edges-zero
 
 pub read-edges-spec : {M : Type 1} → statement M
 read-edges-spec =

@@ -9,7 +9,8 @@ use Rattle.lists.proofs.edges.scan_edges.Statement.{statement}
 use Rattle.lists.proofs.edges.scan_edges.Tie as tie
 
 abbrev Inv-loop : tie.InvT-loop
-Inv-loop s most undirected ids counts₀ targets₀ c₀ counts targets c = Gathering s most undirected (bisected ids) counts₀ targets₀ c counts targets
+Inv-loop s most undirected ids counts₀ targets₀ c₀ counts targets c =
+    Gathering s most undirected (bisected ids) counts₀ targets₀ c counts targets
 
 abbrev μ-loop : tie.MeasureT-loop
 μ-loop s most undirected ids counts₀ targets₀ c₀ counts targets c = length s - c .at .at

@@ -1,4 +1,4 @@
-use Rattle.lists.proofs.Fronts.{vertices-lines, vertices-refused}
+use Rattle.lists.proofs.Fronts.{vertices-lines, vertices-zero}
 use borrow.Author.Needs.{needs}
 use Rattle.lists.proofs.vertices.read_vertices.Statement.{statement}
 use Rattle.lists.proofs.vertices.read_vertices.Tie as tie
@@ -28,7 +28,7 @@ same-length-2 : tie.Need-same-length-2
 same-length-2 c = search needs
 
 returns-2 : tie.Need-returns-2
-returns-2 c = search vertices-refused
+returns-2 c = search vertices-zero
 
 pub read-vertices-spec : {M : Type 1} → statement M
 read-vertices-spec =

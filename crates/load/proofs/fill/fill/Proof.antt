@@ -1,5 +1,5 @@
 use denote.Ref.{now}
-use Rattle.load.proofs.Loads.{fill-mode, fill-refused, fill-places, fill-short, fill-blank, fill-end}
+use Rattle.load.proofs.Loads.{fill-mode, fill-refused, fill-places, fill-short, fill-storing, fill-end}
 use mathlib.Core.Path.{refl, sym}
 use lib.Seq.{length-take-le}
 use borrow.Author.Needs.{needs}
@@ -49,7 +49,7 @@ store-edges-requires : tie.Need-store-edges-requires
 store-edges-requires c κs =
     let a = c .before .before .before .before .before .before .before .before .before .before .before .before .before .before .before
     .before .before .before .before .before .args in
-    fill-blank (a .limits) (a .mode) (now (a .vertices)) (now (a .edges)) (now (a .ids)) (now (a .out-offsets)) (now (a .out-targets))
+    fill-storing (a .limits) (a .mode) (now (a .vertices)) (now (a .edges)) (now (a .ids)) (now (a .out-offsets)) (now (a .out-targets))
     (now (a .in-offsets)) (now (a .in-sources))
     (c .before .before .before .before .before .before .before .before .before .before .before .before .before .if1 .left) _ _
     (c .before .before .before .before .before .before .before .before .before .before .before .read-vertices .ensures) _

@@ -42,8 +42,8 @@ same-length-8 c = search needs
 returns-2 : tie.Need-returns-2
 returns-2 c = search directed-lines
 
-pub fill_directed-spec : {M : Type 1} → statement M
-fill_directed-spec =
+pub fill-directed-spec : {M : Type 1} → statement M
+fill-directed-spec =
     tie.close
     (tie.spec
     arrange-requires

@@ -63,8 +63,8 @@ same-length-8 c = search needs
 returns-2 : tie.Need-returns-2
 returns-2 c = search undirected-lines
 
-pub fill_undirected-spec : {M : Type 1} → statement M
-fill_undirected-spec =
+pub fill-undirected-spec : {M : Type 1} → statement M
+fill-undirected-spec =
     tie.close
     (tie.spec
     arrange-requires

@@ -3,8 +3,8 @@ use borrow.Author.Needs.{needs}
 use Rattle.load.proofs.fill.store_edges.Statement.{statement}
 use Rattle.load.proofs.fill.store_edges.Tie as tie
 
-fill_undirected-requires : tie.Need-fill_undirected-requires
-fill_undirected-requires c κs = search needs
+fill-undirected-requires : tie.Need-fill-undirected-requires
+fill-undirected-requires c κs = search needs
 
 same-length : tie.Need-same-length
 same-length c = search needs
@@ -21,8 +21,8 @@ same-length-4 c = search needs
 returns : tie.Need-returns
 returns c = search edges-both
 
-fill_directed-requires : tie.Need-fill_directed-requires
-fill_directed-requires c κs = search needs
+fill-directed-requires : tie.Need-fill-directed-requires
+fill-directed-requires c κs = search needs
 
 same-length-5 : tie.Need-same-length-5
 same-length-5 c = search needs
@@ -43,13 +43,13 @@ pub store-edges-spec : {M : Type 1} → statement M
 store-edges-spec =
     tie.close
     (tie.spec
-    fill_undirected-requires
+    fill-undirected-requires
     same-length
     same-length-2
     same-length-3
     same-length-4
     returns
-    fill_directed-requires
+    fill-directed-requires
     same-length-5
     same-length-6
     same-length-7
