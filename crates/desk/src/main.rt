@@ -3,7 +3,7 @@
 use sheet::answer;
 ghost use mathlib.Core.Path.{_≡_};
 ghost use lib.ListN.{length};
-ghost use Rattle.desk.specs.Whole.{Roomy, Whole};
+ghost use Rattle.desk.specs.Whole.{SheetAreas, Whole};
 
 // An area for the longest output of a sheet.
 fn area() -> [u8; 760000]
@@ -14,7 +14,7 @@ fn area() -> [u8; 760000]
 
 // All that the sheet prints whose first n bytes were read, in an area that has room for it.
 fn output<'b, 'o>(bytes: &'b [u8], n: usize, out: &'o mut [u8]) -> &'o [u8]
-    requires { ⌜ Roomy n (now bytes) (now out) ⌝ }
+    requires { ⌜ SheetAreas n (now bytes) (now out) ⌝ }
     ensures { λ r. ⌜ Whole n (now (bytes .entry)) (now r) ⌝ }
 {
     let m = answer(&bytes[..n], out);

@@ -9,11 +9,11 @@ use lib.ListN.{length}
 use Rattle.basis.specs.declared.refusal.Refusal.{Refusal}
 use Rattle.basis.specs.Refusal.{Said, vertexFile, edgeFile}
 use Rattle.basis.proofs.Saids.{Either, Any, either-refused, either-cond, refused-onward}
-use Rattle.text.proofs.Files.{Met}
+use Rattle.text.proofs.Files.{FileRefusal}
 use Rattle.graph.specs.Arcs.{arcs}
 use Rattle.graph.specs.Find.{placeIn}
 use Rattle.lists.specs.Files.{identifiers, edgesOf, allNumbered}
-use Rattle.lists.proofs.Refused.{vertices-met, edges-met}
+use Rattle.lists.proofs.Refused.{vertices-refusal, edges-refusal}
 use Rattle.load.specs.declared.Limits.{Limits}
 use Rattle.load.specs.Load.{Room, isUndirected, vertexRoom, arcRoom, withRoom, arcsRead, listsRead, loaded}
 
@@ -24,7 +24,7 @@ pub record Turned (limits : Limits) (r : Refusal) : Type 0 where
   pub inLines : r .line ≤ limits .vertices + limits .edges + 1
 
 module _ (limits : Limits) where
-  of-file : {A : Type 0} (file most : ℕ) → file ≤ 2 → most ≤ limits .vertices + limits .edges → (x : Said A) → Either Any (Met file most) x
+  of-file : {A : Type 0} (file most : ℕ) → file ≤ 2 → most ≤ limits .vertices + limits .edges → (x : Said A) → Either Any (FileRefusal file most) x
       → Either Any (Turned limits) x
   of-file file most k l x h =
       either-refused Any
@@ -46,13 +46,13 @@ module _ (limits : Limits) where
       let ids = identifiers (limits .vertices) v in
       either-cond Any (Turned limits) (leb mode 1) _ _
       (λ _. refused-onward (Turned limits) ids _ (of-file vertexFile (limits .vertices) (omega arith) (omega arith) ids
-      (vertices-met (limits .vertices) v))
+      (vertices-refusal (limits .vertices) v))
       (λ i. refused-onward (Turned limits) (withRoom (vertexRoom (room .ids) (room .outOffsets) (room .inOffsets) (length i)) i) _
       (of-room (vertexRoom (room .ids) (room .outOffsets) (room .inOffsets) (length i)) i)
       (λ i. let es = edgesOf undirected (limits .edges) (placeIn i) e in
       refused-onward (Turned limits) (arcsRead undirected (limits .edges) i e (room .outTargets) (room .inSources)) _
       (refused-onward (Turned limits) es _ (of-file edgeFile (limits .edges) (omega arith) (omega arith) es
-      (edges-met undirected (limits .edges) (placeIn i) e))
+      (edges-refusal undirected (limits .edges) (placeIn i) e))
       (λ es. let l = arcs undirected (allNumbered (placeIn i) es) in of-room (arcRoom (room .outTargets) (room .inSources) (length l)) l))
       (λ l. tt))))
       (λ _. record { some = omega arith; low = omega arith; inFile = omega arith; inLines = omega arith })

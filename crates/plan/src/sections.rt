@@ -16,7 +16,7 @@ use text::count::has;
 use text::count::line_end;
 ghost use mathlib.Core.Path.{_≡_};
 ghost use Prim.Native.Nat.{_≤_};
-ghost use Rattle.plan.specs.Sheet.{modeLine, countLine, linePast, linesPast, section, sections, checked, modeSays, countLineSays, pastSays, sectionSays, checkedSays};
+ghost use Rattle.plan.specs.Sheet.{modeLine, countLine, linePast, linesPast, section, sections, sheetCheck, modeSays, countLineSays, pastSays, sectionSays, checkedSays};
 
 pub const MOST_JOBS: usize = 16;
 
@@ -187,7 +187,7 @@ pub fn read_sections(s: &[u8]) -> Checked
 
 // A sheet's plan, or its first fault.
 pub fn check(s: &[u8]) -> Checked
-    ensures { λ r. ⌜ checkedSays r ≡ checked (now (s .entry)) ⌝ }
+    ensures { λ r. ⌜ checkedSays r ≡ sheetCheck (now (s .entry)) ⌝ }
 {
     if MOST_BYTES < s.len() {
         return Checked::Refused(Refusal::at(TOO_MANY, SHEET_FILE, 0));

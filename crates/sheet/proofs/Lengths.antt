@@ -32,7 +32,7 @@ use Rattle.lcc.specs.Ratio.{gcdOf, lowest}
 use Rattle.lcc.specs.Promise.{lccSays, lccCall}
 use Rattle.lcc.proofs.Commons.{count-le}
 use Rattle.lcc.proofs.Coefficients.{those-short}
-use Rattle.text.specs.Line.{lf, space}
+use Rattle.text.specs.Bytes.{lf, space}
 use Rattle.write.specs.Number.{countText, signedText}
 use Rattle.write.proofs.Texts.{count-long, signed-long}
 use Rattle.plan.specs.Jobs.{jobOf, jobLine}
@@ -42,7 +42,7 @@ use Rattle.plan.proofs.Places.{line-moved}
 use Rattle.text.proofs.Places.{Moved, Small}
 use Rattle.listing.specs.Listing.{slash, refusedWord, spacedText, numbersText, refusedText, headText}
 use Rattle.listing.specs.Listing.{namedText, pairText, fractionText, ratioText, pairLines, ratioLines}
-use Rattle.sheet.specs.Jobs.{zeros, zerosZ, answered, bfsText, wccText, cdlpText, lccText, jobText, jobsText}
+use Rattle.sheet.specs.Jobs.{deskArea, deskAreaZ, answerText, bfsText, wccText, cdlpText, lccText, jobText, jobsText}
 
 -- ---- an identifier has at most 20 bytes, a number of at most 7 digits 7
 abbrev Short : ℕ → Type 0
@@ -133,7 +133,7 @@ plain-brief n h = record { number = h; file = omega arith; line = omega arith }
 -- ---- a job prints at most 43,013 bytes behind its line: a count line of 5, and 1,024 lines of 42
 module _ (n : ℕ) (line listing : List ℕ) (few : n ≤ 1024) (long : length listing ≤ 43008) where
   answered-most : (a b c : Bool) (number : ℕ) → number < 10 ^ 2
-      → length (answered n line (kernelSays a b number c) listing) ≤ length line + 43013
+      → length (answerText n line (kernelSays a b number c) listing) ≤ length line + 43013
   unfolding kernelSays headText
   answered-most false b c number h = omega (arith, refused-most _ (plain-brief 9 (omega arith)))
   answered-most true false c number h = omega (arith, refused-most _ (plain-brief number h))
@@ -254,27 +254,27 @@ module _ (g : Graph) (ids : All Small (g .ids)) (count : length (g .ids) ≤ 102
   unfolding bfsText bfsCall bfsSays
   bfs-most line root =
       answered-most (g .vertices) line _ few
-      (lines-most _ (all-left Small (bfsSays g (placeIn (names g) root) zerosZ zeros) (pos 0) 1024 _ (omega arith)
+      (lines-most _ (all-left Small (bfsSays g (placeIn (names g) root) deskAreaZ deskArea) (pos 0) 1024 _ (omega arith)
       (depths-small g (placeIn (names g) root) few))) _ _ _ 10 (omega arith)
 
   wcc-most : (line : List ℕ) → length (wccText g line) ≤ length line + 43013
   unfolding wccText W.wccCall W.leftBy
   wcc-most line =
-      let said = kernelSays (soundGraph g) true 0 (W.roomFor (g .vertices) zerosZ zeros zeros) in
+      let said = kernelSays (soundGraph g) true 0 (W.roomFor (g .vertices) deskAreaZ deskArea deskArea) in
       answered-most (g .vertices) line _ few (lines-most _ (all-left Small said (pos 0) 1024 (wccOf g) (omega arith) (labels-small g ids)))
       _ _ _ 0 (omega arith)
 
   cdlp-most : (line : List ℕ) (k : ℤ) → length (cdlpText g k line) ≤ length line + 43013
   unfolding cdlpText C.cdlpCall C.leftBy
   cdlp-most line k =
-      let said = kernelSays (soundGraph g) (C.goodRounds k) 11 (C.roomFor (g .vertices) zerosZ zeros zeros zeros) in
+      let said = kernelSays (soundGraph g) (C.goodRounds k) 11 (C.roomFor (g .vertices) deskAreaZ deskArea deskArea deskArea) in
       answered-most (g .vertices) line _ few (lines-most _
       (all-left Small said (pos 0) 1024 (cdlpOf g (natAbs k)) (omega arith) (cdlp-small g (natAbs k) ids))) _ _ _ 11 (omega arith)
 
   lcc-most : (line : List ℕ) → length (lccText g line) ≤ length line + 43013
   unfolding lccText lccCall lccSays numerator denominator
   lcc-most line =
-      let said = lccSays g zeros zeros zeros in
+      let said = lccSays g deskArea deskArea deskArea in
       answered-most (g .vertices) line _ few
       (fractions-most _ _
       (all-left Short said 0 1024 (numerators g) (omega arith)

@@ -18,7 +18,8 @@ use Rattle.basis.proofs.Alls.{All, all-take, all-pad}
 use Rattle.basis.proofs.Tests.{bool-cases}
 use Rattle.basis.specs.Limits.{deskVertices, deskEdges}
 use Rattle.text.specs.Word.{Word, identOf, countOf}
-use Rattle.text.specs.Line.{LineSaid, line, none, fault, lf, lineBy}
+use Rattle.text.specs.Bytes.{lf}
+use Rattle.text.specs.Line.{LineSaid, line, none, fault, lineBy}
 use Rattle.text.specs.File.{Says}
 use Rattle.text.proofs.Places.{Small, ident-small, LineHas, line-any}
 use Rattle.load.specs.Load.{Lists, loaded, sizeOf, outcomeOf, loadCall, desk, deskRoom}
@@ -26,7 +27,7 @@ use Rattle.load.proofs.Refused.{load-turned}
 use Rattle.plan.specs.Lines.{lfs, sheetFault, inSheet, sheetLine}
 use Rattle.plan.specs.Jobs.{jobOf}
 use Rattle.plan.specs.Sheet.{mostBytes, mostJobs, modeOf, limited, countLine, anyOf, nextOf, linePast}
-use Rattle.plan.specs.Sheet.{linesPast, linesOf as blockLines, section, sections, ended, checked}
+use Rattle.plan.specs.Sheet.{linesPast, blockOf as blockLines, section, sections, ended, sheetCheck}
 use Rattle.plan.specs.declared.sections.Plan.{Plan}
 use Rattle.plan.proofs.Places.{Accepted, accepted}
 use Rattle.write.specs.Put.{written, putAt}
@@ -134,8 +135,8 @@ module _ (s : List ℕ) (short : length s ≤ mostBytes) where
       (λ vertices. refused-onward Brief (section false deskEdges s (vertices .to)) _ (section-brief false deskEdges (vertices .to))
       (λ edges. refused-onward Brief (section true mostJobs s (edges .to)) _ (section-brief true mostJobs (edges .to)) (λ jobs. tt))))
 
-checked-brief : (s : List ℕ) → Either Any Brief (checked s)
-unfolding checked
+checked-brief : (s : List ℕ) → Either Any Brief (sheetCheck s)
+unfolding sheetCheck
 checked-brief s =
     either-cond Any Brief (ltb mostBytes (length s)) _ _ (λ _. record { number = omega arith; file = omega arith; line = omega arith })
     (λ t. let short : length s ≤ mostBytes = ltb-false mostBytes (length s) t in
@@ -145,9 +146,9 @@ checked-brief s =
 -- ---- the theorem
 pub output-fits : (s : List ℕ) → length (deskOutput s) ≤ mostOutput
 unfolding deskOutput
-output-fits s = by (checked s) refl (checked-brief s)
+output-fits s = by (sheetCheck s) refl (checked-brief s)
   where
-    by : (x : Said Plan) → checked s ≡ x → Either Any Brief x → length (checkedText s x) ≤ mostOutput
+    by : (x : Said Plan) → sheetCheck s ≡ x → Either Any Brief x → length (checkedText s x) ≤ mostOutput
     by (gives p) e h = plan-most s p (accepted s p e)
     by (refuses r) e h = omega (arith, refused-most r h)
 
@@ -158,7 +159,7 @@ output-whole s o w h = wrote-whole o (deskOutput s) w (omega (arith, output-fits
 
 -- ---- a sheet that is too long
 too-long : (s : List ℕ) → mostBytes < length s → deskOutput s ≡ refusedText (at tooMany sheetFile 0)
-unfolding deskOutput checked
+unfolding deskOutput sheetCheck
 too-long s h = rw (lt-ltb mostBytes (length s) h)
 
 -- cut behind its 65,537th byte or later, a sheet prints what the whole of it prints

@@ -19,7 +19,7 @@ use Rattle.write.proofs.Puts.{put-as}
 use Rattle.plan.specs.declared.sections.Plan.{Plan}
 use Rattle.plan.specs.declared.sections.Checked.{Checked}
 use Rattle.plan.specs.declared.sections.Checked.the-variants as Ch
-use Rattle.plan.specs.Sheet.{checked, checkedSays}
+use Rattle.plan.specs.Sheet.{sheetCheck, checkedSays}
 use Rattle.plan.proofs.Places.{accepted}
 use Rattle.listing.specs.Listing.{refusedText}
 use Rattle.sheet.specs.Jobs.{jobsText}
@@ -63,7 +63,7 @@ module _ (s : List ℕ) (p : Plan) (x : Loaded) (ids : List ℤ) (oo ot io is : 
   load-good size e w = put-as o at _ w _ (ap (λ y. loadText s p (outcome (says x) ids oo ot io is) (says y)) (sym e) ∙ load-text)
 
 -- ---- a check's answers
-module _ (s : List ℕ) (x : Checked) (u : checkedSays x ≡ checked s) where
+module _ (s : List ℕ) (x : Checked) (u : checkedSays x ≡ sheetCheck s) where
   pub placed : (p : Plan) → x ≡ Ch.Good p → Placed s p
   placed p e =
       let a = accepted s p (sym u ∙ ap checkedSays e) .places in

@@ -18,7 +18,7 @@ ghost use Rattle.write.specs.Put.{written, putAt};
 ghost use Rattle.graph.specs.Sound.{lent};
 ghost use Rattle.kernels.specs.Answer.{says};
 ghost use Rattle.listing.specs.Listing.{pairLines, ratioLines};
-ghost use Rattle.sheet.specs.Jobs.{answered, bfsText, wccText, cdlpText, lccText, jobText, jobsText};
+ghost use Rattle.sheet.specs.Jobs.{answerText, bfsText, wccText, cdlpText, lccText, jobText, jobsText};
 
 // What a kernel of one result area prints by its answer.
 fn put_labels(
@@ -30,7 +30,7 @@ fn put_labels(
     out: &mut [u8],
     at: usize,
 ) -> usize
-    ensures { λ r. ⌜ written (now (out .exit)) r ≡ putAt (now (out .entry)) at (answered n (now (line .entry)) (says x) (pairLines (now (ids .entry)) (now (labels .entry)))) ⌝ }
+    ensures { λ r. ⌜ written (now (out .exit)) r ≡ putAt (now (out .entry)) at (answerText n (now (line .entry)) (says x) (pairLines (now (ids .entry)) (now (labels .entry)))) ⌝ }
 {
     match x {
         Answer::Refused(r) => put_refused(out, at, r),
@@ -52,7 +52,7 @@ fn put_coefficients(
     out: &mut [u8],
     at: usize,
 ) -> usize
-    ensures { λ r. ⌜ written (now (out .exit)) r ≡ putAt (now (out .entry)) at (answered n (now (line .entry)) (says x) (ratioLines (now (ids .entry)) (now (numerators .entry)) (now (denominators .entry)))) ⌝ }
+    ensures { λ r. ⌜ written (now (out .exit)) r ≡ putAt (now (out .entry)) at (answerText n (now (line .entry)) (says x) (ratioLines (now (ids .entry)) (now (numerators .entry)) (now (denominators .entry)))) ⌝ }
 {
     match x {
         Answer::Refused(r) => put_refused(out, at, r),

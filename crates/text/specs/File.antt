@@ -9,7 +9,8 @@ use Rattle.basis.specs.declared.refusal.Refusal.{Refusal}
 use Rattle.basis.specs.Refusal.{Said, gives, refuses, at, tooMany, badForm, outOfRange, mapped}
 use Rattle.basis.specs.Scan.{mem}
 use Rattle.text.specs.Word.{Word, malformed, outside, value}
-use Rattle.text.specs.Line.{LineSaid, line, none, fault, lf, upTo}
+use Rattle.text.specs.Bytes.{lf}
+use Rattle.text.specs.Line.{LineSaid, line, none, fault, upTo}
 
 -- a line of a file: its values, or the number of its fault of form or range
 pub data Line (A : Type 0) : Type 0 where

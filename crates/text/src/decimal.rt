@@ -1,4 +1,8 @@
 // The decimal of a coefficient claim.
+use crate::count::MINUS;
+use crate::count::NINE;
+use crate::count::PLUS;
+use crate::count::ZERO;
 use crate::count::digits;
 ghost use mathlib.Core.Path.{_≡_};
 ghost use mathlib.Core.Bool.{true};
@@ -8,6 +12,11 @@ ghost use Rattle.text.specs.Word.{isDigit};
 ghost use Rattle.text.specs.Decimal.{digitOf, pastPoint, wholeIsGood, powerAt, partsOf, decimalOf};
 ghost use Rattle.text.specs.Stop.{isSign, digitsStop, digitsPower, powerStop, partsStop, decimalStop, powerWord, scaledWord};
 ghost use Rattle.text.specs.Scan.{scanned, decimalSays};
+
+// What stands before the digits of a fraction, and what before a sign and two digits.
+const POINT: u8 = 46;
+
+const POWER: u8 = 101;
 
 // How many digits may stand before the `e`.
 pub const DIGITS: usize = 15;
@@ -42,10 +51,10 @@ fn byte_at(s: &[u8], at: usize) -> u8
 fn is_digit(b: u8) -> bool
     ensures { λ r. ⌜ r ≡ isDigit b ⌝ }
 {
-    if b < 48 {
+    if b < ZERO {
         return false;
     }
-    if 57 < b {
+    if NINE < b {
         return false;
     }
     true
@@ -54,23 +63,23 @@ fn is_digit(b: u8) -> bool
 fn is_sign(b: u8) -> bool
     ensures { λ r. ⌜ r ≡ isSign b ⌝ }
 {
-    if b == 43 {
+    if b == PLUS {
         return true;
     }
-    b == 45
+    b == MINUS
 }
 
 // What a digit is worth; 0 of any other byte.
 fn digit_of(b: u8) -> u8
     ensures { λ r. ⌜ r ≡ digitOf b ⌝ }
 {
-    if b < 48 {
+    if b < ZERO {
         return 0;
     }
-    if 57 < b {
+    if NINE < b {
         return 0;
     }
-    b - 48
+    b - ZERO
 }
 
 // Where the digits after the point start; `at` itself where there is no point.
@@ -78,7 +87,7 @@ fn past_point(s: &[u8], at: usize) -> usize
     ensures { λ r. ⌜ r ≡ pastPoint (now (s .entry)) at ⌝ }
 {
     if at < s.len() {
-        if s[at] == 46 {
+        if s[at] == POINT {
             return at + 1;
         }
     }
@@ -97,7 +106,7 @@ fn whole_is_good(s: &[u8], w: usize) -> bool
         return false;
     }
     let b = s[0];
-    if b <= 48 {
+    if b <= ZERO {
         return false;
     }
     true
@@ -128,7 +137,7 @@ fn signed_power(s: &[u8], at: usize, g: u8) -> Power
         return Power::Wrong(at + 2);
     }
     let k = two_digits(x, y);
-    if g == 43 {
+    if g == PLUS {
         return Power::Up(k);
     }
     Power::Down(k)
@@ -142,7 +151,7 @@ fn power_at(s: &[u8], at: usize) -> Power
     if s.len() == at {
         return Power::Up(0);
     }
-    if byte_at(s, at) != 101 {
+    if byte_at(s, at) != POWER {
         return Power::Wrong(at);
     }
     let g = byte_at(s, at + 1);
@@ -199,7 +208,7 @@ fn parts(s: &[u8], w: usize, p: usize, f: usize, n: u64) -> DecimalWord
 }
 
 // What the bytes of a whole decimal say, or where they break off.
-pub fn decimal_of(s: &[u8]) -> DecimalWord
+pub(crate) fn decimal_of(s: &[u8]) -> DecimalWord
     ensures { λ r. ⌜ decimalSays (length (now (s .entry))) r
         ≡ scanned (decimalOf (now (s .entry))) (decimalStop (now (s .entry))) ⌝ }
 {

@@ -13,7 +13,8 @@ use mir.Val.{SFits}
 use Rattle.basis.specs.Scan.{each, mem}
 use Rattle.basis.proofs.Tests.{and-first, and-second}
 use Rattle.text.specs.Word.{Word, value, within, isDigit, countOf, signedOf, identOf}
-use Rattle.text.specs.Line.{line, lf, lineBy, vertexLine}
+use Rattle.text.specs.Bytes.{lf}
+use Rattle.text.specs.Line.{line, lineBy, vertexLine}
 use Rattle.text.proofs.Bytes.{within-yes, within-is}
 use Rattle.text.proofs.Cuts.{cut-line}
 use Rattle.write.specs.Put.{written, putAt}

@@ -9,13 +9,13 @@ use lib.Dec.{leb, ltb}
 use lib.ListN.{length}
 use Rattle.plan.specs.Sheet.{mostBytes}
 use Rattle.sheet.specs.Desk.{mostOutput}
-use Rattle.desk.specs.Whole.{Roomy}
+use Rattle.desk.specs.Whole.{SheetAreas}
 use Rattle.desk.proofs.main.Statement.{statement}
 use Rattle.desk.proofs.main.Tie as tie
 
 -- areas of j and k places have the room that `output` asks for, where these numbers are enough
 roomy : {n : ℕ} {bytes out : List ℕ} (j k : ℕ) → n ≤ length bytes → j ≡ length bytes → k ≡ length out
-    → ltb mostBytes j ≡ true → leb mostOutput k ≡ true → Roomy n bytes out
+    → ltb mostBytes j ≡ true → leb mostOutput k ≡ true → SheetAreas n bytes out
 roomy j k h e f over room = record { inside = h; over = rw (← e) (ltb-true mostBytes j over); room = rw (← f) (leb-true mostOutput k room) }
 
 area-requires : tie.Need-area-requires
