@@ -6,7 +6,8 @@ use lib.ListN.{length, take}
 use Rattle.plan.specs.Sheet.{mostBytes}
 use Rattle.sheet.specs.Desk.{deskOutput, mostOutput}
 
--- the n bytes that were read lie in an area of more places than a sheet has bytes, and the other area has a place for every byte of the longest output
+-- the n bytes that were read lie in an area of more places than a sheet has bytes, and the other area has a place for every byte of the
+-- longest output
 pub record SheetAreas (n : ℕ) (bytes out : List ℕ) : Type 0 where
   pub inside : n ≤ length bytes
   pub over : mostBytes < length bytes

@@ -56,7 +56,9 @@ pub fn put_ratio(out: &mut [u8], at: usize, id: i64, numerator: usize, denominat
 
 // The result lines of a list of identifiers and one of values, as far as both go.
 pub fn put_pairs(out: &mut [u8], at: usize, ids: &[i64], values: &[i64]) -> usize
-    ensures { λ r. ⌜ written (now (out .exit)) r ≡ putAt (now (out .entry)) at (pairLines (now (ids .entry)) (now (values .entry))) ⌝ }
+    ensures { λ r. ⌜
+        written (now (out .exit)) r
+        ≡ putAt (now (out .entry)) at (pairLines (now (ids .entry)) (now (values .entry))) ⌝ }
 {
     let mut next = at;
     let mut i = 0;
@@ -78,7 +80,9 @@ pub fn put_ratios(
     numerators: &[usize],
     denominators: &[usize],
 ) -> usize
-    ensures { λ r. ⌜ written (now (out .exit)) r ≡ putAt (now (out .entry)) at (ratioLines (now (ids .entry)) (now (numerators .entry)) (now (denominators .entry))) ⌝ }
+    ensures { λ r. ⌜
+        written (now (out .exit)) r
+        ≡ putAt (now (out .entry)) at (ratioLines (now (ids .entry)) (now (numerators .entry)) (now (denominators .entry))) ⌝ }
 {
     let mut next = at;
     let mut i = 0;

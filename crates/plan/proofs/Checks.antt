@@ -93,7 +93,7 @@ module _ (s : List ℕ) (limit at : ℕ) where
   by-malformed outside next e = no-case cc
   by-malformed (value n) next e = no-case cc
 
-  by-value : (w : Word ℕ) (n next : ℕ) → limit ≤ 2048 → cutWord w ≡ value n → valueBy n next ≡ countBy (scanned w next)
+  by-value : (w : Word ℕ) (n next : ℕ) → limit ≤ deskEdges → cutWord w ≡ value n → valueBy n next ≡ countBy (scanned w next)
   by-value malformed n next h e = no-case cc
   by-value outside n next h e = no-case cc
   by-value (value m) n next h e =
@@ -108,7 +108,7 @@ module _ (s : List ℕ) (limit at : ℕ) where
       rw (l, lt-leb n limit (omega arith)))))
       (λ t. rw t)
 
-  module _ (x : Counted) (h : limit ≤ 2048) (u : countSays x ≡ scanned (cutWord (countAt s at .said)) (countAt s at .next)) where
+  module _ (x : Counted) (h : limit ≤ deskEdges) (u : countSays x ≡ scanned (cutWord (countAt s at .said)) (countAt s at .next)) where
     pub count-bad : (p : ℕ) (r : Refusal) → x ≡ T.Bad p → r ≡ sheetFault s at badForm → refuses r ≡ countLine limit s at
     count-bad p r e f =
         let z : scanned (cutWord (countAt s at .said)) (countAt s at .next) ≡ scanned malformed p = sym u ∙ ap countSays e in

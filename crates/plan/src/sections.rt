@@ -16,7 +16,9 @@ use text::count::has;
 use text::count::line_end;
 ghost use mathlib.Core.Path.{_≡_};
 ghost use Prim.Native.Nat.{_≤_};
-ghost use Rattle.plan.specs.Sheet.{modeLine, countLine, linePast, linesPast, section, sections, sheetCheck, modeSays, countLineSays, pastSays, sectionSays, checkedSays};
+ghost use Rattle.basis.specs.Limits.{deskEdges};
+ghost use Rattle.plan.specs.Sheet.{modeLine, countLine, linePast, linesPast, section, sections, sheetCheck};
+ghost use Rattle.plan.specs.Sheet.{modeSays, countLineSays, pastSays, sectionSays, checkedSays};
 
 pub const MOST_JOBS: usize = 16;
 
@@ -76,7 +78,7 @@ fn mode_line(s: &[u8]) -> Mode
 
 // The count line at a place.
 fn count_line(s: &[u8], limit: usize, at: usize) -> CountLine
-    requires { ⌜ limit ≤ 2048 ⌝ }
+    requires { ⌜ limit ≤ deskEdges ⌝ }
     ensures { λ r. ⌜ countLineSays r ≡ countLine limit (now (s .entry)) at ⌝ }
 {
     let x = count(s, at);
@@ -135,7 +137,7 @@ fn lines_past(s: &[u8], jobs: bool, count: usize, from: usize) -> Past
 
 // The section at a place.
 fn read_section(s: &[u8], jobs: bool, limit: usize, at: usize) -> Section
-    requires { ⌜ limit ≤ 2048 ⌝ }
+    requires { ⌜ limit ≤ deskEdges ⌝ }
     ensures { λ r. ⌜ sectionSays r ≡ section jobs limit (now (s .entry)) at ⌝ }
 {
     let x = count_line(s, limit, at);

@@ -74,7 +74,8 @@ pub outputs :
     × (deskOutput refusedLoadSheet ≡ refusedLoadOutput)
     × (deskOutput refusedSheetSheet ≡ refusedSheetOutput)
 unfolding column every each mem lineBy twoOf hasAt runAt countAt identAt fieldAt restAt within digits countText signedText placeFrom bisect
-    targetsBetween partOf soundIds soundOffsets soundSide mirrored soundSides soundGraph edgeTest linesFrom valuesFrom arcsRead listsRead loaded
+    targetsBetween partOf soundIds soundOffsets soundSide mirrored soundSides soundGraph edgeTest linesFrom valuesFrom arcsRead listsRead
+    loaded
     outcomeOf loadCall kernelSays bfsSays bfsCall leastFrom ends ring depthOf beside chain firstFrom first labelOf wcc-roomFor wcc-leftBy
     wccCall times mostTimes standing mostCommon smallest smallestOr nextLabel goodRounds cdlp-roomFor cdlp-leftBy cdlpCall around labelsAt
     nextAt oneRound rounds cdlpOf commonCount those neighbours arcsFrom coefficientAmong numerator denominator room lccSays lccCall euclid

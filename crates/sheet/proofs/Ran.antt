@@ -51,10 +51,12 @@ module _ (g : Graph) (line : List ℕ) (x : Answer) (o : List ℕ) (at : ℕ) {o
       (call ∙ ap (λ (y : ℤ). B.bfsCall g y deskAreaZ deskArea) same))
 
   pub wcc-put : (d : List ℤ) (u v : List ℕ) → W.outcome (says x) d u v ≡ W.wccCall g deskAreaZ deskArea deskArea
-      → written o′ p ≡ putAt o at (answerText (g .vertices) line (says x) (pairLines (g .ids) d)) → written o′ p ≡ putAt o at (wccText g line)
+      → written o′ p ≡ putAt o at (answerText (g .vertices) line (says x) (pairLines (g .ids) d))
+      → written o′ p ≡ putAt o at (wccText g line)
   unfolding wccText
   wcc-put d u v call w =
-      put-as o at _ w (wccText g line) (ap (λ (c : W.Outcome). answerText (g .vertices) line (c .said) (pairLines (g .ids) (c .result))) call)
+      put-as o at _ w (wccText g line) (ap (λ (c : W.Outcome). answerText (g .vertices) line (c .said) (pairLines (g .ids) (c .result)))
+      call)
 
   pub cdlp-put : (iterations z : ℤ) (d : List ℤ) (u v t : List ℕ) → z ≡ iterations
       → C.outcome (says x) d u v t ≡ C.cdlpCall g z deskAreaZ deskArea deskArea deskArea

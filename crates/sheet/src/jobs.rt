@@ -1,5 +1,5 @@
-// A sheet's jobs: each runs its kernel on the loaded graph and prints its lines. `line` is the job's line with its LF, and `ids` has just the
-// graph's vertices. Each kernel's areas are zeros when it is called.
+// A sheet's jobs: each runs its kernel on the loaded graph and prints its lines. `line` is the job's line with its LF, and `ids` has just
+// the graph's vertices. Each kernel's areas are zeros when it is called.
 use bfs::bfs;
 use cdlp::cdlp;
 use graph::Size;
@@ -30,7 +30,10 @@ fn put_labels(
     out: &mut [u8],
     at: usize,
 ) -> usize
-    ensures { λ r. ⌜ written (now (out .exit)) r ≡ putAt (now (out .entry)) at (answerText n (now (line .entry)) (says x) (pairLines (now (ids .entry)) (now (labels .entry)))) ⌝ }
+    ensures { λ r. ⌜
+        written (now (out .exit)) r
+        ≡ putAt (now (out .entry)) at
+        (answerText n (now (line .entry)) (says x) (pairLines (now (ids .entry)) (now (labels .entry)))) ⌝ }
 {
     match x {
         Answer::Refused(r) => put_refused(out, at, r),
@@ -52,7 +55,11 @@ fn put_coefficients(
     out: &mut [u8],
     at: usize,
 ) -> usize
-    ensures { λ r. ⌜ written (now (out .exit)) r ≡ putAt (now (out .entry)) at (answerText n (now (line .entry)) (says x) (ratioLines (now (ids .entry)) (now (numerators .entry)) (now (denominators .entry)))) ⌝ }
+    ensures { λ r. ⌜
+        written (now (out .exit)) r
+        ≡ putAt (now (out .entry)) at
+        (answerText n (now (line .entry)) (says x)
+        (ratioLines (now (ids .entry)) (now (numerators .entry)) (now (denominators .entry)))) ⌝ }
 {
     match x {
         Answer::Refused(r) => put_refused(out, at, r),
@@ -75,7 +82,13 @@ fn bfs_job(
     out: &mut [u8],
     at: usize,
 ) -> usize
-    ensures { λ r. ⌜ written (now (out .exit)) r ≡ putAt (now (out .entry)) at (bfsText (lent size (now (ids .entry)) (now («out_offsets» .entry)) (now («out_targets» .entry)) (now («in_offsets» .entry)) (now («in_sources» .entry))) root (now (line .entry))) ⌝ }
+    ensures { λ r. ⌜
+        written (now (out .exit)) r
+        ≡ putAt (now (out .entry)) at
+        (bfsText
+        (lent size (now (ids .entry)) (now («out_offsets» .entry)) (now («out_targets» .entry))
+        (now («in_offsets» .entry)) (now («in_sources» .entry)))
+        root (now (line .entry))) ⌝ }
 {
     let mut depth = [0i64; 1024];
     let mut queue = [0usize; 1024];
@@ -104,7 +117,13 @@ fn wcc_job(
     out: &mut [u8],
     at: usize,
 ) -> usize
-    ensures { λ r. ⌜ written (now (out .exit)) r ≡ putAt (now (out .entry)) at (wccText (lent size (now (ids .entry)) (now («out_offsets» .entry)) (now («out_targets» .entry)) (now («in_offsets» .entry)) (now («in_sources» .entry))) (now (line .entry))) ⌝ }
+    ensures { λ r. ⌜
+        written (now (out .exit)) r
+        ≡ putAt (now (out .entry)) at
+        (wccText
+        (lent size (now (ids .entry)) (now («out_offsets» .entry)) (now («out_targets» .entry))
+        (now («in_offsets» .entry)) (now («in_sources» .entry)))
+        (now (line .entry))) ⌝ }
 {
     let mut result = [0i64; 1024];
     let mut parents = [0usize; 1024];
@@ -135,7 +154,13 @@ fn cdlp_job(
     out: &mut [u8],
     at: usize,
 ) -> usize
-    ensures { λ r. ⌜ written (now (out .exit)) r ≡ putAt (now (out .entry)) at (cdlpText (lent size (now (ids .entry)) (now («out_offsets» .entry)) (now («out_targets» .entry)) (now («in_offsets» .entry)) (now («in_sources» .entry))) iterations (now (line .entry))) ⌝ }
+    ensures { λ r. ⌜
+        written (now (out .exit)) r
+        ≡ putAt (now (out .entry)) at
+        (cdlpText
+        (lent size (now (ids .entry)) (now («out_offsets» .entry)) (now («out_targets» .entry))
+        (now («in_offsets» .entry)) (now («in_sources» .entry)))
+        iterations (now (line .entry))) ⌝ }
 {
     let mut result = [0i64; 1024];
     let mut labels = [0usize; 1024];
@@ -168,7 +193,13 @@ fn lcc_job(
     out: &mut [u8],
     at: usize,
 ) -> usize
-    ensures { λ r. ⌜ written (now (out .exit)) r ≡ putAt (now (out .entry)) at (lccText (lent size (now (ids .entry)) (now («out_offsets» .entry)) (now («out_targets» .entry)) (now («in_offsets» .entry)) (now («in_sources» .entry))) (now (line .entry))) ⌝ }
+    ensures { λ r. ⌜
+        written (now (out .exit)) r
+        ≡ putAt (now (out .entry)) at
+        (lccText
+        (lent size (now (ids .entry)) (now («out_offsets» .entry)) (now («out_targets» .entry))
+        (now («in_offsets» .entry)) (now («in_sources» .entry)))
+        (now (line .entry))) ⌝ }
 {
     let mut numerators = [0usize; 1024];
     let mut denominators = [0usize; 1024];
@@ -208,7 +239,13 @@ fn run_job(
     out: &mut [u8],
     at: usize,
 ) -> usize
-    ensures { λ r. ⌜ written (now (out .exit)) r ≡ putAt (now (out .entry)) at (jobText (lent size (now (ids .entry)) (now («out_offsets» .entry)) (now («out_targets» .entry)) (now («in_offsets» .entry)) (now («in_sources» .entry))) (now (line .entry)) job) ⌝ }
+    ensures { λ r. ⌜
+        written (now (out .exit)) r
+        ≡ putAt (now (out .entry)) at
+        (jobText
+        (lent size (now (ids .entry)) (now («out_offsets» .entry)) (now («out_targets» .entry))
+        (now («in_offsets» .entry)) (now («in_sources» .entry)))
+        (now (line .entry)) job) ⌝ }
 {
     match job {
         Job::Bfs(root) => bfs_job(
@@ -274,7 +311,13 @@ pub fn run_jobs(
     out: &mut [u8],
     at: usize,
 ) -> usize
-    ensures { λ r. ⌜ written (now (out .exit)) r ≡ putAt (now (out .entry)) at (jobsText (lent size (now (ids .entry)) (now («out_offsets» .entry)) (now («out_targets» .entry)) (now («in_offsets» .entry)) (now («in_sources» .entry))) (now (s .entry)) count from) ⌝ }
+    ensures { λ r. ⌜
+        written (now (out .exit)) r
+        ≡ putAt (now (out .entry)) at
+        (jobsText
+        (lent size (now (ids .entry)) (now («out_offsets» .entry)) (now («out_targets» .entry))
+        (now («in_offsets» .entry)) (now («in_sources» .entry)))
+        (now (s .entry)) count from) ⌝ }
 {
     let mut next = at;
     let mut place = from;

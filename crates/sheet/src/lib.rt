@@ -35,7 +35,12 @@ fn load_sections(
     in_sources: &mut [usize],
 ) -> Loaded
     requires { ⌜ Placed (now s) plan ⌝ }
-    ensures { λ r. ⌜ outcome (says r) (now (ids .exit)) (now («out_offsets» .exit)) (now («out_targets» .exit)) (now («in_offsets» .exit)) (now («in_sources» .exit)) ≡ loadOf (now (s .entry)) plan (roomOf (length (now (ids .entry))) (length (now («out_offsets» .entry))) (length (now («out_targets» .entry))) (length (now («in_offsets» .entry))) (length (now («in_sources» .entry)))) ⌝ }
+    ensures { λ r. ⌜
+        outcome (says r) (now (ids .exit)) (now («out_offsets» .exit)) (now («out_targets» .exit))
+        (now («in_offsets» .exit)) (now («in_sources» .exit))
+        ≡ loadOf (now (s .entry)) plan
+        (roomOf (length (now (ids .entry))) (length (now («out_offsets» .entry))) (length (now («out_targets» .entry)))
+        (length (now («in_offsets» .entry))) (length (now («in_sources» .entry)))) ⌝ }
 {
     let vertices = plan.vertices;
     let edges = plan.edges;

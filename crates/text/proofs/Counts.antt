@@ -95,7 +95,8 @@ module _ (n : ℕ) (l : List ℕ) (x : Leads n l) where
   leads-least =
       let k = within-is 49 57 (x .first) (x .lead) in
       let m : 1 ≤ withDigit 0 (x .first) = omega arith in
-      rw one-mul at (le-trans (mul-le-mul-right (10 ^ length (x .more)) m) (rw (x .val) at (number-least (withDigit 0 (x .first)) (x .more))))
+      rw one-mul at (le-trans (mul-le-mul-right (10 ^ length (x .more)) m)
+      (rw (x .val) at (number-least (withDigit 0 (x .first)) (x .more))))
 
   leads-most : n < 10 ^ suc (length (x .more))
   leads-most =

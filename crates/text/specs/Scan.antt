@@ -1,4 +1,5 @@
--- What the code scans from a place on, without knowing where the word ends. Past the end of a file `getD s at 0` is 0, which begins and continues nothing.
+-- What the code scans from a place on, without knowing where the word ends. Past the end of a file `getD s at 0` is 0, which begins and
+-- continues nothing.
 use Prim.Native.Nat.{ℕ, _+_, min}
 use mathlib.Core.List.{List}
 use mathlib.Core.Bool.{Bool, true, false, cond, _&&_}
@@ -22,7 +23,8 @@ use Rattle.text.specs.declared.decimal.DecimalWord.the-variants as DW
 use Rattle.text.specs.declared.line.Rest.{Rest}
 use Rattle.text.specs.declared.line.Rest.the-variants as R
 
--- what was scanned: where it is well formed, with the place of the first byte after it; else with that of the first byte at which it can't go on
+-- what was scanned: where it is well formed, with the place of the first byte after it; else with that of the first byte at which it
+-- can't go on
 pub record Scanned (A : Type 0) : Type 0 where
   pub said : Word A
   pub next : ℕ

@@ -1,5 +1,5 @@
--- Where a decimal breaks off: the place of the first byte at which no good decimal could go on, and the word's length where there is no such byte.
--- Past the end of a word `getD s at 0` is 0, which continues nothing.
+-- Where a decimal breaks off: the place of the first byte at which no good decimal could go on, and the word's length where there is no
+-- such byte. Past the end of a word `getD s at 0` is 0, which continues nothing.
 use Prim.Native.Nat.{ℕ, _+_, _-_, _*_}
 use mathlib.Core.List.{List}
 use mathlib.Core.Bool.{Bool, cond, _&&_, _||_}
