@@ -27,13 +27,13 @@ use Rattle.load.proofs.Refused.{load-turned}
 use Rattle.plan.specs.Lines.{lfs, sheetFault, inSheet, sheetLine}
 use Rattle.plan.specs.Jobs.{jobOf}
 use Rattle.plan.specs.Sheet.{mostBytes, mostJobs, modeOf, limited, countLine, anyOf, nextOf, linePast}
-use Rattle.plan.specs.Sheet.{linesPast, blockOf as blockLines, section, sections, ended, sheetCheck}
+use Rattle.plan.specs.Sheet.{linesPast, blockOf, section, sections, ended, sheetCheck}
 use Rattle.plan.specs.declared.sections.Plan.{Plan}
 use Rattle.plan.proofs.Places.{Accepted, accepted}
 use Rattle.write.specs.Put.{written, putAt}
 use Rattle.write.proofs.Puts.{wrote-whole}
 use Rattle.listing.specs.Listing.{refusedText}
-use Rattle.sheet.specs.Desk.{modeNumber, linesIn, graphIn, loadText, planText, checkedText, deskOutput, mostOutput}
+use Rattle.sheet.specs.Desk.{modeNumber, linesIn, graphIn, loadText, planText, checkedText, deskOutput, mostBehind, mostOutput}
 use Rattle.sheet.proofs.Whole.{listsIn, lists-good}
 use Rattle.sheet.proofs.Lengths.{Brief, refused-most, jobs-most}
 
@@ -58,7 +58,7 @@ module _ (s : List ℕ) (p : Plan) (a : Accepted s p) where
   plan-by (refuses r) e b = omega (arith, refused-most r b)
   plan-by (gives l) e b =
       let w = a .places .jobs in
-      let n : p .jobs .count * 43013 ≤ 16 * 43013 = omega (arith, a .places .few) in
+      let n : p .jobs .count * mostBehind ≤ mostJobs * mostBehind = omega (arith, a .places .few) in
       let o = outcomeOf deskRoom (gives l) in
       let g = lists-good s p l e in
       let small = ids-small (g .goodVertices .lines .words) (l .ids) (g .goodVertices .lines .values) in
@@ -69,8 +69,8 @@ module _ (s : List ℕ) (p : Plan) (a : Accepted s p) where
         w .rise,
         w .inside,
         jobs-most (graphIn (sizeOf l) (o .ids) (o .outOffsets) (o .outTargets) (o .inOffsets) (o .inSources))
-            (all-take Small (length (l .ids)) _ (all-pad Small (pos 0) 1024 (l .ids) (omega arith) small))
-            (omega (arith, g .idsFit, length-take (length (l .ids)) (padWith (pos 0) 1024 (l .ids)))) (g .idsFit) s (p .jobs .count)
+            (all-take Small (length (l .ids)) _ (all-pad Small (pos 0) deskVertices (l .ids) (omega arith) small))
+            (omega (arith, g .idsFit, length-take (length (l .ids)) (padWith (pos 0) deskVertices (l .ids)))) (g .idsFit) s (p .jobs .count)
             (p .jobs .from) (omega (arith, w .rise, w .inside)),
       )
 
@@ -122,7 +122,7 @@ module _ (s : List ℕ) (short : length s ≤ mostBytes) where
   section-brief : (jobs : Bool) (limit place : ℕ) → Either Any Brief (section jobs limit s place)
   unfolding section countLine
   section-brief jobs limit place =
-      refused-onward Brief (countLine limit s place) (blockLines jobs s)
+      refused-onward Brief (countLine limit s place) (blockOf jobs s)
       (refused-onward Brief (sheetLine countOf s place) (limited limit s place) (line-brief countOf place)
       (λ c. either-cond Any Brief (leb (c .0) limit) _ _ (λ _. tt) (λ _. fault-brief place 1 (omega arith))))
       (λ c. refused-onward Brief (linesPast jobs (c .0) s (c .1)) _ (lines-brief jobs (c .0) (c .1)) (λ to. tt))

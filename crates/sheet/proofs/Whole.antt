@@ -7,6 +7,7 @@ use lib.IntN.{ℤ}
 use lib.ListN.{length}
 use Rattle.basis.specs.Refusal.{Said, gives}
 use Rattle.basis.specs.declared.refusal.Refusal.{Refusal}
+use Rattle.basis.specs.Limits.{deskVertices}
 use Rattle.basis.proofs.Saids.{mapped-gives}
 use Rattle.graph.specs.declared.Size.{Size}
 use Rattle.load.specs.declared.Loaded.{Loaded}
@@ -38,7 +39,7 @@ module _ (s : List ℕ) (p : Plan) where
 -- a graph that was loaded has no more vertices than the area of identifiers has places
 pub few-vertices : (s : List ℕ) (p : Plan) (x : Loaded) {ids : List ℤ} {oo ot io is : List ℕ} (size : Size)
     → outcome (says x) ids oo ot io is ≡ loadOf s p deskRoom
-    → x ≡ LD.Graph size → size .vertices ≤ 1024
+    → x ≡ LD.Graph size → size .vertices ≤ deskVertices
 unfolding loadCall outcomeOf
 few-vertices s p x size u e =
     let g = mapped-gives sizeOf (listsIn s p) size (sym (ap says e) ∙ ap (λ (o : Outcome). o .answer) u) in

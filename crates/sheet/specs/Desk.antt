@@ -50,6 +50,10 @@ checkedText s (refuses r) = refusedText r
 unfoldable pub deskOutput : List ℕ → List ℕ
 deskOutput s = checkedText s (sheetCheck s)
 
--- no sheet prints more bytes than this: the lines of the jobs stand in the sheet, and each job prints at most 43,013 bytes behind its line
+-- no job prints more bytes than this behind its line: a count line of 5, and 1,024 lines of 42
+abbrev pub mostBehind : ℕ
+mostBehind = 43013
+
+-- no sheet prints more bytes than this: the lines of the jobs stand in the sheet, and each job prints the rest behind its line
 abbrev pub mostOutput : ℕ
-mostOutput = mostBytes + mostJobs * 43013
+mostOutput = mostBytes + mostJobs * mostBehind

@@ -1,5 +1,6 @@
 // A sheet's jobs: each runs its kernel on the loaded graph and prints its lines. `line` is the job's line with its LF, and `ids` has just
 // the graph's vertices. Each kernel's areas are zeros when it is called.
+use basis::limits::DESK_VERTICES;
 use bfs::bfs;
 use cdlp::cdlp;
 use graph::Size;
@@ -90,8 +91,8 @@ fn bfs_job(
         (now («in_offsets» .entry)) (now («in_sources» .entry)))
         root (now (line .entry))) ⌝ }
 {
-    let mut depth = [0i64; 1024];
-    let mut queue = [0usize; 1024];
+    let mut depth = [0i64; DESK_VERTICES];
+    let mut queue = [0usize; DESK_VERTICES];
     let x = bfs(
         size,
         ids,
@@ -125,9 +126,9 @@ fn wcc_job(
         (now («in_offsets» .entry)) (now («in_sources» .entry)))
         (now (line .entry))) ⌝ }
 {
-    let mut result = [0i64; 1024];
-    let mut parents = [0usize; 1024];
-    let mut sizes = [0usize; 1024];
+    let mut result = [0i64; DESK_VERTICES];
+    let mut parents = [0usize; DESK_VERTICES];
+    let mut sizes = [0usize; DESK_VERTICES];
     let x = wcc(
         size,
         ids,
@@ -162,10 +163,10 @@ fn cdlp_job(
         (now («in_offsets» .entry)) (now («in_sources» .entry)))
         iterations (now (line .entry))) ⌝ }
 {
-    let mut result = [0i64; 1024];
-    let mut labels = [0usize; 1024];
-    let mut next_labels = [0usize; 1024];
-    let mut counts = [0usize; 1024];
+    let mut result = [0i64; DESK_VERTICES];
+    let mut labels = [0usize; DESK_VERTICES];
+    let mut next_labels = [0usize; DESK_VERTICES];
+    let mut counts = [0usize; DESK_VERTICES];
     let x = cdlp(
         size,
         ids,
@@ -201,9 +202,9 @@ fn lcc_job(
         (now («in_offsets» .entry)) (now («in_sources» .entry)))
         (now (line .entry))) ⌝ }
 {
-    let mut numerators = [0usize; 1024];
-    let mut denominators = [0usize; 1024];
-    let mut work = [0usize; 1024];
+    let mut numerators = [0usize; DESK_VERTICES];
+    let mut denominators = [0usize; DESK_VERTICES];
+    let mut work = [0usize; DESK_VERTICES];
     let x = lcc(
         size,
         ids,

@@ -70,11 +70,11 @@ fn print_plan(s: &[u8], plan: Plan, out: &mut [u8]) -> usize
     ensures { λ r. ⌜ written (now (out .exit)) r ≡ putAt (now (out .entry)) 0 (planText (now (s .entry)) plan) ⌝ }
 {
     let jobs = plan.jobs;
-    let mut ids = [0i64; 1024];
-    let mut out_offsets = [0usize; 1025];
-    let mut out_targets = [0usize; 4096];
-    let mut in_offsets = [0usize; 1025];
-    let mut in_sources = [0usize; 4096];
+    let mut ids = [0i64; DESK_VERTICES];
+    let mut out_offsets = [0usize; DESK_VERTICES + 1];
+    let mut out_targets = [0usize; 2 * DESK_EDGES];
+    let mut in_offsets = [0usize; DESK_VERTICES + 1];
+    let mut in_sources = [0usize; 2 * DESK_EDGES];
     let x = load_sections(
         s,
         plan,

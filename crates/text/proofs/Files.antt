@@ -23,13 +23,10 @@ use Rattle.text.specs.File.{noTest, joined, Says, Passes, lastOf, GoodFi
 use Rattle.text.proofs.Bytes.{cut-at, upTo-none, drop-past}
 use Rattle.text.proofs.Cuts.{cut-line}
 use Rattle.text.proofs.Places.{line-moves, none-stays}
+use Rattle.text.proofs.Lines.{line-end}
 
 -- ---- a line at a place, by the bytes from there on
 module _ {A : Type 0} (word : List ℕ → Word A) (s : List ℕ) (place : ℕ) where
-  pub line-end : length s ≤ place → lineBy word s place ≡ none place
-  unfolding lineBy
-  line-end h = rw (le-leb (length s) place h)
-
   pub line-open : place < length s → mem lf (drop place s) ≡ false → lineBy word s place ≡ fault badForm place
   unfolding lineBy
   line-open h m = rw (lt-leb (length s) place h, m)
@@ -121,7 +118,7 @@ module _ {A : Type 0} (word : List ℕ → Word A) (file most : ℕ) (test : Bef
     passed-end p e = h .rest ∙ rw (left-none word file most test s k (lastOf first done) place p e) (ap gives (append-nil done))
 
     pub passed-full : length s ≤ place → valuesOf file most test (linesOf (lineBy word) s) ≡ gives done
-    passed-full e = passed-end place (line-end word s place e)
+    passed-full e = passed-end place (sym (line-end word s place e))
 
     pub passed-over : most ≤ k → place < length s → valuesOf file most test (linesOf (lineBy word) s) ≡ refuses (at tooMany file (k + 1))
     passed-over l e = h .rest ∙ rw (left-over word file most test s k (lastOf first done) place l e)
