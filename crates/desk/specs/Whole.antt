@@ -6,6 +6,10 @@ use lib.ListN.{length, take}
 use Rattle.plan.specs.Sheet.{mostBytes}
 use Rattle.sheet.specs.Desk.{deskOutput, mostOutput}
 
+-- how many places the area for the output has
+abbrev pub areaPlaces : ℕ
+areaPlaces = 760000
+
 -- the n bytes that were read lie in an area of more places than a sheet has bytes, and the other area has a place for every byte of the
 -- longest output
 pub record SheetAreas (n : ℕ) (bytes out : List ℕ) : Type 0 where

@@ -9,6 +9,7 @@ ghost use mathlib.Core.Path.{_≡_};
 ghost use Rattle.write.specs.Put.{written, putAt};
 ghost use Rattle.listing.specs.Listing.{headText, namedText, fractionText, pairText, ratioText, pairLines, ratioLines};
 
+// What stands between the two numbers of a coefficient.
 pub const SLASH: u8 = 47;
 
 // A job's line, which has its LF, and the count line.
@@ -28,6 +29,7 @@ fn put_named(out: &mut [u8], at: usize, id: i64) -> usize
     put(out, next, SPACE)
 }
 
+// A coefficient.
 fn put_fraction(out: &mut [u8], at: usize, numerator: usize, denominator: usize) -> usize
     ensures { λ r. ⌜ written (now (out .exit)) r ≡ putAt (now (out .entry)) at (fractionText numerator denominator) ⌝ }
 {

@@ -46,7 +46,7 @@ jobOf bs =
 abbrev pub jobLine : List ℕ → ℕ → Said (Job × ℕ)
 jobLine s place = sheetLine jobOf s place
 
--- the paper's number and values of the code's answer
+-- what the code's answer for a job line says: the job and the place past the line, or the refusal
 abbrev pub jobSays : JobLine → Said (Job × ℕ)
 jobSays (JL.Refused r) = refuses r
 jobSays (JL.Line j next) = gives (j, next)

@@ -106,27 +106,27 @@ ended s p = cond (ltb (p .jobs .to) (length s)) (refuses (sheetFault s (p .jobs 
 unfoldable pub sheetCheck : List ℕ → Said Plan
 sheetCheck s = cond (ltb mostBytes (length s)) (refuses (at tooMany sheetFile 0)) (onward (sections s) (ended s))
 
--- the paper's number and values of each of the code's answers
+-- what the code's answer for a whole sheet says: its plan, or the refusal
 abbrev pub checkedSays : Checked → Said Plan
 checkedSays (Ch.Refused r) = refuses r
 checkedSays (Ch.Good p) = gives p
 
--- of the first line: whether directed, and the place past it
+-- what the code's answer for the first line says: whether directed, and the place past it
 abbrev pub modeSays : Mode → Said (Bool × ℕ)
 modeSays (M.Refused r) = refuses r
 modeSays (M.Directed d next) = gives (d, next)
 
--- of a count line: the count, and the place past it
+-- what the code's answer for a count line says: the count, and the place past it
 abbrev pub countLineSays : CountLine → Said (ℕ × ℕ)
 countLineSays (C.Refused r) = refuses r
 countLineSays (C.Count n next) = gives (n, next)
 
--- of one line or of a section's lines: the place past them
+-- what the code's answer for one line or a section's lines says: the place past them
 abbrev pub pastSays : Past → Said ℕ
 pastSays (P.Refused r) = refuses r
 pastSays (P.Next next) = gives next
 
--- of a section: how many lines, where they begin, the place past them
+-- what the code's answer for a section says: how many lines, where they begin, the place past them
 abbrev pub sectionSays : Section → Said Block
 sectionSays (S.Refused r) = refuses r
 sectionSays (S.Lines b) = gives b

@@ -20,8 +20,10 @@ ghost use Rattle.basis.specs.Limits.{deskEdges};
 ghost use Rattle.plan.specs.Sheet.{modeLine, countLine, linePast, linesPast, section, sections, sheetCheck};
 ghost use Rattle.plan.specs.Sheet.{modeSays, countLineSays, pastSays, sectionSays, checkedSays};
 
+// How many jobs a sheet may have.
 pub const MOST_JOBS: usize = 16;
 
+// How many bytes a sheet may have.
 pub const MOST_BYTES: usize = 65536;
 
 // How many lines a section has, where they begin, and the place past them.
@@ -31,6 +33,7 @@ pub struct Block {
     pub to: usize,
 }
 
+// Whether the graph is directed, and where the three sections stand.
 pub struct Plan {
     pub directed: bool,
     pub vertices: Block,
@@ -38,26 +41,31 @@ pub struct Plan {
     pub jobs: Block,
 }
 
+// A sheet's plan, or why the sheet is refused.
 pub enum Checked {
     Refused(Refusal),
     Good(Plan),
 }
 
+// Whether the graph is directed and the place past the first line, or why that line is refused.
 enum Mode {
     Refused(Refusal),
     Directed(bool, usize),
 }
 
+// A count and the place past its line, or why that line is refused.
 enum CountLine {
     Refused(Refusal),
     Count(usize, usize),
 }
 
+// The place past some lines, or why one of them is refused.
 enum Past {
     Refused(Refusal),
     Next(usize),
 }
 
+// Where a section stands, or why one of its lines is refused.
 enum Section {
     Refused(Refusal),
     Lines(Block),

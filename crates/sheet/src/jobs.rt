@@ -71,6 +71,7 @@ fn put_coefficients(
     }
 }
 
+// What a BFS job prints.
 fn bfs_job(
     size: Size,
     ids: &[i64],
@@ -107,6 +108,7 @@ fn bfs_job(
     put_labels(x, size.vertices, ids, &depth, line, out, at)
 }
 
+// What a WCC job prints.
 fn wcc_job(
     size: Size,
     ids: &[i64],
@@ -143,6 +145,7 @@ fn wcc_job(
     put_labels(x, size.vertices, ids, &result, line, out, at)
 }
 
+// What a CDLP job prints.
 fn cdlp_job(
     size: Size,
     ids: &[i64],
@@ -183,6 +186,7 @@ fn cdlp_job(
     put_labels(x, size.vertices, ids, &result, line, out, at)
 }
 
+// What an LCC job prints.
 fn lcc_job(
     size: Size,
     ids: &[i64],
@@ -228,6 +232,7 @@ fn lcc_job(
     )
 }
 
+// What a job prints.
 fn run_job(
     size: Size,
     ids: &[i64],

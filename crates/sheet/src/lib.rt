@@ -18,6 +18,7 @@ ghost use Rattle.write.specs.Put.{written, putAt};
 ghost use Rattle.sheet.specs.Desk.{modeNumber, loadOf, planText, deskOutput};
 ghost use Rattle.sheet.specs.Steps.{Placed};
 
+// The load's number for a mode.
 fn mode_number(directed: bool) -> usize
     ensures { λ r. ⌜ r ≡ modeNumber directed ⌝ }
 {

@@ -7,21 +7,25 @@ ghost use Rattle.text.specs.Bytes.{lf, zeroDigit, nineDigit};
 ghost use Rattle.text.specs.Line.{upTo};
 ghost use Rattle.text.specs.Scan.{cutNumber, saturated, hasAt, runAt, countAt, countSays};
 
-// What ends a line, and what stands between the two words of one.
+// What ends a line.
 pub const LF: u8 = 10;
 
+// What stands between the two words of a line.
 pub const SPACE: u8 = 32;
 
-// The first digit, the first that may lead a number, and the last.
+// The first digit.
 pub const ZERO: u8 = 48;
 
+// The first digit that may lead a number.
 const ONE: u8 = 49;
 
+// The last digit.
 pub const NINE: u8 = 57;
 
-// The two signs.
+// The sign of a number below zero, and of a power that divides.
 pub const MINUS: u8 = 45;
 
+// The sign of a power that multiplies.
 pub const PLUS: u8 = 43;
 
 // 2^63 + 1: a number is carried as itself, or as this where it is larger.
@@ -60,6 +64,7 @@ pub fn line_end(s: &[u8], from: usize) -> usize
     i
 }
 
+// A number as it is carried.
 fn cut(n: u64) -> u64
     ensures { λ r. ⌜ r ≡ cutNumber n ⌝ }
 {

@@ -13,9 +13,10 @@ ghost use Rattle.text.specs.Decimal.{digitOf, pastPoint, wholeIsGood, po
 ghost use Rattle.text.specs.Stop.{isSign, digitsStop, digitsPower, powerStop, partsStop, decimalStop, powerWord, scaledWord};
 ghost use Rattle.text.specs.Scan.{scanned, decimalSays};
 
-// What stands before the digits of a fraction, and what before a sign and two digits.
+// What stands before the digits of a fraction.
 const POINT: u8 = 46;
 
+// What stands before the sign and the two digits of a power.
 const POWER: u8 = 101;
 
 // How many digits may stand before the `e`.
@@ -48,6 +49,7 @@ fn byte_at(s: &[u8], at: usize) -> u8
     if at < s.len() { s[at] } else { 0 }
 }
 
+// Whether a byte is a digit.
 fn is_digit(b: u8) -> bool
     ensures { λ r. ⌜ r ≡ isDigit b ⌝ }
 {
@@ -60,6 +62,7 @@ fn is_digit(b: u8) -> bool
     true
 }
 
+// Whether a byte is a sign.
 fn is_sign(b: u8) -> bool
     ensures { λ r. ⌜ r ≡ isSign b ⌝ }
 {
@@ -112,6 +115,7 @@ fn whole_is_good(s: &[u8], w: usize) -> bool
     true
 }
 
+// What two digits are worth.
 fn two_digits(x: u8, y: u8) -> u8
     ensures { λ r. ⌜ r ≡ digitOf x * 10 + digitOf y ⌝ }
 {
