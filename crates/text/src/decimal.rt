@@ -187,7 +187,8 @@ fn with_power(n: u64, f: u8, p: Power) -> DecimalWord
 // w digits before the point and f after it, from p on, that make the number n.
 fn parts(s: &[u8], w: usize, p: usize, f: usize, n: u64) -> DecimalWord
     requires { ⌜ (w ≤ p) × (p + f ≤ length (now s)) ⌝ }
-    ensures { λ r. ⌜ decimalSays (length (now (s .entry))) r
+    ensures { λ r. ⌜
+        decimalSays (length (now (s .entry))) r
         ≡ scanned (partsOf (now (s .entry)) w p f n) (partsStop (now (s .entry)) w p f) ⌝ }
 {
     if w == 0 {
@@ -213,7 +214,8 @@ fn parts(s: &[u8], w: usize, p: usize, f: usize, n: u64) -> DecimalWord
 
 // What the bytes of a whole decimal say, or where they break off.
 pub(crate) fn decimal_of(s: &[u8]) -> DecimalWord
-    ensures { λ r. ⌜ decimalSays (length (now (s .entry))) r
+    ensures { λ r. ⌜
+        decimalSays (length (now (s .entry))) r
         ≡ scanned (decimalOf (now (s .entry))) (decimalStop (now (s .entry))) ⌝ }
 {
     let whole = digits(s, 0, 0);
