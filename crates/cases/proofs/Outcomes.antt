@@ -3,7 +3,6 @@
 -- promised, not where it lies. Assumes nothing.
 use mathlib.Core.Path.{_≡_, refl, sym, ap, _∙_}
 use denote.Ref.{now}
-use lib.ListN.{length}
 use Rattle.graph.specs.Part.{partOf}
 use Rattle.basis.proofs.refusal.Refusal.plain as basis-plain
 use Rattle.basis.proofs.refusal.Refusal.at as basis-at
@@ -17,12 +16,9 @@ use Rattle.basis.proofs.area.clear as basis-clear
 use Rattle.basis.proofs.area.clear_signed as basis-clear_signed
 use Rattle.basis.proofs.area.copy as basis-copy
 use Rattle.text.proofs.count.has as text-has
-use Rattle.text.proofs.count.digits as text-digits
 use Rattle.text.proofs.count.line_end as text-line_end
 use Rattle.text.proofs.count.count as text-count
-use Rattle.text.proofs.ident.ident as text-ident
 use Rattle.text.proofs.ident.field as text-field
-use Rattle.text.proofs.decimal.decimal_of as text-decimal_of
 use Rattle.text.proofs.line.Cursor.vertex as text-vertex
 use Rattle.text.proofs.line.Cursor.edge as text-edge
 use Rattle.text.proofs.line.Cursor.claim as text-claim
@@ -95,7 +91,7 @@ use Rattle.trace.proofs.group_book.trace_book_count as trace-trace_book_count
 use Rattle.trace.proofs.group_book.trace_book_limit as trace-trace_book_limit
 use Rattle.trace.proofs.judging.trace_judge as trace-trace_judge
 use Rattle.trace.proofs.judging.trace_verdict as trace-trace_verdict
-use Rattle.text.proofs.Saids.{count-one, scan-one, decimal-one, vertex-one, edge-one, coefficient-one}
+use Rattle.text.proofs.Saids.{count-one, scan-one, vertex-one, edge-one, coefficient-one}
 use Rattle.graph.proofs.Finds.{searched-is}
 use Rattle.book.proofs.Answers.{one-opened, one-joined, one-joinedEach, one-headed, one-compared, one-reading}
 use Rattle.plan.proofs.Saids.{job-one, checked-one}
@@ -149,28 +145,14 @@ basis-copy-one =
 pub text-has-one : One text-has.ended (λ M 𝓤. text-has.clauses 𝓤)
 text-has-one = record { promise = text-has.Reads.Learnt; told = refl; one = λ _ _ _ _ _ _ p q. (meet p q, refl) }
 
-pub text-digits-one : One text-digits.ended (λ M 𝓤. text-digits.clauses 𝓤)
-text-digits-one = record { promise = text-digits.Reads.Learnt; told = refl; one = λ _ _ _ _ _ _ p q. (meet p q, refl) }
-
 pub text-line_end-one : One text-line_end.ended (λ M 𝓤. text-line_end.clauses 𝓤)
 text-line_end-one = record { promise = text-line_end.Reads.Learnt; told = refl; one = λ _ _ _ _ _ _ p q. (meet p q, refl) }
 
 pub text-count-one : One text-count.ended (λ M 𝓤. text-count.clauses 𝓤)
 text-count-one = record { promise = text-count.Reads.Learnt; told = refl; one = λ _ _ z z′ _ _ p q. (count-one z z′ (meet p q), refl) }
 
-pub text-ident-one : One text-ident.ended (λ M 𝓤. text-ident.clauses 𝓤)
-text-ident-one = record { promise = text-ident.Reads.Learnt; told = refl; one = λ _ _ z z′ _ _ p q. (scan-one z z′ (meet p q), refl) }
-
 pub text-field-one : One text-field.ended (λ M 𝓤. text-field.clauses 𝓤)
 text-field-one = record { promise = text-field.Reads.Learnt; told = refl; one = λ _ _ z z′ _ _ p q. (scan-one z z′ (meet p q), refl) }
-
-pub text-decimal_of-one : One text-decimal_of.ended (λ M 𝓤. text-decimal_of.clauses 𝓤)
-text-decimal_of-one =
-    record {
-      promise = text-decimal_of.Reads.Learnt;
-      told = refl;
-      one = λ _ a z z′ _ _ p q. (decimal-one (length (now (a .0))) z z′ (meet p q), refl);
-    }
 
 pub text-vertex-one : One text-vertex.ended (λ M 𝓤. text-vertex.clauses 𝓤)
 text-vertex-one = record { promise = text-vertex.Reads.Learnt; told = refl; one = λ _ _ z z′ _ _ p q. (vertex-one z z′ (meet p q), refl) }

@@ -6,8 +6,13 @@ use lib.ListN.{length, take}
 use Rattle.plan.specs.Sheet.{mostBytes}
 use Rattle.sheet.specs.Desk.{deskOutput, mostOutput}
 
--- the n bytes that were read lie in an area of more places than a sheet has bytes, and the other area has a place for every byte of the longest output
-pub record Roomy (n : ℕ) (bytes out : List ℕ) : Type 0 where
+-- how many places the area for the output has
+abbrev pub areaPlaces : ℕ
+areaPlaces = 760000
+
+-- the n bytes that were read lie in an area of more places than a sheet has bytes, and the other area has a place for every byte of the
+-- longest output
+pub record SheetAreas (n : ℕ) (bytes out : List ℕ) : Type 0 where
   pub inside : n ≤ length bytes
   pub over : mostBytes < length bytes
   pub room : mostOutput ≤ length out

@@ -7,7 +7,7 @@ use lib.IntN.{ℤ, pos}
 use lib.ListN.{length, getD, drop, drop-of-length-le}
 use lib.Seq.{drop-cons}
 use Rattle.basis.specs.declared.refusal.Refusal.{Refusal}
-use Rattle.text.specs.Line.{lf, space}
+use Rattle.text.specs.Bytes.{lf, space}
 use Rattle.write.specs.Put.{Written, written, putAt}
 use Rattle.write.specs.Number.{countText, signedText}
 use Rattle.write.proofs.Puts.{put-then, putting-more, putting-end}

@@ -3,7 +3,7 @@ use Prim.Native.Nat.{ℕ}
 use mathlib.Core.List.{List, [], _∷_, _++_}
 use lib.IntN.{ℤ}
 use Rattle.basis.specs.declared.refusal.Refusal.{Refusal}
-use Rattle.text.specs.Line.{lf, space}
+use Rattle.text.specs.Bytes.{bytes, lf, space}
 use Rattle.write.specs.Number.{countText, signedText}
 
 -- the byte of `/`
@@ -12,7 +12,7 @@ slash = 47
 
 -- `refused`, the word alone
 abbrev pub refusedWord : List ℕ
-refusedWord = 114 ∷ 101 ∷ 102 ∷ 117 ∷ 115 ∷ 101 ∷ 100 ∷ []
+refusedWord = bytes "refused"
 
 -- one space and a number
 unfoldable pub spacedText : ℕ → List ℕ

@@ -9,6 +9,7 @@ ghost use mathlib.Core.Path.{_≡_};
 ghost use Rattle.write.specs.Put.{written, putAt};
 ghost use Rattle.listing.specs.Listing.{headText, namedText, fractionText, pairText, ratioText, pairLines, ratioLines};
 
+// What stands between the two numbers of a coefficient.
 pub const SLASH: u8 = 47;
 
 // A job's line, which has its LF, and the count line.
@@ -28,6 +29,7 @@ fn put_named(out: &mut [u8], at: usize, id: i64) -> usize
     put(out, next, SPACE)
 }
 
+// A coefficient.
 fn put_fraction(out: &mut [u8], at: usize, numerator: usize, denominator: usize) -> usize
     ensures { λ r. ⌜ written (now (out .exit)) r ≡ putAt (now (out .entry)) at (fractionText numerator denominator) ⌝ }
 {
@@ -56,7 +58,9 @@ pub fn put_ratio(out: &mut [u8], at: usize, id: i64, numerator: usize, denominat
 
 // The result lines of a list of identifiers and one of values, as far as both go.
 pub fn put_pairs(out: &mut [u8], at: usize, ids: &[i64], values: &[i64]) -> usize
-    ensures { λ r. ⌜ written (now (out .exit)) r ≡ putAt (now (out .entry)) at (pairLines (now (ids .entry)) (now (values .entry))) ⌝ }
+    ensures { λ r. ⌜
+        written (now (out .exit)) r
+        ≡ putAt (now (out .entry)) at (pairLines (now (ids .entry)) (now (values .entry))) ⌝ }
 {
     let mut next = at;
     let mut i = 0;
@@ -78,7 +82,9 @@ pub fn put_ratios(
     numerators: &[usize],
     denominators: &[usize],
 ) -> usize
-    ensures { λ r. ⌜ written (now (out .exit)) r ≡ putAt (now (out .entry)) at (ratioLines (now (ids .entry)) (now (numerators .entry)) (now (denominators .entry))) ⌝ }
+    ensures { λ r. ⌜
+        written (now (out .exit)) r
+        ≡ putAt (now (out .entry)) at (ratioLines (now (ids .entry)) (now (numerators .entry)) (now (denominators .entry))) ⌝ }
 {
     let mut next = at;
     let mut i = 0;

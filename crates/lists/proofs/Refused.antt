@@ -14,7 +14,7 @@ use Rattle.graph.specs.Find.{isThere}
 use Rattle.text.specs.Word.{identOf}
 use Rattle.text.specs.Line.{twoOf}
 use Rattle.text.specs.File.{Before, first, after}
-use Rattle.text.proofs.Files.{Met, file-met}
+use Rattle.text.proofs.Files.{FileRefusal, file-refusal}
 use Rattle.lists.specs.Files.{vertexTest, identifiers, isAbove, edgeTest, edgesOf}
 
 vertex-low : (before : Before ℤ) (z : ℤ) → vertexTest before z ≤ 7
@@ -37,9 +37,9 @@ edge-low undirected place before e =
     go false false true false = omega arith
     go false false false d = omega arith
 
-pub vertices-met : (most : ℕ) (s : List ℕ) → Either Any (Met vertexFile most) (identifiers most s)
-vertices-met most s = file-met identOf vertexFile most vertexTest vertex-low s
+pub vertices-refusal : (most : ℕ) (s : List ℕ) → Either Any (FileRefusal vertexFile most) (identifiers most s)
+vertices-refusal most s = file-refusal identOf vertexFile most vertexTest vertex-low s
 
-pub edges-met : (undirected : Bool) (most : ℕ) (place : ℤ → Found) (s : List ℕ)
-    → Either Any (Met edgeFile most) (edgesOf undirected most place s)
-edges-met undirected most place s = file-met (twoOf identOf identOf) edgeFile most (edgeTest undirected place) (edge-low undirected place) s
+pub edges-refusal : (undirected : Bool) (most : ℕ) (place : ℤ → Found) (s : List ℕ)
+    → Either Any (FileRefusal edgeFile most) (edgesOf undirected most place s)
+edges-refusal undirected most place s = file-refusal (twoOf identOf identOf) edgeFile most (edgeTest undirected place) (edge-low undirected place) s

@@ -9,10 +9,10 @@ use lib.ListN.{length}
 use Rattle.basis.specs.declared.refusal.Refusal.{Refusal}
 use Rattle.basis.specs.Refusal.{Said, vertexFile, edgeFile}
 use Rattle.basis.proofs.Saids.{Either, Any, either-refused, either-cond, refused-onward}
-use Rattle.text.proofs.Files.{Met}
+use Rattle.text.proofs.Files.{FileRefusal}
 use Rattle.graph.specs.Find.{placeIn}
 use Rattle.lists.specs.Files.{identifiers, edgesOf}
-use Rattle.lists.proofs.Refused.{vertices-met, edges-met}
+use Rattle.lists.proofs.Refused.{vertices-refusal, edges-refusal}
 use Rattle.load.specs.declared.Limits.{Limits}
 use Rattle.load.specs.Load.{Room, isUndirected, placesFor, arcRoom, withRoom, listedArcs, arcsRead, listsRead, loaded}
 
@@ -23,7 +23,7 @@ pub record LoadRefusal (limits : Limits) (r : Refusal) : Type 0 where
   pub inLines : r .line ≤ limits .vertices + limits .edges + 1
 
 module _ (limits : Limits) where
-  of-file : {A : Type 0} (file most : ℕ) → file ≤ 2 → most ≤ limits .vertices + limits .edges → (x : Said A) → Either Any (Met file most) x
+  of-file : {A : Type 0} (file most : ℕ) → file ≤ 2 → most ≤ limits .vertices + limits .edges → (x : Said A) → Either Any (FileRefusal file most) x
       → Either Any (LoadRefusal limits) x
   of-file file most k l x h =
       either-refused Any
@@ -45,13 +45,13 @@ module _ (limits : Limits) where
       let ids = identifiers (limits .vertices) v in
       either-cond Any (LoadRefusal limits) (leb mode 1) _ _
       (λ _. refused-onward (LoadRefusal limits) ids _ (of-file vertexFile (limits .vertices) (omega arith) (omega arith) ids
-      (vertices-met (limits .vertices) v))
+      (vertices-refusal (limits .vertices) v))
       (λ i. refused-onward (LoadRefusal limits) (withRoom (placesFor room i) i) _
       (of-room (placesFor room i) i)
       (λ i. let es = edgesOf undirected (limits .edges) (placeIn i) e in
       refused-onward (LoadRefusal limits) (arcsRead undirected (limits .edges) i e (room .outTargets) (room .inSources)) _
       (refused-onward (LoadRefusal limits) es _ (of-file edgeFile (limits .edges) (omega arith) (omega arith) es
-      (edges-met undirected (limits .edges) (placeIn i) e))
+      (edges-refusal undirected (limits .edges) (placeIn i) e))
       (λ es. let l = listedArcs undirected i es in of-room (arcRoom (room .outTargets) (room .inSources) (length l)) l))
       (λ l. tt))))
       (λ _. record { some = omega arith; low = omega arith; inFile = omega arith; inLines = omega arith })

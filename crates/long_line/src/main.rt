@@ -1,8 +1,11 @@
 // A program beside the layers. Reads a vertex line of a million digits 9 and prints what is said of it: the refusal's number and the place.
 use libc::STDOUT_FILENO;
 use text::Cursor;
+use text::count::LF;
+use text::count::NINE;
 use text::line::VertexLine;
 
+// How many digits the line has.
 const DIGITS: usize = 1000000;
 
 // Two numbers on a line of their own.
@@ -14,8 +17,8 @@ fn print_two(a: usize, b: usize) {
 }
 
 fn main() {
-    let mut s = [57u8; 1000001];
-    s[DIGITS] = 10;
+    let mut s = [NINE; DIGITS + 1];
+    s[DIGITS] = LF;
     let at = Cursor { at: 0 };
     let x = at.vertex(&s);
     match x {

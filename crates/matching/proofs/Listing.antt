@@ -13,7 +13,8 @@ use Rattle.basis.specs.Refusal.{gives, claimFile}
 use Rattle.basis.specs.Scan.{mem}
 use Rattle.text.specs.Word.{Word, value, within, identOf}
 use Rattle.text.specs.Decimal.{decimalOf}
-use Rattle.text.specs.Line.{lf, space, past, twoOf, lineBy}
+use Rattle.text.specs.Bytes.{lf, space}
+use Rattle.text.specs.Line.{past, twoOf, lineBy}
 use Rattle.text.specs.File.{joined, Says, first, noTest}
 use Rattle.text.specs.declared.decimal.Decimal.{Decimal}
 use Rattle.text.proofs.Bytes.{mem-cut, not-head, not-tail, mem-join, upTo-cut, past-stop, past-more}

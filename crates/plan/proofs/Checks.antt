@@ -14,8 +14,9 @@ use Rattle.basis.specs.Scan.{mem}
 use Rattle.basis.proofs.Tests.{clash, bool-cases, failed, held, no-case}
 use Rattle.basis.specs.Limits.{deskVertices, deskEdges}
 use Rattle.text.specs.Word.{Word, malformed, outside, value, within, countOf}
-use Rattle.text.specs.Line.{lf, upTo}
-use Rattle.text.specs.Scan.{Scanned, scanned, hasAt, capped, cutWord, countAt, countSays, closed, lineOf}
+use Rattle.text.specs.Bytes.{lf}
+use Rattle.text.specs.Line.{upTo}
+use Rattle.text.specs.Scan.{Scanned, scanned, hasAt, cutNumber, cutWord, countAt, countSays, closed, lineOf}
 use Rattle.text.specs.declared.count.Counted.{Counted}
 use Rattle.text.specs.declared.count.Counted.the-variants as T
 use Rattle.text.proofs.Bytes.{upTo-cut}
@@ -23,8 +24,8 @@ use Rattle.text.proofs.Words.{word-has, no-end, count-reads}
 use Rattle.plan.specs.Lines.{sheetFault, inSheet, begins}
 use Rattle.plan.specs.Jobs.{jobLine, jobSays}
 use Rattle.plan.specs.Sheet.{mostJobs, mostBytes, directedWord, undirectedWord, modeOf, modeLine, limited}
-use Rattle.plan.specs.Sheet.{countLine, anyOf, nextOf, linePast, linesPast, block, linesOf, section, plan}
-use Rattle.plan.specs.Sheet.{sections, ended, checked, checkedSays, modeSays, countLineSays, pastSays, sectionSays}
+use Rattle.plan.specs.Sheet.{countLine, anyOf, nextOf, linePast, linesPast, block, blockOf, section, plan}
+use Rattle.plan.specs.Sheet.{sections, ended, sheetCheck, checkedSays, modeSays, countLineSays, pastSays, sectionSays}
 use Rattle.plan.specs.declared.job.Job.{Job}
 use Rattle.plan.specs.declared.job.JobLine.{JobLine}
 use Rattle.plan.specs.declared.job.JobLine.the-variants as JL
@@ -92,11 +93,11 @@ module _ (s : List ℕ) (limit at : ℕ) where
   by-malformed outside next e = no-case cc
   by-malformed (value n) next e = no-case cc
 
-  by-value : (w : Word ℕ) (n next : ℕ) → limit ≤ 2048 → cutWord w ≡ value n → valueBy n next ≡ countBy (scanned w next)
+  by-value : (w : Word ℕ) (n next : ℕ) → limit ≤ deskEdges → cutWord w ≡ value n → valueBy n next ≡ countBy (scanned w next)
   by-value malformed n next h e = no-case cc
   by-value outside n next h e = no-case cc
   by-value (value m) n next h e =
-      let c : capped m ≡ n = cc in
+      let c : cutNumber m ≡ n = cc in
       bool-cases (hasAt s next lf) _
       (λ t. rw t
       (bool-cases (leb m limit) _
@@ -107,7 +108,7 @@ module _ (s : List ℕ) (limit at : ℕ) where
       rw (l, lt-leb n limit (omega arith)))))
       (λ t. rw t)
 
-  module _ (x : Counted) (h : limit ≤ 2048) (u : countSays x ≡ scanned (cutWord (countAt s at .said)) (countAt s at .next)) where
+  module _ (x : Counted) (h : limit ≤ deskEdges) (u : countSays x ≡ scanned (cutWord (countAt s at .said)) (countAt s at .next)) where
     pub count-bad : (p : ℕ) (r : Refusal) → x ≡ T.Bad p → r ≡ sheetFault s at badForm → refuses r ≡ countLine limit s at
     count-bad p r e f =
         let z : scanned (cutWord (countAt s at .said)) (countAt s at .next) ≡ scanned malformed p = sym u ∙ ap countSays e in
@@ -192,9 +193,9 @@ module _ {y : Said ℕ} (s : List ℕ) (jobs : Bool) where
 
 -- ---- a section
 module _ (s : List ℕ) (jobs : Bool) (limit at : ℕ) (x : CountLine) (u : countLineSays x ≡ countLine limit s at) where
-  section-by : (y : CountLine) → x ≡ y → onward (countLineSays y) (linesOf jobs s) ≡ section jobs limit s at
+  section-by : (y : CountLine) → x ≡ y → onward (countLineSays y) (blockOf jobs s) ≡ section jobs limit s at
   unfolding section
-  section-by y e = ap (λ z. onward z (linesOf jobs s)) (sym (ap countLineSays e) ∙ u)
+  section-by y e = ap (λ z. onward z (blockOf jobs s)) (sym (ap countLineSays e) ∙ u)
 
   pub section-refused : (r : Refusal) → x ≡ C.Refused r → refuses r ≡ section jobs limit s at
   section-refused r e = section-by (C.Refused r) e
@@ -236,20 +237,20 @@ module _ (s : List ℕ) (x : Mode) (u : modeSays x ≡ modeLine s) where
 
 -- ---- the check of the whole
 module _ (s : List ℕ) where
-  pub too-long : mostBytes < length s → (r : Refusal) → r ≡ at tooMany sheetFile 0 → refuses r ≡ checked s
-  unfolding checked
+  pub too-long : mostBytes < length s → (r : Refusal) → r ≡ at tooMany sheetFile 0 → refuses r ≡ sheetCheck s
+  unfolding sheetCheck
   too-long h r e = ap refuses e ∙ rw (lt-ltb mostBytes (length s) h)
 
   module _ (h : length s ≤ mostBytes) (x : Checked) (u : checkedSays x ≡ sections s) where
-    pub check-refused : (r : Refusal) → x ≡ Ch.Refused r → refuses r ≡ checked s
-    unfolding checked
+    pub check-refused : (r : Refusal) → x ≡ Ch.Refused r → refuses r ≡ sheetCheck s
+    unfolding sheetCheck
     check-refused r e = rw (le-ltb mostBytes (length s) h, ← u, e)
 
     pub check-more : (p : Plan) → x ≡ Ch.Good p → p .jobs .to < length s → (r : Refusal) → r ≡ sheetFault s (p .jobs .to) badForm
-        → refuses r ≡ checked s
-    unfolding checked
+        → refuses r ≡ sheetCheck s
+    unfolding sheetCheck
     check-more p e k r f = ap refuses f ∙ rw (le-ltb mostBytes (length s) h, ← u, e, lt-ltb (p .jobs .to) (length s) k)
 
-    pub check-good : (p : Plan) → x ≡ Ch.Good p → length s ≤ p .jobs .to → gives p ≡ checked s
-    unfolding checked
+    pub check-good : (p : Plan) → x ≡ Ch.Good p → length s ≤ p .jobs .to → gives p ≡ sheetCheck s
+    unfolding sheetCheck
     check-good p e k = rw (le-ltb mostBytes (length s) h, ← u, e, le-ltb (p .jobs .to) (length s) k)

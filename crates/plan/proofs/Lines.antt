@@ -12,7 +12,8 @@ use lib.Seq.{drop-cons, getD-take}
 use Rattle.basis.specs.Scan.{mem}
 use Rattle.basis.proofs.Tests.{bool-cases, clash}
 use Rattle.text.specs.Word.{Word, malformed, value}
-use Rattle.text.specs.Line.{lf, lineSays}
+use Rattle.text.specs.Bytes.{lf}
+use Rattle.text.specs.Line.{lineSays}
 use Rattle.text.specs.Scan.{Scanned, scanned, lineOf}
 use Rattle.text.proofs.Words.{Reads}
 use Rattle.text.proofs.Lines.{line-end, line-reads}

@@ -17,7 +17,8 @@ use Rattle.basis.specs.Limits.{deskVertices, deskEdges}
 use Rattle.basis.proofs.Tests.{no-case, false-of}
 use Rattle.basis.proofs.Saids.{refused-given, given-one, onward-passed, mapped-gives}
 use Rattle.text.specs.Word.{Word, malformed, value, within, countOf}
-use Rattle.text.specs.Line.{LineSaid, line, none, fault, lf, lineBy}
+use Rattle.text.specs.Bytes.{lf}
+use Rattle.text.specs.Line.{LineSaid, line, none, fault, lineBy}
 use Rattle.text.specs.File.{joined, Says, FileSays}
 use Rattle.text.proofs.Bytes.{drop-past}
 use Rattle.text.proofs.Words.{count-stray}
@@ -26,7 +27,7 @@ use Rattle.text.proofs.Cuts.{Cut, line-cut, cut-line}
 use Rattle.plan.specs.Lines.{sheetFault, inSheet, sheetLine, isWord}
 use Rattle.plan.specs.Jobs.{jobOf}
 use Rattle.plan.specs.Sheet.{mostJobs, mostBytes, directedWord, undirectedWord, modeOf, modeLine, limited, countLine}
-use Rattle.plan.specs.Sheet.{anyOf, nextOf, linePast, linesPast, block, linesOf, section, plan, sections, ended, checked}
+use Rattle.plan.specs.Sheet.{anyOf, nextOf, linePast, linesPast, block, blockOf, section, plan, sections, ended, sheetCheck}
 use Rattle.plan.specs.Form.{modeWord, SectionForm, sectionBytes, SheetForm}
 use Rattle.plan.specs.declared.sections.Block.{Block}
 use Rattle.plan.specs.declared.sections.Plan.{Plan}
@@ -145,7 +146,7 @@ module _ {A : Type 0} (word : List ℕ → Word A) (jobs : Bool) (limit : ℕ) (
   section-cut : (place : ℕ) (b : Block) → section jobs limit s place ≡ gives b → SectionCut place b
   unfolding section countLine
   section-cut place b e =
-      let x = onward-passed (onward (sheetLine countOf s place) (limited limit s place)) (linesOf jobs s) b e in
+      let x = onward-passed (onward (sheetLine countOf s place) (limited limit s place)) (blockOf jobs s) b e in
       let n : ℕ = x .0 .0 in
       let from : ℕ = x .0 .1 in
       let y = onward-passed (sheetLine countOf s place) (limited limit s place) (n, from) (x .1) in
@@ -268,8 +269,8 @@ ended-passed s x p e = by (ltb (x .jobs .to) (length s)) refl e
     by false q h = let k : x ≡ p = given-one h in (omega (arith, ltb-false (x .jobs .to) (length s) q, ap (λ (y : Plan). y .jobs .to) k), k)
 
 -- an accepted sheet is the mode line and the three sections that its plan names, and nothing more
-pub accepted-form : (s : List ℕ) (p : Plan) → checked s ≡ gives p → SheetForm s p
-unfolding checked
+pub accepted-form : (s : List ℕ) (p : Plan) → sheetCheck s ≡ gives p → SheetForm s p
+unfolding sheetCheck
 accepted-form s p e = by (ltb mostBytes (length s)) refl e
   where
     by : (t : Bool) → ltb mostBytes (length s) ≡ t → cond t (refuses (at tooMany sheetFile 0)) (onward (sections s) (ended s)) ≡ gives p
@@ -324,8 +325,8 @@ module _ (s : List ℕ) (p : Plan) (f : SheetForm s p) where
   )
 
   -- bytes of that form are accepted with that plan
-  pub form-accepted : checked s ≡ gives p
-  unfolding checked sections
+  pub form-accepted : sheetCheck s ≡ gives p
+  unfolding sheetCheck sections
   form-accepted =
       rw (
         le-ltb mostBytes (length s) (f .short),
@@ -347,7 +348,7 @@ module _ (s : List ℕ) (p : Plan) (f : SheetForm s p) where
   job-lines = section-lines jobOf true mostJobs s (job-same s) (p .edges .to) (p .jobs) (f .jobs) [] at-jobs
 
 -- a sheet is accepted with a plan exactly where its bytes have the form that the plan gives
-pub sheet-accepted : (s : List ℕ) (p : Plan) → (checked s ≡ gives p) ↔ SheetForm s p
+pub sheet-accepted : (s : List ℕ) (p : Plan) → (sheetCheck s ≡ gives p) ↔ SheetForm s p
 sheet-accepted s p = (accepted-form s p, form-accepted s p)
 
 -- an accepted sheet's bytes are fixed by its plan and its lines: the mode line and the three counts are those of the plan

@@ -16,7 +16,7 @@ use Rattle.text.proofs.Places.{Moved, Placed, places}
 use Rattle.plan.specs.Lines.{inSheet, sheetLine}
 use Rattle.plan.specs.Jobs.{jobOf}
 use Rattle.plan.specs.Sheet.{mostJobs, mostBytes, modeOf, limited, countLine, anyOf, nextOf}
-use Rattle.plan.specs.Sheet.{linePast, linesPast, block, linesOf, section, sections, ended, checked}
+use Rattle.plan.specs.Sheet.{linePast, linesPast, block, blockOf, section, sections, ended, sheetCheck}
 use Rattle.plan.specs.declared.sections.Block.{Block}
 use Rattle.plan.specs.declared.sections.Plan.{Plan}
 
@@ -76,7 +76,7 @@ pub record Placed-block (s : List ℕ) (limit : ℕ) (b : Block) : Type 0 where
 pub section-in : (jobs : Bool) (limit : ℕ) (s : List ℕ) (place : ℕ) → Gives (Placed-block s limit) (section jobs limit s place)
 unfolding section countLine
 section-in jobs limit s place =
-    either-onward (λ c. Moved s place (c .1) × c .0 ≤ limit) (Placed-block s limit) Any (countLine limit s place) (linesOf jobs s)
+    either-onward (λ c. Moved s place (c .1) × c .0 ≤ limit) (Placed-block s limit) Any (countLine limit s place) (blockOf jobs s)
     (either-onward (Past s place) (λ c. Moved s place (c .1) × c .0 ≤ limit) Any (sheetLine countOf s place) (limited limit s place)
     (sheet-line countOf s place)
     (λ c m. either-cond _ Any (leb (c .0) limit) (gives c) _ (λ e. (m, leb-true (c .0) limit e)) (λ e. tt)))
@@ -110,13 +110,13 @@ pub record Accepted (s : List ℕ) (p : Plan) : Type 0 where
   pub short : length s ≤ mostBytes
   pub ends : length s ≤ p .jobs .to
 
-pub checked-in : (s : List ℕ) → Gives (Accepted s) (checked s)
-unfolding checked
-checked-in s =
+pub check-in : (s : List ℕ) → Gives (Accepted s) (sheetCheck s)
+unfolding sheetCheck
+check-in s =
     either-cond (Accepted s) Any (ltb mostBytes (length s)) _ _ (λ _. tt)
     (λ h. either-onward (Placed-plan s) (Accepted s) Any (sections s) (ended s) (sections-in s)
     (λ p w. either-cond (Accepted s) Any (ltb (p .jobs .to) (length s)) _ (gives p) (λ _. tt)
     (λ k. record { places = w; short = ltb-false mostBytes (length s) h; ends = ltb-false (p .jobs .to) (length s) k })))
 
-pub accepted : (s : List ℕ) (p : Plan) → checked s ≡ gives p → Accepted s p
-accepted s p e = rw e at (checked-in s)
+pub accepted : (s : List ℕ) (p : Plan) → sheetCheck s ≡ gives p → Accepted s p
+accepted s p e = rw e at (check-in s)

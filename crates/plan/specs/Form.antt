@@ -6,7 +6,7 @@ use mathlib.Core.List.{List, _∷_, _++_}
 use lib.ListN.{length}
 use Rattle.basis.specs.Limits.{deskVertices, deskEdges}
 use Rattle.text.specs.Word.{Word, value, countOf}
-use Rattle.text.specs.Line.{lf}
+use Rattle.text.specs.Bytes.{lf}
 use Rattle.text.specs.File.{FileSays}
 use Rattle.plan.specs.Jobs.{jobOf}
 use Rattle.plan.specs.Sheet.{mostJobs, mostBytes, directedWord, undirectedWord, anyOf}

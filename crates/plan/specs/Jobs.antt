@@ -1,9 +1,10 @@
 -- "Jobs are `bfs ID`, `wcc`, `cdlp N`, `lcc`, their numbers in identifier form."
 use Prim.Native.Nat.{ℕ}
 use mathlib.Core.Bool.{cond}
-use mathlib.Core.List.{List, [], _∷_}
+use mathlib.Core.List.{List}
 use lib.ListN.{drop}
 use Rattle.basis.specs.Refusal.{Said, gives, refuses}
+use Rattle.text.specs.Bytes.{bytes}
 use Rattle.text.specs.Word.{Word, malformed, outside, value, identOf}
 use Rattle.plan.specs.Lines.{sheetLine, begins, isWord}
 use Rattle.plan.specs.declared.job.Job.{Job}
@@ -13,19 +14,19 @@ use Rattle.plan.specs.declared.job.JobLine.the-variants as JL
 
 -- `bfs `, four bytes with its space
 abbrev pub bfsWord : List ℕ
-bfsWord = 98 ∷ 102 ∷ 115 ∷ 32 ∷ []
+bfsWord = bytes "bfs "
 
 -- `cdlp `, five bytes with its space
 abbrev pub cdlpWord : List ℕ
-cdlpWord = 99 ∷ 100 ∷ 108 ∷ 112 ∷ 32 ∷ []
+cdlpWord = bytes "cdlp "
 
 -- `wcc`, a whole line without its LF
 abbrev pub wccWord : List ℕ
-wccWord = 119 ∷ 99 ∷ 99 ∷ []
+wccWord = bytes "wcc"
 
 -- `lcc`, a whole line without its LF
 abbrev pub lccWord : List ℕ
-lccWord = 108 ∷ 99 ∷ 99 ∷ []
+lccWord = bytes "lcc"
 
 -- a word's value, made into another
 abbrev pub made : {A B : Type 0} → (A → B) → Word A → Word B
@@ -45,7 +46,7 @@ jobOf bs =
 abbrev pub jobLine : List ℕ → ℕ → Said (Job × ℕ)
 jobLine s place = sheetLine jobOf s place
 
--- the paper's number and values of the code's answer
+-- what the code's answer for a job line says: the job and the place past the line, or the refusal
 abbrev pub jobSays : JobLine → Said (Job × ℕ)
 jobSays (JL.Refused r) = refuses r
 jobSays (JL.Line j next) = gives (j, next)

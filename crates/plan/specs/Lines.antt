@@ -7,7 +7,8 @@ use lib.Dec.{eqb}
 use Rattle.basis.specs.Refusal.{Said, gives, refuses, at, badForm, sheetFile}
 use Rattle.basis.specs.declared.refusal.Refusal.{Refusal}
 use Rattle.text.specs.Word.{Word}
-use Rattle.text.specs.Line.{LineSaid, line, none, fault, lf, lineBy}
+use Rattle.text.specs.Bytes.{lf}
+use Rattle.text.specs.Line.{LineSaid, line, none, fault, lineBy}
 
 -- how many LFs stand among the bytes
 unfoldable pub lfs : List ℕ → ℕ

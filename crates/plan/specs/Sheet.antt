@@ -1,11 +1,12 @@
 -- "`directed` or `undirected`; then three sections, each after its count line: vertices, edges, jobs."
 use Prim.Native.Nat.{ℕ, zero, suc}
 use mathlib.Core.Bool.{Bool, true, false, cond}
-use mathlib.Core.List.{List, [], _∷_}
+use mathlib.Core.List.{List}
 use lib.ListN.{length}
 use lib.Dec.{leb, ltb}
 use Rattle.basis.specs.Refusal.{Said, gives, refuses, at, tooMany, badForm, sheetFile, onward, mapped}
 use Rattle.basis.specs.Limits.{deskVertices, deskEdges}
+use Rattle.text.specs.Bytes.{bytes}
 use Rattle.text.specs.Word.{Word, malformed, value, countOf}
 use Rattle.plan.specs.Lines.{sheetFault, sheetLine, isWord}
 use Rattle.plan.specs.Jobs.{jobOf}
@@ -32,11 +33,11 @@ mostBytes = 65536
 
 -- `directed`, a whole line without its LF
 abbrev pub directedWord : List ℕ
-directedWord = 100 ∷ 105 ∷ 114 ∷ 101 ∷ 99 ∷ 116 ∷ 101 ∷ 100 ∷ []
+directedWord = bytes "directed"
 
--- `un` and then `directed`
+-- `undirected`, likewise
 abbrev pub undirectedWord : List ℕ
-undirectedWord = 117 ∷ 110 ∷ directedWord
+undirectedWord = bytes "undirected"
 
 -- whether the graph is directed, by the bytes of the first line
 unfoldable pub modeOf : List ℕ → Word Bool
@@ -77,12 +78,12 @@ abbrev pub block : ℕ → ℕ → ℕ → Block
 block count from to = record { count = count; from = from; to = to }
 
 -- a section's lines behind its count line: as many as the count says
-abbrev pub linesOf : Bool → List ℕ → ℕ × ℕ → Said Block
-linesOf jobs s c = mapped (block (c .0) (c .1)) (linesPast jobs (c .0) s (c .1))
+abbrev pub blockOf : Bool → List ℕ → ℕ × ℕ → Said Block
+blockOf jobs s c = mapped (block (c .0) (c .1)) (linesPast jobs (c .0) s (c .1))
 
 -- "each after its count line": the section at a place, of jobs or of any lines, with the limit of its count
 unfoldable pub section : Bool → ℕ → List ℕ → ℕ → Said Block
-section jobs limit s place = onward (countLine limit s place) (linesOf jobs s)
+section jobs limit s place = onward (countLine limit s place) (blockOf jobs s)
 
 -- a `Plan`, by its fields in order: whether directed, and the three sections
 abbrev pub plan : Bool → Block → Block → Block → Plan
@@ -102,30 +103,30 @@ abbrev pub ended : List ℕ → Plan → Said Plan
 ended s p = cond (ltb (p .jobs .to) (length s)) (refuses (sheetFault s (p .jobs .to) badForm)) (gives p)
 
 -- "A sheet is checked for length (1, line 0), then line by line"
-unfoldable pub checked : List ℕ → Said Plan
-checked s = cond (ltb mostBytes (length s)) (refuses (at tooMany sheetFile 0)) (onward (sections s) (ended s))
+unfoldable pub sheetCheck : List ℕ → Said Plan
+sheetCheck s = cond (ltb mostBytes (length s)) (refuses (at tooMany sheetFile 0)) (onward (sections s) (ended s))
 
--- the paper's number and values of each of the code's answers
+-- what the code's answer for a whole sheet says: its plan, or the refusal
 abbrev pub checkedSays : Checked → Said Plan
 checkedSays (Ch.Refused r) = refuses r
 checkedSays (Ch.Good p) = gives p
 
--- of the first line: whether directed, and the place past it
+-- what the code's answer for the first line says: whether directed, and the place past it
 abbrev pub modeSays : Mode → Said (Bool × ℕ)
 modeSays (M.Refused r) = refuses r
 modeSays (M.Directed d next) = gives (d, next)
 
--- of a count line: the count, and the place past it
+-- what the code's answer for a count line says: the count, and the place past it
 abbrev pub countLineSays : CountLine → Said (ℕ × ℕ)
 countLineSays (C.Refused r) = refuses r
 countLineSays (C.Count n next) = gives (n, next)
 
--- of one line or of a section's lines: the place past them
+-- what the code's answer for one line or a section's lines says: the place past them
 abbrev pub pastSays : Past → Said ℕ
 pastSays (P.Refused r) = refuses r
 pastSays (P.Next next) = gives next
 
--- of a section: how many lines, where they begin, the place past them
+-- what the code's answer for a section says: how many lines, where they begin, the place past them
 abbrev pub sectionSays : Section → Said Block
 sectionSays (S.Refused r) = refuses r
 sectionSays (S.Lines b) = gives b

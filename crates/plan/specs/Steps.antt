@@ -4,7 +4,7 @@ use mathlib.Core.Bool.{Bool, cond}
 use mathlib.Core.List.{List}
 use lib.IntN.{ℤ}
 use Rattle.basis.specs.Refusal.{Said}
-use Rattle.text.specs.Line.{lf}
+use Rattle.text.specs.Bytes.{lf}
 use Rattle.text.specs.Scan.{Scanned, lineOf, scanned, fieldAt}
 use Rattle.plan.specs.Lines.{inSheet}
 use Rattle.plan.specs.Jobs.{made}

@@ -11,6 +11,7 @@ ghost use mathlib.Core.Path.{_≡_};
 ghost use Rattle.plan.specs.Jobs.{jobLine, jobSays};
 ghost use Rattle.plan.specs.Steps.{numberedAt};
 
+// A job, with its number where it has one.
 pub enum Job {
     Bfs(i64),
     Wcc,

@@ -16,10 +16,14 @@ use text::count::has;
 use text::count::line_end;
 ghost use mathlib.Core.Path.{_≡_};
 ghost use Prim.Native.Nat.{_≤_};
-ghost use Rattle.plan.specs.Sheet.{modeLine, countLine, linePast, linesPast, section, sections, checked, modeSays, countLineSays, pastSays, sectionSays, checkedSays};
+ghost use Rattle.basis.specs.Limits.{deskEdges};
+ghost use Rattle.plan.specs.Sheet.{modeLine, countLine, linePast, linesPast, section, sections, sheetCheck};
+ghost use Rattle.plan.specs.Sheet.{modeSays, countLineSays, pastSays, sectionSays, checkedSays};
 
+// How many jobs a sheet may have.
 pub const MOST_JOBS: usize = 16;
 
+// How many bytes a sheet may have.
 pub const MOST_BYTES: usize = 65536;
 
 // How many lines a section has, where they begin, and the place past them.
@@ -29,6 +33,7 @@ pub struct Block {
     pub to: usize,
 }
 
+// Whether the graph is directed, and where the three sections stand.
 pub struct Plan {
     pub directed: bool,
     pub vertices: Block,
@@ -36,26 +41,31 @@ pub struct Plan {
     pub jobs: Block,
 }
 
+// A sheet's plan, or why the sheet is refused.
 pub enum Checked {
     Refused(Refusal),
     Good(Plan),
 }
 
+// Whether the graph is directed and the place past the first line, or why that line is refused.
 enum Mode {
     Refused(Refusal),
     Directed(bool, usize),
 }
 
+// A count and the place past its line, or why that line is refused.
 enum CountLine {
     Refused(Refusal),
     Count(usize, usize),
 }
 
+// The place past some lines, or why one of them is refused.
 enum Past {
     Refused(Refusal),
     Next(usize),
 }
 
+// Where a section stands, or why one of its lines is refused.
 enum Section {
     Refused(Refusal),
     Lines(Block),
@@ -76,7 +86,7 @@ fn mode_line(s: &[u8]) -> Mode
 
 // The count line at a place.
 fn count_line(s: &[u8], limit: usize, at: usize) -> CountLine
-    requires { ⌜ limit ≤ 2048 ⌝ }
+    requires { ⌜ limit ≤ deskEdges ⌝ }
     ensures { λ r. ⌜ countLineSays r ≡ countLine limit (now (s .entry)) at ⌝ }
 {
     let x = count(s, at);
@@ -135,7 +145,7 @@ fn lines_past(s: &[u8], jobs: bool, count: usize, from: usize) -> Past
 
 // The section at a place.
 fn read_section(s: &[u8], jobs: bool, limit: usize, at: usize) -> Section
-    requires { ⌜ limit ≤ 2048 ⌝ }
+    requires { ⌜ limit ≤ deskEdges ⌝ }
     ensures { λ r. ⌜ sectionSays r ≡ section jobs limit (now (s .entry)) at ⌝ }
 {
     let x = count_line(s, limit, at);
@@ -187,7 +197,7 @@ pub fn read_sections(s: &[u8]) -> Checked
 
 // A sheet's plan, or its first fault.
 pub fn check(s: &[u8]) -> Checked
-    ensures { λ r. ⌜ checkedSays r ≡ checked (now (s .entry)) ⌝ }
+    ensures { λ r. ⌜ checkedSays r ≡ sheetCheck (now (s .entry)) ⌝ }
 {
     if MOST_BYTES < s.len() {
         return Checked::Refused(Refusal::at(TOO_MANY, SHEET_FILE, 0));

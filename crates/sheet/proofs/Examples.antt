@@ -1,9 +1,10 @@
--- Whole outputs, computed on the definition. Each sheet stands above its output, its lines separated by /. Assumes nothing.
+-- Whole outputs, computed on the definition. Assumes nothing.
 use Prim.Native.Nat.{ℕ}
 use mathlib.Core.Path.{_≡_, refl}
-use mathlib.Core.List.{List, [], _∷_}
+use mathlib.Core.List.{List, _++_}
 use Rattle.basis.specs.Area.{column}
 use Rattle.basis.specs.Scan.{every, each, mem}
+use Rattle.text.specs.Bytes.{bytes}
 use Rattle.text.specs.Line.{lineBy, twoOf}
 use Rattle.text.specs.File.{linesFrom, valuesFrom}
 use Rattle.text.specs.Scan.{hasAt, runAt, countAt, identAt, fieldAt, restAt}
@@ -28,51 +29,43 @@ use Rattle.lcc.specs.Promise.{room, lccSays, lccCall}
 use Rattle.lcc.specs.Ratio.{euclid, gcdOf, lowest}
 use Rattle.plan.specs.Jobs.{jobOf}
 use Rattle.plan.specs.Lines.{lfs, sheetLine, begins, isWord}
-use Rattle.plan.specs.Sheet.{modeOf, countLine, linesPast, section, sections, checked}
+use Rattle.plan.specs.Sheet.{modeOf, countLine, linesPast, section, sections, sheetCheck}
 use Rattle.listing.specs.Listing.{spacedText, numbersText, refusedText, headText, namedText}
 use Rattle.listing.specs.Listing.{pairText, fractionText, ratioText, pairLines, ratioLines}
 use Rattle.sheet.specs.Desk.{planText, deskOutput}
 use Rattle.sheet.specs.Jobs.{bfsText, wccText, cdlpText, lccText, jobsText}
 
--- 01's sheet: directed/5/-3/2/5/9/20/5/2 5/2 9/5 2/5 9/9 20/4/bfs 2/wcc/cdlp 2/lcc/
+-- 01's sheet
 abbrev paperSheet : List ℕ
-paperSheet = 100 ∷ 105 ∷ 114 ∷ 101 ∷ 99 ∷ 116 ∷ 101 ∷ 100 ∷ 10 ∷ 53 ∷ 10 ∷ 45 ∷ 51 ∷ 10 ∷ 50 ∷ 10 ∷ 53 ∷ 10 ∷ 57 ∷ 10 ∷ 50 ∷ 48 ∷ 10 ∷ 53
-    ∷ 10 ∷ 50 ∷ 32 ∷ 53 ∷ 10 ∷ 50 ∷ 32 ∷ 57 ∷ 10 ∷ 53 ∷ 32 ∷ 50 ∷ 10 ∷ 53 ∷ 32 ∷ 57 ∷ 10 ∷ 57 ∷ 32 ∷ 50 ∷ 48 ∷ 10 ∷ 52 ∷ 10 ∷ 98 ∷ 102 ∷ 115
-    ∷ 32 ∷ 50 ∷ 10 ∷ 119 ∷ 99 ∷ 99 ∷ 10 ∷ 99 ∷ 100 ∷ 108 ∷ 112 ∷ 32 ∷ 50 ∷ 10 ∷ 108 ∷ 99 ∷ 99 ∷ 10 ∷ []
+paperSheet = bytes "directed\n5\n-3\n2\n5\n9\n20\n5\n2 5\n2 9\n5 2\n5 9\n9 20\n4\nbfs 2\nwcc\ncdlp 2\nlcc\n"
 
 abbrev paperOutput : List ℕ
-paperOutput = 98 ∷ 102 ∷ 115 ∷ 32 ∷ 50 ∷ 10 ∷ 53 ∷ 10 ∷ 45 ∷ 51 ∷ 32 ∷ 57 ∷ 50 ∷ 50 ∷ 51 ∷ 51 ∷ 55 ∷ 50 ∷ 48 ∷ 51 ∷ 54 ∷ 56 ∷ 53 ∷ 52 ∷ 55
-    ∷ 55 ∷ 53 ∷ 56 ∷ 48 ∷ 55 ∷ 10 ∷ 50 ∷ 32 ∷ 48 ∷ 10 ∷ 53 ∷ 32 ∷ 49 ∷ 10 ∷ 57 ∷ 32 ∷ 49 ∷ 10 ∷ 50 ∷ 48 ∷ 32 ∷ 50 ∷ 10 ∷ 119 ∷ 99 ∷ 99 ∷ 10
-    ∷ 53 ∷ 10 ∷ 45 ∷ 51 ∷ 32 ∷ 45 ∷ 51 ∷ 10 ∷ 50 ∷ 32 ∷ 50 ∷ 10 ∷ 53 ∷ 32 ∷ 50 ∷ 10 ∷ 57 ∷ 32 ∷ 50 ∷ 10 ∷ 50 ∷ 48 ∷ 32 ∷ 50 ∷ 10 ∷ 99 ∷ 100
-    ∷ 108 ∷ 112 ∷ 32 ∷ 50 ∷ 10 ∷ 53 ∷ 10 ∷ 45 ∷ 51 ∷ 32 ∷ 45 ∷ 51 ∷ 10 ∷ 50 ∷ 32 ∷ 50 ∷ 10 ∷ 53 ∷ 32 ∷ 53 ∷ 10 ∷ 57 ∷ 32 ∷ 50 ∷ 10 ∷ 50 ∷ 48
-    ∷ 32 ∷ 50 ∷ 10 ∷ 108 ∷ 99 ∷ 99 ∷ 10 ∷ 53 ∷ 10 ∷ 45 ∷ 51 ∷ 32 ∷ 48 ∷ 47 ∷ 49 ∷ 10 ∷ 50 ∷ 32 ∷ 49 ∷ 47 ∷ 50 ∷ 10 ∷ 53 ∷ 32 ∷ 49 ∷ 47 ∷ 50
-    ∷ 10 ∷ 57 ∷ 32 ∷ 49 ∷ 47 ∷ 51 ∷ 10 ∷ 50 ∷ 48 ∷ 32 ∷ 48 ∷ 47 ∷ 49 ∷ 10 ∷ []
+paperOutput =
+    bytes "bfs 2\n5\n-3 9223372036854775807\n2 0\n5 1\n9 1\n20 2\n"
+    ++ (bytes "wcc\n5\n-3 -3\n2 2\n5 2\n9 2\n20 2\n"
+    ++ (bytes "cdlp 2\n5\n-3 -3\n2 2\n5 5\n9 2\n20 2\n"
+    ++ bytes "lcc\n5\n-3 0/1\n2 1/2\n5 1/2\n9 1/3\n20 0/1\n"))
 
--- a refused job prints its line alone, and the others go on: undirected/2/-3/2/1/-3 2/3/bfs 7/cdlp -1/lcc/
+-- a refused job prints its line alone, and the others go on
 abbrev refusedJobSheet : List ℕ
-refusedJobSheet = 117 ∷ 110 ∷ 100 ∷ 105 ∷ 114 ∷ 101 ∷ 99 ∷ 116 ∷ 101 ∷ 100 ∷ 10 ∷ 50 ∷ 10 ∷ 45 ∷ 51 ∷ 10 ∷ 50 ∷ 10 ∷ 49 ∷ 10 ∷ 45 ∷ 51 ∷ 32
-    ∷ 50 ∷ 10 ∷ 51 ∷ 10 ∷ 98 ∷ 102 ∷ 115 ∷ 32 ∷ 55 ∷ 10 ∷ 99 ∷ 100 ∷ 108 ∷ 112 ∷ 32 ∷ 45 ∷ 49 ∷ 10 ∷ 108 ∷ 99 ∷ 99 ∷ 10 ∷ []
+refusedJobSheet = bytes "undirected\n2\n-3\n2\n1\n-3 2\n3\nbfs 7\ncdlp -1\nlcc\n"
 
 abbrev refusedJobOutput : List ℕ
-refusedJobOutput = 114 ∷ 101 ∷ 102 ∷ 117 ∷ 115 ∷ 101 ∷ 100 ∷ 32 ∷ 49 ∷ 48 ∷ 32 ∷ 48 ∷ 32 ∷ 48 ∷ 10 ∷ 114 ∷ 101 ∷ 102 ∷ 117 ∷ 115 ∷ 101 ∷ 100
-    ∷ 32 ∷ 49 ∷ 49 ∷ 32 ∷ 48 ∷ 32 ∷ 48 ∷ 10 ∷ 108 ∷ 99 ∷ 99 ∷ 10 ∷ 50 ∷ 10 ∷ 45 ∷ 51 ∷ 32 ∷ 48 ∷ 47 ∷ 49 ∷ 10 ∷ 50 ∷ 32 ∷ 48 ∷ 47 ∷ 49 ∷ 10
-    ∷ []
+refusedJobOutput = bytes "refused 10 0 0\nrefused 11 0 0\nlcc\n2\n-3 0/1\n2 0/1\n"
 
--- a refused load prints one line: directed/1/4/1/4 4/1/wcc/
+-- a refused load prints one line
 abbrev refusedLoadSheet : List ℕ
-refusedLoadSheet =
-    100 ∷ 105 ∷ 114 ∷ 101 ∷ 99 ∷ 116 ∷ 101 ∷ 100 ∷ 10 ∷ 49 ∷ 10 ∷ 52 ∷ 10 ∷ 49 ∷ 10 ∷ 52 ∷ 32 ∷ 52 ∷ 10 ∷ 49 ∷ 10 ∷ 119 ∷ 99 ∷ 99 ∷ 10 ∷ []
+refusedLoadSheet = bytes "directed\n1\n4\n1\n4 4\n1\nwcc\n"
 
 abbrev refusedLoadOutput : List ℕ
-refusedLoadOutput = 114 ∷ 101 ∷ 102 ∷ 117 ∷ 115 ∷ 101 ∷ 100 ∷ 32 ∷ 53 ∷ 32 ∷ 50 ∷ 32 ∷ 49 ∷ 10 ∷ []
+refusedLoadOutput = bytes "refused 5 2 1\n"
 
--- a refused sheet prints one line: directed/1/4/1/4 4/1/wcd/
+-- a refused sheet prints one line
 abbrev refusedSheetSheet : List ℕ
-refusedSheetSheet =
-    100 ∷ 105 ∷ 114 ∷ 101 ∷ 99 ∷ 116 ∷ 101 ∷ 100 ∷ 10 ∷ 49 ∷ 10 ∷ 52 ∷ 10 ∷ 49 ∷ 10 ∷ 52 ∷ 32 ∷ 52 ∷ 10 ∷ 49 ∷ 10 ∷ 119 ∷ 99 ∷ 100 ∷ 10 ∷ []
+refusedSheetSheet = bytes "directed\n1\n4\n1\n4 4\n1\nwcd\n"
 
 abbrev refusedSheetOutput : List ℕ
-refusedSheetOutput = 114 ∷ 101 ∷ 102 ∷ 117 ∷ 115 ∷ 101 ∷ 100 ∷ 32 ∷ 50 ∷ 32 ∷ 52 ∷ 32 ∷ 55 ∷ 10 ∷ []
+refusedSheetOutput = bytes "refused 2 4 7\n"
 
 -- what the desk program prints for each
 pub outputs :
@@ -81,10 +74,11 @@ pub outputs :
     × (deskOutput refusedLoadSheet ≡ refusedLoadOutput)
     × (deskOutput refusedSheetSheet ≡ refusedSheetOutput)
 unfolding column every each mem lineBy twoOf hasAt runAt countAt identAt fieldAt restAt within digits countText signedText placeFrom bisect
-    targetsBetween partOf soundIds soundOffsets soundSide mirrored soundSides soundGraph edgeTest linesFrom valuesFrom arcsRead listsRead loaded
+    targetsBetween partOf soundIds soundOffsets soundSide mirrored soundSides soundGraph edgeTest linesFrom valuesFrom arcsRead listsRead
+    loaded
     outcomeOf loadCall kernelSays bfsSays bfsCall leastFrom ends ring depthOf beside chain firstFrom first labelOf wcc-roomFor wcc-leftBy
     wccCall times mostTimes standing mostCommon smallest smallestOr nextLabel goodRounds cdlp-roomFor cdlp-leftBy cdlpCall around labelsAt
     nextAt oneRound rounds cdlpOf commonCount those neighbours arcsFrom coefficientAmong numerator denominator room lccSays lccCall euclid
-    gcdOf lowest jobOf lfs sheetLine begins isWord modeOf countLine linesPast section sections checked spacedText numbersText refusedText
+    gcdOf lowest jobOf lfs sheetLine begins isWord modeOf countLine linesPast section sections sheetCheck spacedText numbersText refusedText
     headText namedText pairText fractionText ratioText pairLines ratioLines planText deskOutput bfsText wccText cdlpText lccText jobsText
 outputs = (refl, refl, refl, refl)

@@ -10,6 +10,7 @@ use lib.IntN.{ℤ, pos, natAbs}
 use lib.Signed.{ltZ}
 use lib.ListN.{length, drop, length-append, length-drop}
 use lib.Seq.{length-take-le}
+use Rattle.basis.specs.Limits.{deskVertices}
 use Rattle.basis.specs.Refusal.{Said, gives, refuses, plain}
 use Rattle.basis.specs.declared.refusal.Refusal.{Refusal}
 use Rattle.basis.specs.Order.{sameZ}
@@ -32,7 +33,7 @@ use Rattle.lcc.specs.Ratio.{gcdOf, lowest}
 use Rattle.lcc.specs.Promise.{lccSays, lccCall}
 use Rattle.lcc.proofs.Commons.{count-le}
 use Rattle.lcc.proofs.Coefficients.{those-short}
-use Rattle.text.specs.Line.{lf, space}
+use Rattle.text.specs.Bytes.{lf, space}
 use Rattle.write.specs.Number.{countText, signedText}
 use Rattle.write.proofs.Texts.{count-long, signed-long}
 use Rattle.plan.specs.Jobs.{jobOf, jobLine}
@@ -42,7 +43,8 @@ use Rattle.plan.proofs.Places.{line-moved}
 use Rattle.text.proofs.Places.{Moved, Small}
 use Rattle.listing.specs.Listing.{slash, refusedWord, spacedText, numbersText, refusedText, headText}
 use Rattle.listing.specs.Listing.{namedText, pairText, fractionText, ratioText, pairLines, ratioLines}
-use Rattle.sheet.specs.Jobs.{zeros, zerosZ, answered, bfsText, wccText, cdlpText, lccText, jobText, jobsText}
+use Rattle.sheet.specs.Desk.{mostBehind}
+use Rattle.sheet.specs.Jobs.{deskArea, deskAreaZ, answerText, bfsText, wccText, cdlpText, lccText, jobText, jobsText}
 
 -- ---- an identifier has at most 20 bytes, a number of at most 7 digits 7
 abbrev Short : ℕ → Type 0
@@ -130,15 +132,15 @@ refused-most r b =
 plain-brief : (n : ℕ) → n < 10 ^ 2 → Brief (plain n)
 plain-brief n h = record { number = h; file = omega arith; line = omega arith }
 
--- ---- a job prints at most 43,013 bytes behind its line: a count line of 5, and 1,024 lines of 42
-module _ (n : ℕ) (line listing : List ℕ) (few : n ≤ 1024) (long : length listing ≤ 43008) where
-  answered-most : (a b c : Bool) (number : ℕ) → number < 10 ^ 2
-      → length (answered n line (kernelSays a b number c) listing) ≤ length line + 43013
+-- ---- what a job prints behind its line: a count line of 5 bytes, and a line of 42 for each vertex
+module _ (n : ℕ) (line listing : List ℕ) (few : n ≤ deskVertices) (long : length listing ≤ deskVertices * 42) where
+  answer-most : (a b c : Bool) (number : ℕ) → number < 10 ^ 2
+      → length (answerText n line (kernelSays a b number c) listing) ≤ length line + mostBehind
   unfolding kernelSays headText
-  answered-most false b c number h = omega (arith, refused-most _ (plain-brief 9 (omega arith)))
-  answered-most true false c number h = omega (arith, refused-most _ (plain-brief number h))
-  answered-most true true false number h = omega (arith, refused-most _ (plain-brief 8 (omega arith)))
-  answered-most true true true number h =
+  answer-most false b c number h = omega (arith, refused-most _ (plain-brief 9 (omega arith)))
+  answer-most true false c number h = omega (arith, refused-most _ (plain-brief number h))
+  answer-most true true false number h = omega (arith, refused-most _ (plain-brief 8 (omega arith)))
+  answer-most true true true number h =
       omega (
         arith,
         length-append (headText line n) listing,
@@ -148,7 +150,7 @@ module _ (n : ℕ) (line listing : List ℕ) (few : n ≤ 1024) (long : length l
       )
 
 -- ---- the kernels' values
-least-small : (p : ℕ → Bool) (f k : ℕ) → k + f ≤ 1024 → Small (leastFrom p f k)
+least-small : (p : ℕ → Bool) (f k : ℕ) → k + f ≤ deskVertices → Small (leastFrom p f k)
 unfolding leastFrom
 least-small p zero k h = omega arith
 least-small p (suc f) k h = by (p k) refl (least-small p f (suc k) (omega arith))
@@ -157,7 +159,7 @@ least-small p (suc f) k h = by (p k) refl (least-small p f (suc k) (omega arith)
     by true e g = rw (leastFrom, e) (omega arith)
     by false e g = rw (leastFrom, e) g
 
-depths-small : (g : Graph) (x : Found) → g .vertices ≤ 1024 → All Small (depthsFrom g x)
+depths-small : (g : Graph) (x : Found) → g .vertices ≤ deskVertices → All Small (depthsFrom g x)
 unfolding depthOf
 depths-small g Missing h = tt
 depths-small g (At root) h = all-column Small _ (λ v. least-small _ (g .vertices) 0 (omega arith)) 0 (g .vertices)
@@ -213,9 +215,9 @@ unfolding arcsFrom
 arcs-most out [] ns = omega arith
 arcs-most out (u ∷ s) ns = omega (arith, count-le ns (out u), arcs-most out s ns)
 
-module _ (out : ℕ → List ℕ) (ns : List ℕ) (few : length ns ≤ 1024) where
+module _ (out : ℕ → List ℕ) (ns : List ℕ) (few : length ns ≤ deskVertices) where
   square : length ns * length ns < 10 ^ 7
-  square = let h : length ns * length ns ≤ 1024 * 1024 = mul-le-mul few few in omega arith
+  square = let h : length ns * length ns ≤ deskVertices * deskVertices = mul-le-mul few few in omega arith
 
   among-short : Short (coefficientAmong out ns .numerator) × Short (coefficientAmong out ns .denominator)
   unfolding coefficientAmong lowest
@@ -239,65 +241,66 @@ module _ (out : ℕ → List ℕ) (ns : List ℕ) (few : length ns ≤ 1024) whe
             omega (arith, square, p, div-le-self (length ns * (length ns - 1)) (gcdOf (arcsFrom out ns ns) (length ns * (length ns - 1)))),
           )
 
-module _ (g : Graph) (ids : All Small (g .ids)) (count : length (g .ids) ≤ 1024) (few : g .vertices ≤ 1024) where
-  neighbours-few : (v : ℕ) → length (neighbours (g .vertices) (outward g) (inward g) v) ≤ 1024
+module _ (g : Graph) (ids : All Small (g .ids)) (count : length (g .ids) ≤ deskVertices) (few : g .vertices ≤ deskVertices) where
+  neighbours-few : (v : ℕ) → length (neighbours (g .vertices) (outward g) (inward g) v) ≤ deskVertices
   unfolding neighbours
   neighbours-few v = omega (arith, those-short (either (outward g v) (inward g v)) (g .vertices))
 
-  lines-most : (vs : List ℤ) → All Small vs → length (pairLines (g .ids) vs) ≤ 43008
+  lines-most : (vs : List ℤ) → All Small vs → length (pairLines (g .ids) vs) ≤ deskVertices * 42
   lines-most vs h = omega (arith, pairs-most (g .ids) vs ids h)
 
-  fractions-most : (ns ds : List ℕ) → All Short ns → All Short ds → length (ratioLines (g .ids) ns ds) ≤ 43008
+  fractions-most : (ns ds : List ℕ) → All Short ns → All Short ds → length (ratioLines (g .ids) ns ds) ≤ deskVertices * 42
   fractions-most ns ds h k = omega (arith, ratios-most (g .ids) ns ds ids h k)
 
-  bfs-most : (line : List ℕ) (root : ℤ) → length (bfsText g root line) ≤ length line + 43013
+  bfs-most : (line : List ℕ) (root : ℤ) → length (bfsText g root line) ≤ length line + mostBehind
   unfolding bfsText bfsCall bfsSays
   bfs-most line root =
-      answered-most (g .vertices) line _ few
-      (lines-most _ (all-left Small (bfsSays g (placeIn (names g) root) zerosZ zeros) (pos 0) 1024 _ (omega arith)
+      answer-most (g .vertices) line _ few
+      (lines-most _ (all-left Small (bfsSays g (placeIn (names g) root) deskAreaZ deskArea) (pos 0) deskVertices _ (omega arith)
       (depths-small g (placeIn (names g) root) few))) _ _ _ 10 (omega arith)
 
-  wcc-most : (line : List ℕ) → length (wccText g line) ≤ length line + 43013
+  wcc-most : (line : List ℕ) → length (wccText g line) ≤ length line + mostBehind
   unfolding wccText W.wccCall W.leftBy
   wcc-most line =
-      let said = kernelSays (soundGraph g) true 0 (W.roomFor (g .vertices) zerosZ zeros zeros) in
-      answered-most (g .vertices) line _ few (lines-most _ (all-left Small said (pos 0) 1024 (wccOf g) (omega arith) (labels-small g ids)))
+      let said = kernelSays (soundGraph g) true 0 (W.roomFor (g .vertices) deskAreaZ deskArea deskArea) in
+      answer-most (g .vertices) line _ few (lines-most _
+      (all-left Small said (pos 0) deskVertices (wccOf g) (omega arith) (labels-small g ids)))
       _ _ _ 0 (omega arith)
 
-  cdlp-most : (line : List ℕ) (k : ℤ) → length (cdlpText g k line) ≤ length line + 43013
+  cdlp-most : (line : List ℕ) (k : ℤ) → length (cdlpText g k line) ≤ length line + mostBehind
   unfolding cdlpText C.cdlpCall C.leftBy
   cdlp-most line k =
-      let said = kernelSays (soundGraph g) (C.goodRounds k) 11 (C.roomFor (g .vertices) zerosZ zeros zeros zeros) in
-      answered-most (g .vertices) line _ few (lines-most _
-      (all-left Small said (pos 0) 1024 (cdlpOf g (natAbs k)) (omega arith) (cdlp-small g (natAbs k) ids))) _ _ _ 11 (omega arith)
+      let said = kernelSays (soundGraph g) (C.goodRounds k) 11 (C.roomFor (g .vertices) deskAreaZ deskArea deskArea deskArea) in
+      answer-most (g .vertices) line _ few (lines-most _
+      (all-left Small said (pos 0) deskVertices (cdlpOf g (natAbs k)) (omega arith) (cdlp-small g (natAbs k) ids))) _ _ _ 11 (omega arith)
 
-  lcc-most : (line : List ℕ) → length (lccText g line) ≤ length line + 43013
+  lcc-most : (line : List ℕ) → length (lccText g line) ≤ length line + mostBehind
   unfolding lccText lccCall lccSays numerator denominator
   lcc-most line =
-      let said = lccSays g zeros zeros zeros in
-      answered-most (g .vertices) line _ few
+      let said = lccSays g deskArea deskArea deskArea in
+      answer-most (g .vertices) line _ few
       (fractions-most _ _
-      (all-left Short said 0 1024 (numerators g) (omega arith)
+      (all-left Short said 0 deskVertices (numerators g) (omega arith)
       (all-column Short _ (λ v. among-short (outward g) _ (neighbours-few v) .0) 0 (g .vertices)))
-      (all-left Short said 0 1024 (denominators g) (omega arith)
+      (all-left Short said 0 deskVertices (denominators g) (omega arith)
       (all-column Short _ (λ v. among-short (outward g) _ (neighbours-few v) .1) 0 (g .vertices))))
       _ _ _ 0 (omega arith)
 
-  pub job-most : (line : List ℕ) (j : Job) → length (jobText g line j) ≤ length line + 43013
+  pub job-most : (line : List ℕ) (j : Job) → length (jobText g line j) ≤ length line + mostBehind
   job-most line (J.Bfs root) = bfs-most line root
   job-most line J.Wcc = wcc-most line
   job-most line (J.Cdlp k) = cdlp-most line k
   job-most line J.Lcc = lcc-most line
 
   -- ---- the jobs: their lines stand one after another in the sheet
-  pub jobs-most : (s : List ℕ) (k place : ℕ) → place ≤ length s → length (jobsText g s k place) ≤ (length s - place) + k * 43013
+  pub jobs-most : (s : List ℕ) (k place : ℕ) → place ≤ length s → length (jobsText g s k place) ≤ (length s - place) + k * mostBehind
   unfolding jobsText
   jobs-most s zero place h = omega arith
   jobs-most s (suc k) place h = by (jobLine s place) refl (λ next l. jobs-most s k next l)
     where
       by : (x : Said (Job × ℕ)) → jobLine s place ≡ x
-          → ((next : ℕ) → next ≤ length s → length (jobsText g s k next) ≤ (length s - next) + k * 43013)
-          → length (jobsText g s (suc k) place) ≤ (length s - place) + suc k * 43013
+          → ((next : ℕ) → next ≤ length s → length (jobsText g s k next) ≤ (length s - next) + k * mostBehind)
+          → length (jobsText g s (suc k) place) ≤ (length s - place) + suc k * mostBehind
       by (gives x) e ih =
           let m : Moved s place (x .1) = line-moved jobOf s place (x .0) (x .1) e in
           let d : length (drop place s) ≡ length s - place = length-drop place s in

@@ -13,6 +13,7 @@ use lib.ListN.{length}
 use lib.Seq.{length-take-le, take-at, take-take}
 use Rattle.basis.specs.Refusal.{gives, plain, notThere, badRounds}
 use Rattle.basis.specs.Order.{risingZ}
+use Rattle.basis.specs.Limits.{mostVertices, mostArcs, deskVertices}
 use Rattle.basis.proofs.Areas.{column-length}
 use Rattle.basis.proofs.Tests.{and-first, and-second, and-both}
 use Rattle.graph.specs.Sound.{Graph, outward, names, soundIds, soundSides, soundGraph, lent}
@@ -51,9 +52,10 @@ ratios-pad (id ∷ ids) (n ∷ ns) [] y z e f = absurd (omega arith)
 ratios-pad (id ∷ ids) (n ∷ ns) (d ∷ ds) y z e f = ap (λ l. ratioText id n d ++ l) (ratios-pad ids ns ds y z (omega arith) (omega arith))
 
 -- ---- a sound graph of at most 1,024 vertices, with the identifiers of just these
-module _ (g : Graph) (sound : soundGraph g ≡ true) (count : length (g .ids) ≡ g .vertices) (few : g .vertices ≤ 1024) (line : List ℕ) where
-  roomy : leb (g .vertices) 1024 ≡ true
-  roomy = le-leb (g .vertices) 1024 few
+module _ (g : Graph) (sound : soundGraph g ≡ true) (count : length (g .ids) ≡ g .vertices) (few : g .vertices ≤ deskVertices)
+    (line : List ℕ) where
+  roomy : leb (g .vertices) deskVertices ≡ true
+  roomy = le-leb (g .vertices) deskVertices few
 
   pub wcc-runs : wccText g line ≡ headText line (g .vertices) ++ pairLines (g .ids) (wccOf g)
   unfolding wccText W.wccCall W.leftBy W.roomFor kernelSays
@@ -110,7 +112,7 @@ cut-ids g h =
 
 sound-ids : (g : Graph) → soundGraph g ≡ true → soundIds g ≡ true
 unfolding soundSides soundGraph
-sound-ids g h = and-second (leb (g .vertices) 65536 && leb (g .arcs) 2097152) (soundIds g) (and-first _ _ (and-first _ _ h))
+sound-ids g h = and-second (leb (g .vertices) mostVertices && leb (g .arcs) mostArcs) (soundIds g) (and-first _ _ (and-first _ _ h))
 
 cut-sound : (g : Graph) → soundGraph g ≡ true
     → soundGraph (lent (record { vertices = g .vertices; arcs = g .arcs }) (names g) (g .outOffsets) (g .outTargets) (g .inOffsets)

@@ -25,54 +25,56 @@ use Rattle.plan.specs.declared.job.JobLine.{JobLine}
 use Rattle.plan.specs.declared.job.JobLine.the-variants as JL
 use Rattle.plan.proofs.Places.{line-moved}
 use Rattle.listing.specs.Listing.{refusedText, headText, pairLines, ratioLines}
-use Rattle.sheet.specs.Jobs.{zeros, zerosZ, answered, bfsText, wccText, cdlpText, lccText, jobText, jobsText}
+use Rattle.sheet.specs.Jobs.{deskArea, deskAreaZ, answerText, bfsText, wccText, cdlpText, lccText, jobText, jobsText}
 
 -- ---- by a kernel's answer
 module _ (n : ℕ) (line listing : List ℕ) (x : Answer) (o : List ℕ) (at : ℕ) {o′ : List ℕ} {p : ℕ} where
   pub ran-refused : (r : Refusal) → x ≡ Refused r → written o′ p ≡ putAt o at (refusedText r)
-      → written o′ p ≡ putAt o at (answered n line (says x) listing)
-  ran-refused r e w = put-as o at (refusedText r) w _ (ap (λ y. answered n line (says y) listing) (sym e))
+      → written o′ p ≡ putAt o at (answerText n line (says x) listing)
+  ran-refused r e w = put-as o at (refusedText r) w _ (ap (λ y. answerText n line (says y) listing) (sym e))
 
   pub ran-done : {o″ : List ℕ} {q : ℕ} → x ≡ Done → written o′ p ≡ putAt o at (headText line n) → written o″ q ≡ putAt o′ p listing
-      → written o″ q ≡ putAt o at (answered n line (says x) listing)
+      → written o″ q ≡ putAt o at (answerText n line (says x) listing)
   ran-done e w v =
       put-as o at (headText line n ++ listing) (put-then o at (headText line n) w listing v) _
-      (ap (λ y. answered n line (says y) listing) (sym e))
+      (ap (λ y. answerText n line (says y) listing) (sym e))
 
 -- ---- a job's text, by what its kernel left in the areas
 module _ (g : Graph) (line : List ℕ) (x : Answer) (o : List ℕ) (at : ℕ) {o′ : List ℕ} {p : ℕ} where
-  pub bfs-put : (root z : ℤ) (d : List ℤ) (q : List ℕ) → z ≡ root → B.outcome (says x) d q ≡ B.bfsCall g z zerosZ zeros
-      → written o′ p ≡ putAt o at (answered (g .vertices) line (says x) (pairLines (g .ids) d))
+  pub bfs-put : (root z : ℤ) (d : List ℤ) (q : List ℕ) → z ≡ root → B.outcome (says x) d q ≡ B.bfsCall g z deskAreaZ deskArea
+      → written o′ p ≡ putAt o at (answerText (g .vertices) line (says x) (pairLines (g .ids) d))
       → written o′ p ≡ putAt o at (bfsText g root line)
   unfolding bfsText
   bfs-put root z d q same call w =
       put-as o at _ w (bfsText g root line)
-      (ap (λ (c : B.Outcome). answered (g .vertices) line (c .said) (pairLines (g .ids) (c .depth)))
-      (call ∙ ap (λ (y : ℤ). B.bfsCall g y zerosZ zeros) same))
+      (ap (λ (c : B.Outcome). answerText (g .vertices) line (c .said) (pairLines (g .ids) (c .depth)))
+      (call ∙ ap (λ (y : ℤ). B.bfsCall g y deskAreaZ deskArea) same))
 
-  pub wcc-put : (d : List ℤ) (u v : List ℕ) → W.outcome (says x) d u v ≡ W.wccCall g zerosZ zeros zeros
-      → written o′ p ≡ putAt o at (answered (g .vertices) line (says x) (pairLines (g .ids) d)) → written o′ p ≡ putAt o at (wccText g line)
+  pub wcc-put : (d : List ℤ) (u v : List ℕ) → W.outcome (says x) d u v ≡ W.wccCall g deskAreaZ deskArea deskArea
+      → written o′ p ≡ putAt o at (answerText (g .vertices) line (says x) (pairLines (g .ids) d))
+      → written o′ p ≡ putAt o at (wccText g line)
   unfolding wccText
   wcc-put d u v call w =
-      put-as o at _ w (wccText g line) (ap (λ (c : W.Outcome). answered (g .vertices) line (c .said) (pairLines (g .ids) (c .result))) call)
+      put-as o at _ w (wccText g line) (ap (λ (c : W.Outcome). answerText (g .vertices) line (c .said) (pairLines (g .ids) (c .result)))
+      call)
 
   pub cdlp-put : (iterations z : ℤ) (d : List ℤ) (u v t : List ℕ) → z ≡ iterations
-      → C.outcome (says x) d u v t ≡ C.cdlpCall g z zerosZ zeros zeros zeros
-      → written o′ p ≡ putAt o at (answered (g .vertices) line (says x) (pairLines (g .ids) d))
+      → C.outcome (says x) d u v t ≡ C.cdlpCall g z deskAreaZ deskArea deskArea deskArea
+      → written o′ p ≡ putAt o at (answerText (g .vertices) line (says x) (pairLines (g .ids) d))
       → written o′ p ≡ putAt o at (cdlpText g iterations line)
   unfolding cdlpText
   cdlp-put iterations z d u v t same call w =
       put-as o at _ w (cdlpText g iterations line)
-      (ap (λ (c : C.Outcome). answered (g .vertices) line (c .said) (pairLines (g .ids) (c .result)))
-      (call ∙ ap (λ (y : ℤ). C.cdlpCall g y zerosZ zeros zeros zeros) same))
+      (ap (λ (c : C.Outcome). answerText (g .vertices) line (c .said) (pairLines (g .ids) (c .result)))
+      (call ∙ ap (λ (y : ℤ). C.cdlpCall g y deskAreaZ deskArea deskArea deskArea) same))
 
-  pub lcc-put : (n d u : List ℕ) → L.outcome (says x) n d u ≡ L.lccCall g zeros zeros zeros
-      → written o′ p ≡ putAt o at (answered (g .vertices) line (says x) (ratioLines (g .ids) n d))
+  pub lcc-put : (n d u : List ℕ) → L.outcome (says x) n d u ≡ L.lccCall g deskArea deskArea deskArea
+      → written o′ p ≡ putAt o at (answerText (g .vertices) line (says x) (ratioLines (g .ids) n d))
       → written o′ p ≡ putAt o at (lccText g line)
   unfolding lccText
   lcc-put n d u call w =
       put-as o at _ w (lccText g line)
-      (ap (λ (c : L.Outcome). answered (g .vertices) line (c .said) (ratioLines (g .ids) (c .numerators) (c .denominators))) call)
+      (ap (λ (c : L.Outcome). answerText (g .vertices) line (c .said) (ratioLines (g .ids) (c .numerators) (c .denominators))) call)
 
 -- ---- a job by its kind
 module _ (g : Graph) (line : List ℕ) (j : Job) (o : List ℕ) (at : ℕ) {o′ : List ℕ} {p : ℕ} where

@@ -18,7 +18,8 @@ use Rattle.basis.proofs.Alls.{All, all-take, all-pad}
 use Rattle.basis.proofs.Tests.{bool-cases}
 use Rattle.basis.specs.Limits.{deskVertices, deskEdges}
 use Rattle.text.specs.Word.{Word, identOf, countOf}
-use Rattle.text.specs.Line.{LineSaid, line, none, fault, lf, lineBy}
+use Rattle.text.specs.Bytes.{lf}
+use Rattle.text.specs.Line.{LineSaid, line, none, fault, lineBy}
 use Rattle.text.specs.File.{Says}
 use Rattle.text.proofs.Places.{Small, ident-small, LineHas, line-any}
 use Rattle.load.specs.Load.{Lists, loaded, sizeOf, outcomeOf, loadCall, desk, deskRoom}
@@ -26,13 +27,13 @@ use Rattle.load.proofs.Refused.{load-refusal}
 use Rattle.plan.specs.Lines.{lfs, sheetFault, inSheet, sheetLine}
 use Rattle.plan.specs.Jobs.{jobOf}
 use Rattle.plan.specs.Sheet.{mostBytes, mostJobs, modeOf, limited, countLine, anyOf, nextOf, linePast}
-use Rattle.plan.specs.Sheet.{linesPast, linesOf as blockLines, section, sections, ended, checked}
+use Rattle.plan.specs.Sheet.{linesPast, blockOf, section, sections, ended, sheetCheck}
 use Rattle.plan.specs.declared.sections.Plan.{Plan}
 use Rattle.plan.proofs.Places.{Accepted, accepted}
 use Rattle.write.specs.Put.{written, putAt}
 use Rattle.write.proofs.Puts.{wrote-whole}
 use Rattle.listing.specs.Listing.{refusedText}
-use Rattle.sheet.specs.Desk.{modeNumber, linesIn, graphIn, loadText, planText, checkedText, deskOutput, mostOutput}
+use Rattle.sheet.specs.Desk.{modeNumber, linesIn, graphIn, loadText, planText, checkedText, deskOutput, mostBehind, mostOutput}
 use Rattle.sheet.proofs.Whole.{listsIn, lists-good}
 use Rattle.sheet.proofs.Lengths.{Brief, refused-most, jobs-most}
 
@@ -57,7 +58,7 @@ module _ (s : List ℕ) (p : Plan) (a : Accepted s p) where
   plan-by (refuses r) e b = omega (arith, refused-most r b)
   plan-by (gives l) e b =
       let w = a .places .jobs in
-      let n : p .jobs .count * 43013 ≤ 16 * 43013 = omega (arith, a .places .few) in
+      let n : p .jobs .count * mostBehind ≤ mostJobs * mostBehind = omega (arith, a .places .few) in
       let o = outcomeOf deskRoom (gives l) in
       let g = lists-good s p l e in
       let small = ids-small (g .goodVertices .lines .words) (l .ids) (g .goodVertices .lines .values) in
@@ -68,8 +69,8 @@ module _ (s : List ℕ) (p : Plan) (a : Accepted s p) where
         w .rise,
         w .inside,
         jobs-most (graphIn (sizeOf l) (o .ids) (o .outOffsets) (o .outTargets) (o .inOffsets) (o .inSources))
-            (all-take Small (length (l .ids)) _ (all-pad Small (pos 0) 1024 (l .ids) (omega arith) small))
-            (omega (arith, g .idsFit, length-take (length (l .ids)) (padWith (pos 0) 1024 (l .ids)))) (g .idsFit) s (p .jobs .count)
+            (all-take Small (length (l .ids)) _ (all-pad Small (pos 0) deskVertices (l .ids) (omega arith) small))
+            (omega (arith, g .idsFit, length-take (length (l .ids)) (padWith (pos 0) deskVertices (l .ids)))) (g .idsFit) s (p .jobs .count)
             (p .jobs .from) (omega (arith, w .rise, w .inside)),
       )
 
@@ -121,7 +122,7 @@ module _ (s : List ℕ) (short : length s ≤ mostBytes) where
   section-brief : (jobs : Bool) (limit place : ℕ) → Either Any Brief (section jobs limit s place)
   unfolding section countLine
   section-brief jobs limit place =
-      refused-onward Brief (countLine limit s place) (blockLines jobs s)
+      refused-onward Brief (countLine limit s place) (blockOf jobs s)
       (refused-onward Brief (sheetLine countOf s place) (limited limit s place) (line-brief countOf place)
       (λ c. either-cond Any Brief (leb (c .0) limit) _ _ (λ _. tt) (λ _. fault-brief place 1 (omega arith))))
       (λ c. refused-onward Brief (linesPast jobs (c .0) s (c .1)) _ (lines-brief jobs (c .0) (c .1)) (λ to. tt))
@@ -134,8 +135,8 @@ module _ (s : List ℕ) (short : length s ≤ mostBytes) where
       (λ vertices. refused-onward Brief (section false deskEdges s (vertices .to)) _ (section-brief false deskEdges (vertices .to))
       (λ edges. refused-onward Brief (section true mostJobs s (edges .to)) _ (section-brief true mostJobs (edges .to)) (λ jobs. tt))))
 
-checked-brief : (s : List ℕ) → Either Any Brief (checked s)
-unfolding checked
+checked-brief : (s : List ℕ) → Either Any Brief (sheetCheck s)
+unfolding sheetCheck
 checked-brief s =
     either-cond Any Brief (ltb mostBytes (length s)) _ _ (λ _. record { number = omega arith; file = omega arith; line = omega arith })
     (λ t. let short : length s ≤ mostBytes = ltb-false mostBytes (length s) t in
@@ -145,9 +146,9 @@ checked-brief s =
 -- ---- the theorem
 pub output-fits : (s : List ℕ) → length (deskOutput s) ≤ mostOutput
 unfolding deskOutput
-output-fits s = by (checked s) refl (checked-brief s)
+output-fits s = by (sheetCheck s) refl (checked-brief s)
   where
-    by : (x : Said Plan) → checked s ≡ x → Either Any Brief x → length (checkedText s x) ≤ mostOutput
+    by : (x : Said Plan) → sheetCheck s ≡ x → Either Any Brief x → length (checkedText s x) ≤ mostOutput
     by (gives p) e h = plan-most s p (accepted s p e)
     by (refuses r) e h = omega (arith, refused-most r h)
 
@@ -158,7 +159,7 @@ output-whole s o w h = wrote-whole o (deskOutput s) w (omega (arith, output-fits
 
 -- ---- a sheet that is too long
 too-long : (s : List ℕ) → mostBytes < length s → deskOutput s ≡ refusedText (at tooMany sheetFile 0)
-unfolding deskOutput checked
+unfolding deskOutput sheetCheck
 too-long s h = rw (lt-ltb mostBytes (length s) h)
 
 -- cut behind its 65,537th byte or later, a sheet prints what the whole of it prints

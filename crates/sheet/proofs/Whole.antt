@@ -7,6 +7,7 @@ use lib.IntN.{ℤ}
 use lib.ListN.{length}
 use Rattle.basis.specs.Refusal.{Said, gives}
 use Rattle.basis.specs.declared.refusal.Refusal.{Refusal}
+use Rattle.basis.specs.Limits.{deskVertices}
 use Rattle.basis.proofs.Saids.{mapped-gives}
 use Rattle.graph.specs.declared.Size.{Size}
 use Rattle.load.specs.declared.Loaded.{Loaded}
@@ -19,7 +20,7 @@ use Rattle.write.proofs.Puts.{put-as}
 use Rattle.plan.specs.declared.sections.Plan.{Plan}
 use Rattle.plan.specs.declared.sections.Checked.{Checked}
 use Rattle.plan.specs.declared.sections.Checked.the-variants as Ch
-use Rattle.plan.specs.Sheet.{checked, checkedSays}
+use Rattle.plan.specs.Sheet.{sheetCheck, checkedSays}
 use Rattle.plan.proofs.Places.{accepted}
 use Rattle.listing.specs.Listing.{refusedText}
 use Rattle.sheet.specs.Jobs.{jobsText}
@@ -38,7 +39,7 @@ module _ (s : List ℕ) (p : Plan) where
 -- a graph that was loaded has no more vertices than the area of identifiers has places
 pub few-vertices : (s : List ℕ) (p : Plan) (x : Loaded) {ids : List ℤ} {oo ot io is : List ℕ} (size : Size)
     → outcome (says x) ids oo ot io is ≡ loadOf s p deskRoom
-    → x ≡ LD.Graph size → size .vertices ≤ 1024
+    → x ≡ LD.Graph size → size .vertices ≤ deskVertices
 unfolding loadCall outcomeOf
 few-vertices s p x size u e =
     let g = mapped-gives sizeOf (listsIn s p) size (sym (ap says e) ∙ ap (λ (o : Outcome). o .answer) u) in
@@ -63,7 +64,7 @@ module _ (s : List ℕ) (p : Plan) (x : Loaded) (ids : List ℤ) (oo ot io is : 
   load-good size e w = put-as o at _ w _ (ap (λ y. loadText s p (outcome (says x) ids oo ot io is) (says y)) (sym e) ∙ load-text)
 
 -- ---- a check's answers
-module _ (s : List ℕ) (x : Checked) (u : checkedSays x ≡ checked s) where
+module _ (s : List ℕ) (x : Checked) (u : checkedSays x ≡ sheetCheck s) where
   pub placed : (p : Plan) → x ≡ Ch.Good p → Placed s p
   placed p e =
       let a = accepted s p (sym u ∙ ap checkedSays e) .places in

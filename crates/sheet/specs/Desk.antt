@@ -11,7 +11,7 @@ use Rattle.graph.specs.Sound.{Graph, lent}
 use Rattle.load.specs.Load.{Room, Outcome, loadCall, desk, deskRoom}
 use Rattle.plan.specs.declared.sections.Block.{Block}
 use Rattle.plan.specs.declared.sections.Plan.{Plan}
-use Rattle.plan.specs.Sheet.{mostBytes, mostJobs, checked}
+use Rattle.plan.specs.Sheet.{mostBytes, mostJobs, sheetCheck}
 use Rattle.listing.specs.Listing.{refusedText}
 use Rattle.sheet.specs.Jobs.{jobsText}
 
@@ -48,8 +48,12 @@ checkedText s (refuses r) = refusedText r
 
 -- the whole output for the bytes of a sheet, by what its check says
 unfoldable pub deskOutput : List ℕ → List ℕ
-deskOutput s = checkedText s (checked s)
+deskOutput s = checkedText s (sheetCheck s)
 
--- no sheet prints more bytes than this: the lines of the jobs stand in the sheet, and each job prints at most 43,013 bytes behind its line
+-- no job prints more bytes than this behind its line: a count line of 5, and 1,024 lines of 42
+abbrev pub mostBehind : ℕ
+mostBehind = 43013
+
+-- no sheet prints more bytes than this: the lines of the jobs stand in the sheet, and each job prints the rest behind its line
 abbrev pub mostOutput : ℕ
-mostOutput = mostBytes + mostJobs * 43013
+mostOutput = mostBytes + mostJobs * mostBehind

@@ -17,35 +17,42 @@ use Rattle.plan.specs.declared.job.Job.the-variants.{Bfs, Wcc, Cdlp, Lcc}
 use Rattle.listing.specs.Listing.{refusedText, headText, pairLines, ratioLines}
 
 -- an area that a kernel is lent: one place for each vertex that a desk graph may have
-abbrev pub zeros : List ℕ
-zeros = replicate deskVertices 0
+abbrev pub deskArea : List ℕ
+deskArea = replicate deskVertices 0
 
 -- the same area of signed numbers, for the results of BFS, WCC and CDLP
-abbrev pub zerosZ : List ℤ
-zerosZ = replicate deskVertices (pos 0)
+abbrev pub deskAreaZ : List ℤ
+deskAreaZ = replicate deskVertices (pos 0)
 
--- "Each job prints its line, a count line, then identifier and value for each vertex; a refused job prints only its `refused` line."
-abbrev pub answered : ℕ → List ℕ → Said (Unit {0}) → List ℕ → List ℕ
-answered n line (gives x) listing = headText line n ++ listing
-answered n line (refuses r) listing = refusedText r
+-- what a job prints by its kernel's answer: "Each job prints its line, a count line, then identifier and value for each vertex; a refused
+-- job prints only its `refused` line."
+abbrev pub answerText : ℕ → List ℕ → Said (Unit {0}) → List ℕ → List ℕ
+answerText n line (gives x) listing = headText line n ++ listing
+answerText n line (refuses r) listing = refusedText r
 
 -- `bfs ID`, with ID its root: identifier and depth of each vertex
 unfoldable pub bfsText : Graph → ℤ → List ℕ → List ℕ
-bfsText g root line = let call = bfsCall g root zerosZ zeros in answered (g .vertices) line (call .said) (pairLines (g .ids) (call .depth))
+bfsText g root line =
+    let call = bfsCall g root deskAreaZ deskArea in
+    answerText (g .vertices) line (call .said) (pairLines (g .ids) (call .depth))
 
 -- `wcc`: identifier and label of each vertex
 unfoldable pub wccText : Graph → List ℕ → List ℕ
-wccText g line = let call = wccCall g zerosZ zeros zeros in answered (g .vertices) line (call .said) (pairLines (g .ids) (call .result))
+wccText g line =
+    let call = wccCall g deskAreaZ deskArea deskArea in
+    answerText (g .vertices) line (call .said) (pairLines (g .ids) (call .result))
 
 -- `cdlp N`, with N its iterations: identifier and label of each vertex
 unfoldable pub cdlpText : Graph → ℤ → List ℕ → List ℕ
 cdlpText g iterations line =
-    let call = cdlpCall g iterations zerosZ zeros zeros zeros in answered (g .vertices) line (call .said) (pairLines (g .ids) (call .result))
+    let call = cdlpCall g iterations deskAreaZ deskArea deskArea deskArea in
+    answerText (g .vertices) line (call .said) (pairLines (g .ids) (call .result))
 
 -- `lcc`: identifier and fraction of each vertex, from the two result areas
 unfoldable pub lccText : Graph → List ℕ → List ℕ
 lccText g line =
-    let call = lccCall g zeros zeros zeros in answered (g .vertices) line (call .said) (ratioLines (g .ids) (call .numerators) (call .denominators))
+    let call = lccCall g deskArea deskArea deskArea in
+    answerText (g .vertices) line (call .said) (ratioLines (g .ids) (call .numerators) (call .denominators))
 
 -- "Jobs are `bfs ID`, `wcc`, `cdlp N`, `lcc`": what one of them prints on a graph, with the bytes of its line
 abbrev pub jobText : Graph → List ℕ → Job → List ℕ

@@ -1,5 +1,6 @@
-// A sheet's jobs: each runs its kernel on the loaded graph and prints its lines. `line` is the job's line with its LF, and `ids` has just the
-// graph's vertices. Each kernel's areas are zeros when it is called.
+// A sheet's jobs: each runs its kernel on the loaded graph and prints its lines. `line` is the job's line with its LF, and `ids` has just
+// the graph's vertices. Each kernel's areas are zeros when it is called.
+use basis::limits::DESK_VERTICES;
 use bfs::bfs;
 use cdlp::cdlp;
 use graph::Size;
@@ -18,7 +19,7 @@ ghost use Rattle.write.specs.Put.{written, putAt};
 ghost use Rattle.graph.specs.Sound.{lent};
 ghost use Rattle.kernels.specs.Answer.{says};
 ghost use Rattle.listing.specs.Listing.{pairLines, ratioLines};
-ghost use Rattle.sheet.specs.Jobs.{answered, bfsText, wccText, cdlpText, lccText, jobText, jobsText};
+ghost use Rattle.sheet.specs.Jobs.{answerText, bfsText, wccText, cdlpText, lccText, jobText, jobsText};
 
 // What a kernel of one result area prints by its answer.
 fn put_labels(
@@ -30,7 +31,10 @@ fn put_labels(
     out: &mut [u8],
     at: usize,
 ) -> usize
-    ensures { λ r. ⌜ written (now (out .exit)) r ≡ putAt (now (out .entry)) at (answered n (now (line .entry)) (says x) (pairLines (now (ids .entry)) (now (labels .entry)))) ⌝ }
+    ensures { λ r. ⌜
+        written (now (out .exit)) r
+        ≡ putAt (now (out .entry)) at
+        (answerText n (now (line .entry)) (says x) (pairLines (now (ids .entry)) (now (labels .entry)))) ⌝ }
 {
     match x {
         Answer::Refused(r) => put_refused(out, at, r),
@@ -52,7 +56,11 @@ fn put_coefficients(
     out: &mut [u8],
     at: usize,
 ) -> usize
-    ensures { λ r. ⌜ written (now (out .exit)) r ≡ putAt (now (out .entry)) at (answered n (now (line .entry)) (says x) (ratioLines (now (ids .entry)) (now (numerators .entry)) (now (denominators .entry)))) ⌝ }
+    ensures { λ r. ⌜
+        written (now (out .exit)) r
+        ≡ putAt (now (out .entry)) at
+        (answerText n (now (line .entry)) (says x)
+        (ratioLines (now (ids .entry)) (now (numerators .entry)) (now (denominators .entry)))) ⌝ }
 {
     match x {
         Answer::Refused(r) => put_refused(out, at, r),
@@ -63,6 +71,7 @@ fn put_coefficients(
     }
 }
 
+// What a BFS job prints.
 fn bfs_job(
     size: Size,
     ids: &[i64],
@@ -75,10 +84,16 @@ fn bfs_job(
     out: &mut [u8],
     at: usize,
 ) -> usize
-    ensures { λ r. ⌜ written (now (out .exit)) r ≡ putAt (now (out .entry)) at (bfsText (lent size (now (ids .entry)) (now («out_offsets» .entry)) (now («out_targets» .entry)) (now («in_offsets» .entry)) (now («in_sources» .entry))) root (now (line .entry))) ⌝ }
+    ensures { λ r. ⌜
+        written (now (out .exit)) r
+        ≡ putAt (now (out .entry)) at
+        (bfsText
+        (lent size (now (ids .entry)) (now («out_offsets» .entry)) (now («out_targets» .entry))
+        (now («in_offsets» .entry)) (now («in_sources» .entry)))
+        root (now (line .entry))) ⌝ }
 {
-    let mut depth = [0i64; 1024];
-    let mut queue = [0usize; 1024];
+    let mut depth = [0i64; DESK_VERTICES];
+    let mut queue = [0usize; DESK_VERTICES];
     let x = bfs(
         size,
         ids,
@@ -93,6 +108,7 @@ fn bfs_job(
     put_labels(x, size.vertices, ids, &depth, line, out, at)
 }
 
+// What a WCC job prints.
 fn wcc_job(
     size: Size,
     ids: &[i64],
@@ -104,11 +120,17 @@ fn wcc_job(
     out: &mut [u8],
     at: usize,
 ) -> usize
-    ensures { λ r. ⌜ written (now (out .exit)) r ≡ putAt (now (out .entry)) at (wccText (lent size (now (ids .entry)) (now («out_offsets» .entry)) (now («out_targets» .entry)) (now («in_offsets» .entry)) (now («in_sources» .entry))) (now (line .entry))) ⌝ }
+    ensures { λ r. ⌜
+        written (now (out .exit)) r
+        ≡ putAt (now (out .entry)) at
+        (wccText
+        (lent size (now (ids .entry)) (now («out_offsets» .entry)) (now («out_targets» .entry))
+        (now («in_offsets» .entry)) (now («in_sources» .entry)))
+        (now (line .entry))) ⌝ }
 {
-    let mut result = [0i64; 1024];
-    let mut parents = [0usize; 1024];
-    let mut sizes = [0usize; 1024];
+    let mut result = [0i64; DESK_VERTICES];
+    let mut parents = [0usize; DESK_VERTICES];
+    let mut sizes = [0usize; DESK_VERTICES];
     let x = wcc(
         size,
         ids,
@@ -123,6 +145,7 @@ fn wcc_job(
     put_labels(x, size.vertices, ids, &result, line, out, at)
 }
 
+// What a CDLP job prints.
 fn cdlp_job(
     size: Size,
     ids: &[i64],
@@ -135,12 +158,18 @@ fn cdlp_job(
     out: &mut [u8],
     at: usize,
 ) -> usize
-    ensures { λ r. ⌜ written (now (out .exit)) r ≡ putAt (now (out .entry)) at (cdlpText (lent size (now (ids .entry)) (now («out_offsets» .entry)) (now («out_targets» .entry)) (now («in_offsets» .entry)) (now («in_sources» .entry))) iterations (now (line .entry))) ⌝ }
+    ensures { λ r. ⌜
+        written (now (out .exit)) r
+        ≡ putAt (now (out .entry)) at
+        (cdlpText
+        (lent size (now (ids .entry)) (now («out_offsets» .entry)) (now («out_targets» .entry))
+        (now («in_offsets» .entry)) (now («in_sources» .entry)))
+        iterations (now (line .entry))) ⌝ }
 {
-    let mut result = [0i64; 1024];
-    let mut labels = [0usize; 1024];
-    let mut next_labels = [0usize; 1024];
-    let mut counts = [0usize; 1024];
+    let mut result = [0i64; DESK_VERTICES];
+    let mut labels = [0usize; DESK_VERTICES];
+    let mut next_labels = [0usize; DESK_VERTICES];
+    let mut counts = [0usize; DESK_VERTICES];
     let x = cdlp(
         size,
         ids,
@@ -157,6 +186,7 @@ fn cdlp_job(
     put_labels(x, size.vertices, ids, &result, line, out, at)
 }
 
+// What an LCC job prints.
 fn lcc_job(
     size: Size,
     ids: &[i64],
@@ -168,11 +198,17 @@ fn lcc_job(
     out: &mut [u8],
     at: usize,
 ) -> usize
-    ensures { λ r. ⌜ written (now (out .exit)) r ≡ putAt (now (out .entry)) at (lccText (lent size (now (ids .entry)) (now («out_offsets» .entry)) (now («out_targets» .entry)) (now («in_offsets» .entry)) (now («in_sources» .entry))) (now (line .entry))) ⌝ }
+    ensures { λ r. ⌜
+        written (now (out .exit)) r
+        ≡ putAt (now (out .entry)) at
+        (lccText
+        (lent size (now (ids .entry)) (now («out_offsets» .entry)) (now («out_targets» .entry))
+        (now («in_offsets» .entry)) (now («in_sources» .entry)))
+        (now (line .entry))) ⌝ }
 {
-    let mut numerators = [0usize; 1024];
-    let mut denominators = [0usize; 1024];
-    let mut work = [0usize; 1024];
+    let mut numerators = [0usize; DESK_VERTICES];
+    let mut denominators = [0usize; DESK_VERTICES];
+    let mut work = [0usize; DESK_VERTICES];
     let x = lcc(
         size,
         ids,
@@ -196,6 +232,7 @@ fn lcc_job(
     )
 }
 
+// What a job prints.
 fn run_job(
     size: Size,
     ids: &[i64],
@@ -208,7 +245,13 @@ fn run_job(
     out: &mut [u8],
     at: usize,
 ) -> usize
-    ensures { λ r. ⌜ written (now (out .exit)) r ≡ putAt (now (out .entry)) at (jobText (lent size (now (ids .entry)) (now («out_offsets» .entry)) (now («out_targets» .entry)) (now («in_offsets» .entry)) (now («in_sources» .entry))) (now (line .entry)) job) ⌝ }
+    ensures { λ r. ⌜
+        written (now (out .exit)) r
+        ≡ putAt (now (out .entry)) at
+        (jobText
+        (lent size (now (ids .entry)) (now («out_offsets» .entry)) (now («out_targets» .entry))
+        (now («in_offsets» .entry)) (now («in_sources» .entry)))
+        (now (line .entry)) job) ⌝ }
 {
     match job {
         Job::Bfs(root) => bfs_job(
@@ -274,7 +317,13 @@ pub fn run_jobs(
     out: &mut [u8],
     at: usize,
 ) -> usize
-    ensures { λ r. ⌜ written (now (out .exit)) r ≡ putAt (now (out .entry)) at (jobsText (lent size (now (ids .entry)) (now («out_offsets» .entry)) (now («out_targets» .entry)) (now («in_offsets» .entry)) (now («in_sources» .entry))) (now (s .entry)) count from) ⌝ }
+    ensures { λ r. ⌜
+        written (now (out .exit)) r
+        ≡ putAt (now (out .entry)) at
+        (jobsText
+        (lent size (now (ids .entry)) (now («out_offsets» .entry)) (now («out_targets» .entry))
+        (now («in_offsets» .entry)) (now («in_sources» .entry)))
+        (now (s .entry)) count from) ⌝ }
 {
     let mut next = at;
     let mut place = from;

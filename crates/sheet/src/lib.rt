@@ -18,6 +18,7 @@ ghost use Rattle.write.specs.Put.{written, putAt};
 ghost use Rattle.sheet.specs.Desk.{modeNumber, loadOf, planText, deskOutput};
 ghost use Rattle.sheet.specs.Steps.{Placed};
 
+// The load's number for a mode.
 fn mode_number(directed: bool) -> usize
     ensures { λ r. ⌜ r ≡ modeNumber directed ⌝ }
 {
@@ -35,7 +36,12 @@ fn load_sections(
     in_sources: &mut [usize],
 ) -> Loaded
     requires { ⌜ Placed (now s) plan ⌝ }
-    ensures { λ r. ⌜ outcome (says r) (now (ids .exit)) (now («out_offsets» .exit)) (now («out_targets» .exit)) (now («in_offsets» .exit)) (now («in_sources» .exit)) ≡ loadOf (now (s .entry)) plan (roomOf (length (now (ids .entry))) (length (now («out_offsets» .entry))) (length (now («out_targets» .entry))) (length (now («in_offsets» .entry))) (length (now («in_sources» .entry)))) ⌝ }
+    ensures { λ r. ⌜
+        outcome (says r) (now (ids .exit)) (now («out_offsets» .exit)) (now («out_targets» .exit))
+        (now («in_offsets» .exit)) (now («in_sources» .exit))
+        ≡ loadOf (now (s .entry)) plan
+        (roomOf (length (now (ids .entry))) (length (now («out_offsets» .entry))) (length (now («out_targets» .entry)))
+        (length (now («in_offsets» .entry))) (length (now («in_sources» .entry)))) ⌝ }
 {
     let vertices = plan.vertices;
     let edges = plan.edges;
@@ -65,11 +71,11 @@ fn print_plan(s: &[u8], plan: Plan, out: &mut [u8]) -> usize
     ensures { λ r. ⌜ written (now (out .exit)) r ≡ putAt (now (out .entry)) 0 (planText (now (s .entry)) plan) ⌝ }
 {
     let jobs = plan.jobs;
-    let mut ids = [0i64; 1024];
-    let mut out_offsets = [0usize; 1025];
-    let mut out_targets = [0usize; 4096];
-    let mut in_offsets = [0usize; 1025];
-    let mut in_sources = [0usize; 4096];
+    let mut ids = [0i64; DESK_VERTICES];
+    let mut out_offsets = [0usize; DESK_VERTICES + 1];
+    let mut out_targets = [0usize; 2 * DESK_EDGES];
+    let mut in_offsets = [0usize; DESK_VERTICES + 1];
+    let mut in_sources = [0usize; 2 * DESK_EDGES];
     let x = load_sections(
         s,
         plan,

@@ -11,7 +11,7 @@ use lib.Dec.{leb, eqb}
 use lib.ListN.{length}
 use Rattle.basis.specs.Scan.{each}
 use Rattle.basis.proofs.Tests.{no-case, bool-cases, and-first, and-second, and-both}
-use Rattle.text.specs.Word.{malformed, value, within, isDigit, stepped, runVal, zeroOf, countOf}
+use Rattle.text.specs.Word.{malformed, value, within, isDigit, withDigit, runVal, zeroOf, countOf}
 use Rattle.text.specs.Grammar.{numberOf}
 use Rattle.text.proofs.Bytes.{within-is, first-digit}
 use Rattle.text.proofs.Runs.{all-val}
@@ -20,16 +20,16 @@ use Rattle.text.proofs.Runs.{all-val}
 number-least : (a : ℕ) (l : List ℕ) → a * 10 ^ length l ≤ numberOf a l
 number-least a [] = omega arith
 number-least a (b ∷ l) =
-    let m : a * 10 ≤ stepped a b = omega arith in
-    rw (pow-succ', ← mul-assoc) (le-trans (mul-le-mul-right (10 ^ length l) m) (number-least (stepped a b) l))
+    let m : a * 10 ≤ withDigit a b = omega arith in
+    rw (pow-succ', ← mul-assoc) (le-trans (mul-le-mul-right (10 ^ length l) m) (number-least (withDigit a b) l))
 
 number-most : (a : ℕ) (l : List ℕ) → each isDigit l ≡ true → suc (numberOf a l) ≤ suc a * 10 ^ length l
 unfolding each
 number-most a [] h = omega arith
 number-most a (b ∷ l) h =
     let k = within-is 48 57 b (and-first (isDigit b) (each isDigit l) h) in
-    let m : suc (stepped a b) ≤ suc a * 10 = omega arith in
-    rw (pow-succ', ← mul-assoc) (le-trans (number-most (stepped a b) l (and-second (isDigit b) (each isDigit l) h))
+    let m : suc (withDigit a b) ≤ suc a * 10 = omega arith in
+    rw (pow-succ', ← mul-assoc) (le-trans (number-most (withDigit a b) l (and-second (isDigit b) (each isDigit l) h))
     (mul-le-mul-right (10 ^ length l) m))
 
 fewer : (j k n : ℕ) → 10 ^ j ≤ n → n < 10 ^ suc k → j ≤ k
@@ -47,9 +47,9 @@ digits-same a b (x ∷ l) [] e h k q = absurd (omega arith)
 digits-same a b (x ∷ l) (y ∷ m) e h k q =
     let i = within-is 48 57 x (and-first (isDigit x) (each isDigit l) h) in
     let j = within-is 48 57 y (and-first (isDigit y) (each isDigit m) k) in
-    let r = digits-same (stepped a x) (stepped b y) l m (omega arith) (and-second (isDigit x) (each isDigit l) h)
+    let r = digits-same (withDigit a x) (withDigit b y) l m (omega arith) (and-second (isDigit x) (each isDigit l) h)
     (and-second (isDigit y) (each isDigit m) k) q in
-    let s : stepped a x ≡ stepped b y = r .0 in
+    let s : withDigit a x ≡ withDigit b y = r .0 in
     let o : x ≡ y = omega arith in
     let t : l ≡ m = r .1 in
     (omega arith, cc)
@@ -61,7 +61,7 @@ record Leads (n : ℕ) (l : List ℕ) : Type 0 where
   is : l ≡ first ∷ more
   lead : within 49 57 first ≡ true
   digits : each isDigit more ≡ true
-  val : numberOf (stepped 0 first) more ≡ n
+  val : numberOf (withDigit 0 first) more ≡ n
 
 count-form : (l : List ℕ) (n : ℕ) → countOf l ≡ value n → ((l ≡ 48 ∷ []) × (n ≡ 0)) ⊎ Leads n l
 unfolding each
@@ -94,14 +94,15 @@ module _ (n : ℕ) (l : List ℕ) (x : Leads n l) where
   leads-least : 10 ^ length (x .more) ≤ n
   leads-least =
       let k = within-is 49 57 (x .first) (x .lead) in
-      let m : 1 ≤ stepped 0 (x .first) = omega arith in
-      rw one-mul at (le-trans (mul-le-mul-right (10 ^ length (x .more)) m) (rw (x .val) at (number-least (stepped 0 (x .first)) (x .more))))
+      let m : 1 ≤ withDigit 0 (x .first) = omega arith in
+      rw one-mul at (le-trans (mul-le-mul-right (10 ^ length (x .more)) m)
+      (rw (x .val) at (number-least (withDigit 0 (x .first)) (x .more))))
 
   leads-most : n < 10 ^ suc (length (x .more))
   leads-most =
       let k = within-is 49 57 (x .first) (x .lead) in
-      let m : suc (stepped 0 (x .first)) ≤ 10 = omega arith in
-      rw pow-succ' (le-trans (rw (x .val) at (number-most (stepped 0 (x .first)) (x .more) (x .digits)))
+      let m : suc (withDigit 0 (x .first)) ≤ 10 = omega arith in
+      rw pow-succ' (le-trans (rw (x .val) at (number-most (withDigit 0 (x .first)) (x .more) (x .digits)))
       (mul-le-mul-right (10 ^ length (x .more)) m))
 
   leads-some : 1 ≤ n
@@ -120,8 +121,8 @@ counts-one v w n e f = by (count-form v n e) (count-form w n f)
         let k = fewer (length (y .more)) (length (x .more)) n (leads-least n w y) (leads-most n v x) in
         let h = within-is 49 57 (x .first) (x .lead) in
         let i = within-is 49 57 (y .first) (y .lead) in
-        let d = digits-same (stepped 0 (x .first)) (stepped 0 (y .first)) (x .more) (y .more) (omega arith) (x .digits) (y .digits)
+        let d = digits-same (withDigit 0 (x .first)) (withDigit 0 (y .first)) (x .more) (y .more) (omega arith) (x .digits) (y .digits)
         (x .val ∙ sym (y .val)) in
-        let s : stepped 0 (x .first) ≡ stepped 0 (y .first) = d .0 in
+        let s : withDigit 0 (x .first) ≡ withDigit 0 (y .first) = d .0 in
         let q : x .first ≡ y .first = omega arith in
         x .is ∙ ap (λ (b : ℕ). b ∷ x .more) q ∙ ap (λ (l : List ℕ). y .first ∷ l) (d .1) ∙ sym (y .is)

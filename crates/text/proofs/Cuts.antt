@@ -11,7 +11,8 @@ use Rattle.basis.specs.Refusal.{badForm}
 use Rattle.basis.specs.Scan.{mem}
 use Rattle.basis.proofs.Tests.{no-case}
 use Rattle.text.specs.Word.{Word, malformed, outside, value}
-use Rattle.text.specs.Line.{line, none, fault, lf, upTo, past, lineSays, lineBy}
+use Rattle.text.specs.Bytes.{lf}
+use Rattle.text.specs.Line.{line, none, fault, upTo, past, lineSays, lineBy}
 use Rattle.text.proofs.Bytes.{cut-at, upTo-none, mem-cut, upTo-cut, drop-past}
 
 module _ {A : Type 0} (word : List ℕ → Word A) (s : List ℕ) (place : ℕ) where

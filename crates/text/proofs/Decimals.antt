@@ -11,11 +11,11 @@ use lib.Dec.{leb, ltb, eqb}
 use lib.ListN.{length, getD, drop, length-drop, List·getD-eq-default}
 use lib.Pow.{pow-add}
 use Rattle.basis.proofs.Tests.{clash, false-of, bool-cases, and-first, and-second, and-off, failed, held}
-use Rattle.text.specs.Word.{malformed, isDigit, stepped, runLen, runVal}
+use Rattle.text.specs.Word.{malformed, isDigit, withDigit, runLen, runVal}
 use Rattle.text.specs.Decimal.{digitLimit, decimal, digitOf, up, down, wrong, pastPoint}
 use Rattle.text.specs.Decimal.{wholeIsGood, signedPower, powerAt, partsOf, fractionOf, decimalOf}
 use Rattle.text.specs.Stop.{isSign, digitsStop, digitsPower, powerStop, partsStop, fractionStop, decimalStop, powerWord, scaledWord}
-use Rattle.text.specs.Scan.{scanned, capped, runAt, decimalSays}
+use Rattle.text.specs.Scan.{scanned, cutNumber, runAt, decimalSays}
 use Rattle.text.specs.declared.count.Run.{Run}
 use Rattle.text.specs.declared.decimal.DecimalWord.{DecimalWord}
 use Rattle.text.specs.declared.decimal.DecimalWord.the-variants as DW
@@ -234,9 +234,9 @@ run-small a (b ∷ l) = by (isDigit b) refl (λ k. run-small k l)
         → suc (runVal a (b ∷ l)) ≤ suc a * 10 ^ runLen (b ∷ l)
     by true e f =
         let h = within-is 48 57 b e in
-        let m : suc (stepped a b) ≤ suc a * 10 = omega arith in
+        let m : suc (withDigit a b) ≤ suc a * 10 = omega arith in
         let q : runLen (b ∷ l) ≡ suc (runLen l) = omega (arith, len-digit b l e) in
-        rw (val-digit a b l e, q) (rw pow-succ' (rw (← mul-assoc) (le-trans (f (stepped a b)) (mul-le-mul-right (10 ^ runLen l) m))))
+        rw (val-digit a b l e, q) (rw pow-succ' (rw (← mul-assoc) (le-trans (f (withDigit a b)) (mul-le-mul-right (10 ^ runLen l) m))))
     by false e f = rw (val-stop a b l e, len-stop b l e) (omega arith)
 
 few-digits : (s : List ℕ) (p : ℕ) → runLen s + runLen (drop p s) ≤ digitLimit → runVal (runVal 0 s) (drop p s) < 10 ^ digitLimit
@@ -246,14 +246,14 @@ few-digits s p h =
     let t : 10 ^ (runLen s + runLen (drop p s)) ≤ 10 ^ digitLimit = pow-le-pow-right (omega arith) h in
     le-trans b (le-trans (mul-le-mul-right (10 ^ runLen (drop p s)) a) (rw pow-add at t))
 
-parts-cut : (s : List ℕ) (p : ℕ) → partsOf s (runLen s) p (runLen (drop p s)) (capped (runVal (runVal 0 s) (drop p s)))
+parts-cut : (s : List ℕ) (p : ℕ) → partsOf s (runLen s) p (runLen (drop p s)) (cutNumber (runVal (runVal 0 s) (drop p s)))
     ≡ fractionOf s (runLen s) p
 unfolding partsOf fractionOf
 parts-cut s p =
     bool-cases (leb (runLen s + runLen (drop p s)) digitLimit) _
     (λ e. let h : runVal (runVal 0 s) (drop p s) < 10 ^ digitLimit = few-digits s p
     (leb-true (runLen s + runLen (drop p s)) digitLimit e) in
-    let c : capped (runVal (runVal 0 s) (drop p s)) ≡ runVal (runVal 0 s) (drop p s) = omega arith in
+    let c : cutNumber (runVal (runVal 0 s) (drop p s)) ≡ runVal (runVal 0 s) (drop p s) = omega arith in
     rw c)
     (λ e. rw (e, and-off (leb p (runLen s + runLen (drop p s))) false refl, and-off (wholeIsGood s (runLen s)) false refl))
 
@@ -287,11 +287,11 @@ module _ (s : List ℕ) (whole : Run) (p : ℕ) (all : Run) (a : whole ≡ runAt
   unfolding runAt
   all-next = ap (λ (r : Run). r .next) c
 
-  all-number : all .n ≡ capped (runVal (runVal 0 s) (drop p s))
+  all-number : all .n ≡ cutNumber (runVal (runVal 0 s) (drop p s))
   unfolding runAt
   all-number =
       ap (λ (r : Run). r .n) c
-      ∙ ap (λ (r : Run). capped (runVal (r .n) (drop p s))) a
+      ∙ ap (λ (r : Run). cutNumber (runVal (r .n) (drop p s))) a
       ∙ cap-run (runVal 0 s) (drop p s)
 
   pub decimal-from : whole .next ≤ p

@@ -16,19 +16,17 @@ use Rattle.basis.specs.Scan.{mem}
 use Rattle.basis.proofs.Tests.{no-case}
 use Rattle.basis.proofs.Saids.{refused-given, given-one, Either, Any}
 use Rattle.text.specs.Word.{Word, malformed, outside, value}
-use Rattle.text.specs.Line.{LineSaid, line, none, fault, lf, upTo, past, lineSays, lineBy}
+use Rattle.text.specs.Bytes.{lf}
+use Rattle.text.specs.Line.{LineSaid, line, none, fault, upTo, past, lineSays, lineBy}
 use Rattle.text.specs.File.{Line, good, bad, linesFrom, linesOf, Before, first, after, unless, faultOf, valuesFrom, valuesOf}
 use Rattle.text.specs.File.{noTest, joined, Says, Passes, lastOf, GoodFile, Fails, over, unended, wrong, beyond, tested, FirstFault}
 use Rattle.text.proofs.Bytes.{cut-at, upTo-none, drop-past}
 use Rattle.text.proofs.Cuts.{cut-line}
 use Rattle.text.proofs.Places.{line-moves, none-stays}
+use Rattle.text.proofs.Lines.{line-end}
 
 -- ---- a line at a place, by the bytes from there on
 module _ {A : Type 0} (word : List ℕ → Word A) (s : List ℕ) (place : ℕ) where
-  pub line-end : length s ≤ place → lineBy word s place ≡ none place
-  unfolding lineBy
-  line-end h = rw (le-leb (length s) place h)
-
   pub line-open : place < length s → mem lf (drop place s) ≡ false → lineBy word s place ≡ fault badForm place
   unfolding lineBy
   line-open h m = rw (lt-leb (length s) place h, m)
@@ -120,7 +118,7 @@ module _ {A : Type 0} (word : List ℕ → Word A) (file most : ℕ) (test : Bef
     passed-end p e = h .rest ∙ rw (left-none word file most test s k (lastOf first done) place p e) (ap gives (append-nil done))
 
     pub passed-full : length s ≤ place → valuesOf file most test (linesOf (lineBy word) s) ≡ gives done
-    passed-full e = passed-end place (line-end word s place e)
+    passed-full e = passed-end place (sym (line-end word s place e))
 
     pub passed-over : most ≤ k → place < length s → valuesOf file most test (linesOf (lineBy word) s) ≡ refuses (at tooMany file (k + 1))
     passed-over l e = h .rest ∙ rw (left-over word file most test s k (lastOf first done) place l e)
@@ -335,7 +333,7 @@ module _ {A : Type 0} (word : List ℕ → Word A) (file most : ℕ) (test : Bef
       by e (inr f) = subst (FirstFault word file most test s) (let a = fault-refuses (f .0) (f .1) in cc) (f .1)
 
 -- the refusal of a file: its number is from 1 to 7, its file the file's own, and its line at most the one after the limit
-pub record Met (file most : ℕ) (r : Refusal) : Type 0 where
+pub record FileRefusal (file most : ℕ) (r : Refusal) : Type 0 where
   pub some : 0 < r .number
   pub low : r .number ≤ 7
   pub inFile : r .file ≡ file
@@ -343,11 +341,11 @@ pub record Met (file most : ℕ) (r : Refusal) : Type 0 where
 
 module _ {A : Type 0} (word : List ℕ → Word A) (file most : ℕ) (test : Before A → A → ℕ)
     (small : (before : Before A) (v : A) → test before v ≤ 7) (s : List ℕ) where
-  fault-met : (r : Refusal) → FirstFault word file most test s r → Met file most r
-  fault-met r f = rw (f .refusal) (by (f .fails))
+  fault-refusal : (r : Refusal) → FirstFault word file most test s r → FileRefusal file most r
+  fault-refusal r f = rw (f .refusal) (by (f .fails))
     where
       by : Fails word most (test (lastOf first (f .passed))) (length (f .passed)) (f .rest) (f .number)
-          → Met file most (at (f .number) file (length (f .passed) + 1))
+          → FileRefusal file most (at (f .number) file (length (f .passed) + 1))
       by (over h e) = record { some = omega arith; low = omega arith; inFile = refl; inLines = omega arith }
       by (unended h m e) = record { some = omega arith; low = omega arith; inFile = refl; inLines = omega arith }
       by (wrong h m w e) = record { some = omega arith; low = omega arith; inFile = refl; inLines = omega arith }
@@ -356,12 +354,12 @@ module _ {A : Type 0} (word : List ℕ → Word A) (file most : ℕ) (test : Bef
           let g = small (lastOf first (f .passed)) v in
           record { some = omega arith; low = omega arith; inFile = refl; inLines = omega arith }
 
-  pub file-met : Either Any (Met file most) (valuesOf file most test (linesOf (lineBy word) s))
-  file-met = by (valuesOf file most test (linesOf (lineBy word) s)) refl
+  pub file-refusal : Either Any (FileRefusal file most) (valuesOf file most test (linesOf (lineBy word) s))
+  file-refusal = by (valuesOf file most test (linesOf (lineBy word) s)) refl
     where
-      by : (x : Said (List A)) → valuesOf file most test (linesOf (lineBy word) s) ≡ x → Either Any (Met file most) x
+      by : (x : Said (List A)) → valuesOf file most test (linesOf (lineBy word) s) ≡ x → Either Any (FileRefusal file most) x
       by (gives vs) e = tt
-      by (refuses r) e = fault-met r (file-refused word file most test s r .0 e)
+      by (refuses r) e = fault-refusal r (file-refused word file most test s r .0 e)
 
 -- tests that agree on every line
 pub values-same : {A : Type 0} (file most : ℕ) (p q : Before A → A → ℕ) → ((before : Before A) (v : A) → p before v ≡ q before v)

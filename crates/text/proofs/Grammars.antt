@@ -15,7 +15,7 @@ use lib.Seq.{length-take-le, getD-take, getD-drop, getD-append-add, drop-cons, d
 use Rattle.basis.specs.Scan.{each}
 use Rattle.basis.proofs.Tests.{clash, no-case, bool-cases, same-test, and-first, and-second}
 use Rattle.basis.proofs.Scans.{each-of}
-use Rattle.text.specs.Word.{Word, malformed, outside, value, within, isDigit, stepped, runLen, runVal}
+use Rattle.text.specs.Word.{Word, malformed, outside, value, within, isDigit, withDigit, runLen, runVal}
 use Rattle.text.specs.Decimal.{Exponent, up, down, wrong, digitLimit, decimal, digitOf, pastPoint}
 use Rattle.text.specs.Decimal.{wholeIsGood, signedPower, powerAt, scaled, partsOf, fractionOf, decimalOf}
 use Rattle.text.specs.Grammar.{WholePart, nought, number, FractionPart, noPoint, point, PowerPart, noPower, plus}
@@ -25,7 +25,7 @@ use Rattle.text.specs.declared.decimal.Decimal.{Decimal}
 use Rattle.text.proofs.Bytes.{within-yes, within-is, nothing-past}
 use Rattle.text.proofs.Runs.{front-len, front-val, len-le}
 use Rattle.text.proofs.Decimals.{worth-yes, whole-one, whole-more, point-within}
-use Rattle.text.proofs.Stops.{Inside, decimal-inside}
+use Rattle.text.proofs.Stops.{NeverOutside, decimal-never-outside}
 use Rattle.text.proofs.Firsts.{run-before, run-here, whole-high, whole-some}
 use Rattle.text.proofs.Goings.{decimal-parts}
 
@@ -67,7 +67,7 @@ behind u t =
 
 number-append : (n : ℕ) (a b : List ℕ) → numberOf n (a ++ b) ≡ numberOf (numberOf n a) b
 number-append n [] b = refl
-number-append n (x ∷ a) b = number-append (stepped n x) a b
+number-append n (x ∷ a) b = number-append (withDigit n x) a b
 
 two-digits : (x y : ℕ) → isDigit x ≡ true → isDigit y ≡ true → digitOf x * 10 + digitOf y ≡ numberOf 0 (x ∷ y ∷ [])
 two-digits x y h k =
@@ -384,9 +384,9 @@ decimal-grammar s d = (form-of s d, λ x. ap decimalOf (x .bytes) ∙ form-taken
 
 -- a word without that form is malformed, never out of range
 pub decimal-else : (s : List ℕ) → ((d : Decimal) → DecimalForm s d → ⊥) → decimalOf s ≡ malformed
-decimal-else s h = by (decimalOf s) refl (decimal-inside s)
+decimal-else s h = by (decimalOf s) refl (decimal-never-outside s)
   where
-    by : (x : Word Decimal) → decimalOf s ≡ x → Inside x → decimalOf s ≡ malformed
+    by : (x : Word Decimal) → decimalOf s ≡ x → NeverOutside x → decimalOf s ≡ malformed
     by malformed e i = e
     by outside e i = absurd i
     by (value d) e i = absurd (h d (form-of s d e))

@@ -15,7 +15,8 @@ use Rattle.basis.proofs.Tests.{clash, bool-cases}
 use Rattle.text.specs.Word.{Word, malformed, outside, value, within, identOf}
 use Rattle.text.specs.Decimal.{decimalOf}
 use Rattle.text.specs.Stop.{decimalStop}
-use Rattle.text.specs.Line.{LineSaid, line, none, fault, lf, space, upTo, past, lineSays, lineBy, both}
+use Rattle.text.specs.Bytes.{lf, space}
+use Rattle.text.specs.Line.{LineSaid, line, none, fault, upTo, past, lineSays, lineBy, both}
 use Rattle.text.specs.Line.{twoOf, vertexLine, edgeLine, coefficientLine, edgeSays, coefficientSays}
 use Rattle.text.specs.Scan.{Scanned, scanned, wellFormed, hasAt, closed, fieldAt, scanSays, decimalSays}
 use Rattle.text.specs.Scan.{lineFrom, decimalAt, restAt, restSays, beside, faultBeside, lineOf}

@@ -16,7 +16,8 @@ use Rattle.basis.proofs.Tests.{clash, bool-cases}
 use Rattle.basis.proofs.Saids.{Any}
 use Rattle.text.specs.Word.{Word, malformed, outside, value, rangedOf, countOf, signedOf, afterMinus, identOf}
 use Rattle.text.specs.Decimal.{decimalOf}
-use Rattle.text.specs.Line.{LineSaid, line, none, fault, lf, space, upTo, past}
+use Rattle.text.specs.Bytes.{lf, space}
+use Rattle.text.specs.Line.{LineSaid, line, none, fault, upTo, past}
 use Rattle.text.specs.Line.{lineSays, lineBy, both, twoOf, edgeLine, coefficientLine}
 use Rattle.text.specs.Scan.{Scanned, wellFormed, hasAt, identAt, closed, fieldAt, scanSays}
 use Rattle.text.specs.declared.decimal.Decimal.{Decimal}

@@ -9,14 +9,14 @@ use lib.ListN.{length, getD, drop, drop-of-length-le}
 use lib.Seq.{drop-cons}
 use Rattle.basis.specs.Scan.{each}
 use Rattle.basis.proofs.Tests.{and-first, and-second}
-use Rattle.text.specs.Word.{within, isDigit, stepped, runLen, runVal}
+use Rattle.text.specs.Word.{within, isDigit, withDigit, runLen, runVal}
 use Rattle.text.specs.Grammar.{numberOf}
-use Rattle.text.specs.Scan.{capped, runAt}
+use Rattle.text.specs.Scan.{cutNumber, runAt}
 use Rattle.text.specs.declared.count.Run.{Run}
 use Rattle.text.proofs.Bytes.{within-yes, within-low, within-high}
 
 -- ---- one byte of a run
-pub val-digit : (n b : ℕ) (bs : List ℕ) → isDigit b ≡ true → runVal n (b ∷ bs) ≡ runVal (stepped n b) bs
+pub val-digit : (n b : ℕ) (bs : List ℕ) → isDigit b ≡ true → runVal n (b ∷ bs) ≡ runVal (withDigit n b) bs
 val-digit n b bs e = rw (e, runVal)
 
 pub val-stop : (n b : ℕ) (bs : List ℕ) → isDigit b ≡ false → runVal n (b ∷ bs) ≡ n
@@ -51,25 +51,25 @@ front-val n [] [] h k = refl
 front-val n [] (c ∷ r) h k = val-stop n c r k
 front-val n (b ∷ bs) r h k =
     val-digit n b (bs ++ r) (and-first (isDigit b) (each isDigit bs) h)
-    ∙ front-val (stepped n b) bs r (and-second (isDigit b) (each isDigit bs) h) k
+    ∙ front-val (withDigit n b) bs r (and-second (isDigit b) (each isDigit bs) h) k
 
 pub all-val : (n : ℕ) (bs : List ℕ) → each isDigit bs ≡ true → runVal n bs ≡ numberOf n bs
 unfolding within
 all-val n bs h = ap (runVal n) (sym (append-nil bs)) ∙ front-val n bs [] h refl
 
 -- ---- a number that is cut down before a step is cut down to the same after it
-cap-step : (n b : ℕ) → capped (stepped (capped n) b) ≡ capped (stepped n b)
+cap-step : (n b : ℕ) → cutNumber (withDigit (cutNumber n) b) ≡ cutNumber (withDigit n b)
 cap-step n b = omega arith
 
 cap-run-by : (n b : ℕ) (bs : List ℕ) (t : Bool) → isDigit b ≡ t
-    → ((k : ℕ) → capped (runVal (capped k) bs) ≡ capped (runVal k bs))
-    → capped (runVal (capped n) (b ∷ bs)) ≡ capped (runVal n (b ∷ bs))
+    → ((k : ℕ) → cutNumber (runVal (cutNumber k) bs) ≡ cutNumber (runVal k bs))
+    → cutNumber (runVal (cutNumber n) (b ∷ bs)) ≡ cutNumber (runVal n (b ∷ bs))
 cap-run-by n b bs true e ih =
-    rw (val-digit (capped n) b bs e, val-digit n b bs e)
-    (sym (ih (stepped (capped n) b)) ∙ ap (λ (k : ℕ). capped (runVal k bs)) (cap-step n b) ∙ ih (stepped n b))
-cap-run-by n b bs false e ih = rw (val-stop (capped n) b bs e, val-stop n b bs e) (omega arith)
+    rw (val-digit (cutNumber n) b bs e, val-digit n b bs e)
+    (sym (ih (withDigit (cutNumber n) b)) ∙ ap (λ (k : ℕ). cutNumber (runVal k bs)) (cap-step n b) ∙ ih (withDigit n b))
+cap-run-by n b bs false e ih = rw (val-stop (cutNumber n) b bs e, val-stop n b bs e) (omega arith)
 
-pub cap-run : (n : ℕ) (l : List ℕ) → capped (runVal (capped n) l) ≡ capped (runVal n l)
+pub cap-run : (n : ℕ) (l : List ℕ) → cutNumber (runVal (cutNumber n) l) ≡ cutNumber (runVal n l)
 cap-run n [] = omega arith
 cap-run n (b ∷ bs) = cap-run-by n b bs (isDigit b) refl (λ k. cap-run k bs)
 
@@ -77,16 +77,16 @@ cap-run n (b ∷ bs) = cap-run-by n b bs (isDigit b) refl (λ k. cap-run k bs)
 -- after `start`
 pub record Running (s : List ℕ) (from start n i : ℕ) : Type 0 where
   pub small : n ≤ 9223372036854775809
-  pub val : capped (runVal n (drop i s)) ≡ capped (runVal start (drop from s))
+  pub val : cutNumber (runVal n (drop i s)) ≡ cutNumber (runVal start (drop from s))
   pub len : i + runLen (drop i s) ≡ from + runLen (drop from s)
 
 module _ (s : List ℕ) (from start : ℕ) where
-  pub running-start : (n : ℕ) → n ≡ capped start → Running s from start n from
+  pub running-start : (n : ℕ) → n ≡ cutNumber start → Running s from start n from
   running-start n e =
-      record { small = omega arith; val = ap (λ (k : ℕ). capped (runVal k (drop from s))) e ∙ cap-run start (drop from s); len = refl }
+      record { small = omega arith; val = ap (λ (k : ℕ). cutNumber (runVal k (drop from s))) e ∙ cap-run start (drop from s); len = refl }
 
   pub running-more : (n m i : ℕ) → Running s from start n i → i < length s → 48 ≤ getD s i 0 → getD s i 0 ≤ 57
-      → m ≡ capped (stepped n (getD s i 0)) → Running s from start m (i + 1)
+      → m ≡ cutNumber (withDigit n (getD s i 0)) → Running s from start m (i + 1)
   running-more n m i r h lo hi q =
       let b : ℕ = getD s i 0 in
       let e : isDigit b ≡ true = within-yes lo hi in
@@ -94,9 +94,9 @@ module _ (s : List ℕ) (from start : ℕ) where
       record {
         small = omega arith;
         val =
-            ap (λ (k : ℕ). capped (runVal k (drop (i + 1) s))) q
-            ∙ cap-run (stepped n b) (drop (i + 1) s)
-            ∙ ap capped (sym (val-digit n b (drop (i + 1) s) e) ∙ ap (runVal n) (sym d))
+            ap (λ (k : ℕ). cutNumber (runVal k (drop (i + 1) s))) q
+            ∙ cap-run (withDigit n b) (drop (i + 1) s)
+            ∙ ap cutNumber (sym (val-digit n b (drop (i + 1) s) e) ∙ ap (runVal n) (sym d))
             ∙ r .val;
         len = omega (arith, ap runLen d ∙ len-digit b (drop (i + 1) s) e);
       }
@@ -106,7 +106,7 @@ module _ (s : List ℕ) (from start : ℕ) where
       → _≡_ {A = Run} (record { n = n; next = i }) (runAt s from start)
   unfolding runAt
   running-end n i r v l =
-      let en : n ≡ capped (runVal start (drop from s)) = omega arith in
+      let en : n ≡ cutNumber (runVal start (drop from s)) = omega arith in
       let ei : i ≡ from + runLen (drop from s) = omega arith in
       λ k. record { n = en k; next = ei k }
 

@@ -5,14 +5,12 @@ use lib.IntN.{ℤ}
 use Rattle.basis.proofs.Saids.{one-of}
 use Rattle.text.specs.Word.{Word, malformed, outside, value}
 use Rattle.text.specs.Line.{LineSaid, line, none, fault, vertexSays, edgeSays, coefficientSays}
-use Rattle.text.specs.Scan.{countSays, scanSays, decimalSays}
+use Rattle.text.specs.Scan.{countSays, scanSays}
 use Rattle.text.specs.declared.count.Counted.{Counted}
 use Rattle.text.specs.declared.count.Counted.the-variants as C
 use Rattle.text.specs.declared.ident.Scan.{Scan}
 use Rattle.text.specs.declared.ident.Scan.the-variants as S
 use Rattle.text.specs.declared.decimal.Decimal.{Decimal}
-use Rattle.text.specs.declared.decimal.DecimalWord.{DecimalWord}
-use Rattle.text.specs.declared.decimal.DecimalWord.the-variants as DW
 use Rattle.text.specs.declared.line.Cursor.{Cursor}
 use Rattle.text.specs.declared.line.VertexLine.{VertexLine}
 use Rattle.text.specs.declared.line.VertexLine.the-variants as VL
@@ -49,18 +47,6 @@ scan-back (S.Value z p) = refl
 
 pub scan-one : (x y : Scan) → scanSays x ≡ scanSays y → x ≡ y
 scan-one = one-of scanSays (λ w. scan (w .said) (w .next)) scan-back
-
-abbrev wordRead : Word Decimal → ℕ → DecimalWord
-wordRead malformed p = DW.Bad p
-wordRead outside p = DW.Bad p
-wordRead (value d) p = DW.Value d
-
-decimal-back : (n : ℕ) (x : DecimalWord) → wordRead (decimalSays n x .said) (decimalSays n x .next) ≡ x
-decimal-back n (DW.Bad p) = refl
-decimal-back n (DW.Value d) = refl
-
-pub decimal-one : (n : ℕ) (x y : DecimalWord) → decimalSays n x ≡ decimalSays n y → x ≡ y
-decimal-one n = one-of (decimalSays n) (λ w. wordRead (w .said) (w .next)) (decimal-back n)
 
 -- ---- lines
 abbrev vertexRead : LineSaid ℤ → VertexLine

@@ -13,7 +13,7 @@ use mir.Syntax.{w64}
 use mir.Val.{toZ}
 use mir.ValLaws.{toZ-pos}
 use Rattle.text.specs.Word.{Word, malformed, outside, value, within, minusOf, rangedOf, signedOf}
-use Rattle.text.specs.Scan.{Scanned, scanned, hasAt, capped, runAt, countAt, cutWord, saturated}
+use Rattle.text.specs.Scan.{Scanned, scanned, hasAt, cutNumber, runAt, countAt, cutWord, saturated}
 use Rattle.text.specs.Scan.{countSays, rangedAt, signedAt, identAt, closed, fieldAt, scanSays}
 use Rattle.text.specs.declared.count.Run.{Run}
 use Rattle.text.specs.declared.count.Counted.{Counted}
@@ -73,17 +73,17 @@ module _ (negative : Bool) (n next : ℕ) where
   ranged-above e h = rw (e, lt-leb n (2 ^ 63 - 1) h)
 
 -- the cut changes nothing of what the number means
-ranged-cut-by : (negative : Bool) (n : ℕ) (t : Bool) → leb n (2 ^ 63) ≡ t → rangedOf negative (capped n) ≡ rangedOf negative n
+ranged-cut-by : (negative : Bool) (n : ℕ) (t : Bool) → leb n (2 ^ 63) ≡ t → rangedOf negative (cutNumber n) ≡ rangedOf negative n
 ranged-cut-by negative n true e =
     let h : n ≤ 2 ^ 63 = leb-true n (2 ^ 63) e in
-    let q : capped n ≡ n = omega arith in
+    let q : cutNumber n ≡ n = omega arith in
     ap (rangedOf negative) q
 ranged-cut-by true n false e =
     let h : 2 ^ 63 < n = leb-false n (2 ^ 63) e in
-    simp (lt-leb n (2 ^ 63) h, lt-leb (capped n) (2 ^ 63) (omega arith))
+    simp (lt-leb n (2 ^ 63) h, lt-leb (cutNumber n) (2 ^ 63) (omega arith))
 ranged-cut-by false n false e =
     let h : 2 ^ 63 < n = leb-false n (2 ^ 63) e in
-    simp (lt-leb n (2 ^ 63 - 1) (omega arith), lt-leb (capped n) (2 ^ 63 - 1) (omega arith))
+    simp (lt-leb n (2 ^ 63 - 1) (omega arith), lt-leb (cutNumber n) (2 ^ 63 - 1) (omega arith))
 
 signed-cut : (negative : Bool) (w : Word ℕ) → signedOf negative (cutWord w) ≡ signedOf negative w
 signed-cut negative malformed = refl

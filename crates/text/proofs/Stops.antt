@@ -165,24 +165,24 @@ stop-good s h =
     parts-stop-good s (runVal (runVal 0 s) (drop p s)) (runLen (drop p s)) (runLen s) p h
 
 -- ---- a decimal is never out of range
-abbrev pub Inside : Word Decimal → Type 0
-Inside malformed = Unit {0}
-Inside outside = ⊥
-Inside (value d) = Unit {0}
+abbrev pub NeverOutside : Word Decimal → Type 0
+NeverOutside malformed = Unit {0}
+NeverOutside outside = ⊥
+NeverOutside (value d) = Unit {0}
 
-scaled-inside : (n f : ℕ) (e : Exponent) → Inside (scaled n f e)
-scaled-inside n f (up k) = tt
-scaled-inside n f (down k) = tt
-scaled-inside n f wrong = tt
+scaled-never-outside : (n f : ℕ) (e : Exponent) → NeverOutside (scaled n f e)
+scaled-never-outside n f (up k) = tt
+scaled-never-outside n f (down k) = tt
+scaled-never-outside n f wrong = tt
 
-parts-inside : (s : List ℕ) (w p f n : ℕ) → Inside (partsOf s w p f n)
+parts-never-outside : (s : List ℕ) (w p f n : ℕ) → NeverOutside (partsOf s w p f n)
 unfolding partsOf
-parts-inside s w p f n =
-    bool-cases (wholeIsGood s w && (leb p (w + f) && leb (w + f) digitLimit)) _ (λ e. rw e (scaled-inside n f (powerAt s (p + f))))
+parts-never-outside s w p f n =
+    bool-cases (wholeIsGood s w && (leb p (w + f) && leb (w + f) digitLimit)) _ (λ e. rw e (scaled-never-outside n f (powerAt s (p + f))))
     (λ e. rw e tt)
 
-pub decimal-inside : (s : List ℕ) → Inside (decimalOf s)
+pub decimal-never-outside : (s : List ℕ) → NeverOutside (decimalOf s)
 unfolding decimalOf fractionOf
-decimal-inside s =
-    parts-inside s (runLen s) (pastPoint s (runLen s)) (runLen (drop (pastPoint s (runLen s)) s))
+decimal-never-outside s =
+    parts-never-outside s (runLen s) (pastPoint s (runLen s)) (runLen (drop (pastPoint s (runLen s)) s))
     (runVal (runVal 0 s) (drop (pastPoint s (runLen s)) s))

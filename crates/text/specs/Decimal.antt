@@ -1,10 +1,11 @@
 -- 01 "Claims and verdicts": "a plain or scientific decimal: `0` or digits without a leading zero, optionally `.` and at least one digit,
--- optionally `e`, a sign and two digits. It has no minus before it". 46 is `.`, 101 `e`, 43 `+`, 45 `-`.
+-- optionally `e`, a sign and two digits. It has no minus before it".
 use Prim.Native.Nat.{ℕ, _+_, _-_, _*_}
 use mathlib.Core.List.{List}
 use mathlib.Core.Bool.{Bool, cond, _&&_, _||_}
 use lib.ListN.{length, getD, drop}
 use lib.Dec.{ltb, leb, eqb}
+use Rattle.text.specs.Bytes.{zeroDigit, plusSign, minusSign, pointMark, powerMark}
 use Rattle.text.specs.Word.{Word, malformed, value, isDigit, runLen, runVal}
 use Rattle.text.specs.declared.decimal.Decimal.{Decimal}
 
@@ -18,7 +19,7 @@ decimal digits up down = record { digits = digits; up = up; down = down }
 
 -- what a digit is worth; 0 of any other byte
 unfoldable pub digitOf : ℕ → ℕ
-digitOf b = cond (isDigit b) (b - 48) 0
+digitOf b = cond (isDigit b) (b - zeroDigit) 0
 
 -- the power of ten that is written after the digits
 pub data Exponent : Type 0 where
@@ -27,21 +28,21 @@ pub data Exponent : Type 0 where
 
 -- where the digits after the point start; the place itself where there is no point
 unfoldable pub pastPoint : List ℕ → ℕ → ℕ
-pastPoint s at = cond (eqb (getD s at 0) 46) (at + 1) at
+pastPoint s at = cond (eqb (getD s at 0) pointMark) (at + 1) at
 
 -- "`0` or digits without a leading zero": of the w digits before the point, which are one at least
 unfoldable pub wholeIsGood : List ℕ → ℕ → Bool
-wholeIsGood s w = eqb w 1 || (ltb 1 w && ltb 48 (getD s 0 0))
+wholeIsGood s w = eqb w 1 || (ltb 1 w && ltb zeroDigit (getD s 0 0))
 
 -- a power by its sign
 unfoldable pub signedPower : ℕ → ℕ → Exponent
-signedPower g k = cond (eqb g 43) (up k) (cond (eqb g 45) (down k) wrong)
+signedPower g k = cond (eqb g plusSign) (up k) (cond (eqb g minusSign) (down k) wrong)
 
 -- "optionally `e`, a sign and two digits": nothing or just that, up to the end
 unfoldable pub powerAt : List ℕ → ℕ → Exponent
 powerAt s at =
     cond (eqb (length s) at) (up 0)
-    (cond (eqb (length s) (at + 4) && (eqb (getD s at 0) 101 && (isDigit (getD s (at + 2) 0) && isDigit (getD s (at + 3) 0))))
+    (cond (eqb (length s) (at + 4) && (eqb (getD s at 0) powerMark && (isDigit (getD s (at + 2) 0) && isDigit (getD s (at + 3) 0))))
     (signedPower (getD s (at + 1) 0) (digitOf (getD s (at + 2) 0) * 10 + digitOf (getD s (at + 3) 0)))
     wrong)
 

@@ -9,7 +9,8 @@ use Rattle.basis.specs.declared.refusal.Refusal.{Refusal}
 use Rattle.basis.specs.Refusal.{Said, gives, refuses, at, tooMany, badForm, outOfRange, mapped}
 use Rattle.basis.specs.Scan.{mem}
 use Rattle.text.specs.Word.{Word, malformed, outside, value}
-use Rattle.text.specs.Line.{LineSaid, line, none, fault, lf, upTo}
+use Rattle.text.specs.Bytes.{lf}
+use Rattle.text.specs.Line.{LineSaid, line, none, fault, upTo}
 
 -- a line of a file: its values, or the number of its fault of form or range
 pub data Line (A : Type 0) : Type 0 where
@@ -19,7 +20,8 @@ pub data Line (A : Type 0) : Type 0 where
 -- the lines from a place on, up to the first fault: at most m
 unfoldable pub linesFrom : {A : Type 0} → (ℕ → LineSaid A) → ℕ → ℕ → List (Line A)
 linesFrom read zero place = []
-linesFrom read (suc m) place = elim (read place) [ line v next ↦ good v ∷ linesFrom read m next | none p ↦ [] | fault n p ↦ bad n ∷ [] ]
+linesFrom read (suc m) place =
+    elim (read place) [ line v next ↦ good v ∷ linesFrom read m next | none p ↦ [] | fault n p ↦ bad n ∷ [] ]
 
 -- the lines of a file; there are no more of them than bytes
 abbrev pub linesOf : {A : Type 0} → (List ℕ → ℕ → LineSaid A) → List ℕ → List (Line A)
@@ -92,17 +94,20 @@ pub record GoodFile {A : Type 0} (word : List ℕ → Word A) (most : ℕ) (test
   pub few : length vs ≤ most
   pub pass : Passes test first vs
 
--- why the first line of some bytes fails after k lines, by its number: it "passes its limit", whatever its form; else it has no LF, or "the wrong form";
--- else its number "is outside -2^63 to 2^63-1"; else the test says why
+-- why the first line of some bytes fails after k lines, by its number: it "passes its limit", whatever its form; else it has no LF, or
+-- "the wrong form"; else its number "is outside -2^63 to 2^63-1"; else the test says why
 pub data Fails {A : Type 0} (word : List ℕ → Word A) (most : ℕ) (test : A → ℕ) (k : ℕ) (rest : List ℕ) (number : ℕ) : Type 0 where
   over : k ≡ most → number ≡ tooMany → Fails word most test k rest number
   unended : k < most → mem lf rest ≡ false → number ≡ badForm → Fails word most test k rest number
   wrong : k < most → mem lf rest ≡ true → word (upTo lf rest) ≡ malformed → number ≡ badForm → Fails word most test k rest number
   beyond : k < most → mem lf rest ≡ true → word (upTo lf rest) ≡ outside → number ≡ outOfRange → Fails word most test k rest number
-  tested : (v : A) → k < most → mem lf rest ≡ true → word (upTo lf rest) ≡ value v → test v ≡ number → (number ≡ 0 → ⊥) → Fails word most test k rest number
+  tested : (v : A) → k < most → mem lf rest ≡ true → word (upTo lf rest) ≡ value v → test v ≡ number → (number ≡ 0 → ⊥)
+      → Fails word most test k rest number
 
--- "The first fault met is the answer": a file is good lines that pass, at most so many, then a rest that is not empty, and the refusal says why the rest's first line fails
-pub record FirstFault {A : Type 0} (word : List ℕ → Word A) (file most : ℕ) (test : Before A → A → ℕ) (s : List ℕ) (r : Refusal) : Type 0 where
+-- "The first fault met is the answer": a file is good lines that pass, at most so many, then a rest that is not empty, and the refusal says
+-- why the rest's first line fails
+pub record FirstFault {A : Type 0} (word : List ℕ → Word A) (file most : ℕ) (test : Before A → A → ℕ) (s : List ℕ) (r : Refusal)
+    : Type 0 where
   pub words : List (List ℕ)
   pub passed : List A
   pub rest : List ℕ

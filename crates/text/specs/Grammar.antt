@@ -1,12 +1,12 @@
 -- 01 "Claims and verdicts": a decimal as a grammar, its bytes by its parts, with no word on how they are scanned.
--- 46 is `.`, 101 `e`, 43 `+`, 45 `-`, 48 to 57 are the digits.
 use Prim.Native.Nat.{ℕ, _+_, _≤_}
 use mathlib.Core.Path.{_≡_}
 use mathlib.Core.Bool.{Bool, true}
 use mathlib.Core.List.{List, [], _∷_, _++_}
 use lib.ListN.{length}
 use Rattle.basis.specs.Scan.{each}
-use Rattle.text.specs.Word.{within, isDigit, stepped}
+use Rattle.text.specs.Bytes.{zeroDigit, oneDigit, nineDigit, minusSign, plusSign, pointMark, powerMark}
+use Rattle.text.specs.Word.{within, isDigit, withDigit}
 use Rattle.text.specs.Decimal.{digitLimit, decimal}
 use Rattle.text.specs.declared.decimal.Decimal.{Decimal}
 
@@ -33,7 +33,7 @@ pub record Parts : Type 0 where
 
 -- the digits of the whole part, which are its bytes
 abbrev pub wholeDigits : WholePart → List ℕ
-wholeDigits nought = 48 ∷ []
+wholeDigits nought = zeroDigit ∷ []
 wholeDigits (number b bs) = b ∷ bs
 
 -- the digits after the point
@@ -44,7 +44,7 @@ fractionDigits (point b bs) = b ∷ bs
 -- the same with the point
 abbrev pub fractionBytes : FractionPart → List ℕ
 fractionBytes noPoint = []
-fractionBytes (point b bs) = 46 ∷ b ∷ bs
+fractionBytes (point b bs) = pointMark ∷ b ∷ bs
 
 -- the digits after the `e` and the sign
 abbrev pub powerDigits : PowerPart → List ℕ
@@ -55,8 +55,8 @@ powerDigits (minus x y) = x ∷ y ∷ []
 -- the same with the `e` and the sign
 abbrev pub powerBytes : PowerPart → List ℕ
 powerBytes noPower = []
-powerBytes (plus x y) = 101 ∷ 43 ∷ x ∷ y ∷ []
-powerBytes (minus x y) = 101 ∷ 45 ∷ x ∷ y ∷ []
+powerBytes (plus x y) = powerMark ∷ plusSign ∷ x ∷ y ∷ []
+powerBytes (minus x y) = powerMark ∷ minusSign ∷ x ∷ y ∷ []
 
 -- the bytes of a decimal: its parts one after another; "It has no minus before it"
 abbrev pub partBytes : Parts → List ℕ
@@ -69,7 +69,7 @@ digitsOf p = wholeDigits (p .whole) ++ fractionDigits (p .fraction)
 -- "without a leading zero": a first digit that others may follow is 1 to 9
 abbrev pub leadsWell : WholePart → Bool
 leadsWell nought = true
-leadsWell (number b bs) = within 49 57 b
+leadsWell (number b bs) = within oneDigit nineDigit b
 
 -- what the parts must be: digits where digits stand, no leading zero, "at most 15 digits before any `e`"
 pub record GoodParts (p : Parts) : Type 0 where
@@ -82,7 +82,7 @@ pub record GoodParts (p : Parts) : Type 0 where
 -- the number that digits make, written after those of n
 abbrev pub numberOf : ℕ → List ℕ → ℕ
 numberOf n [] = n
-numberOf n (b ∷ bs) = numberOf (stepped n b) bs
+numberOf n (b ∷ bs) = numberOf (withDigit n b) bs
 
 -- the power of ten by which a decimal is multiplied
 abbrev pub upBy : PowerPart → ℕ

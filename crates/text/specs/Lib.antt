@@ -1,4 +1,4 @@
--- The text layer's meaning, in reading order: words, lines of words, files of lines, and then what the code scans from a place.
+-- The text layer's meaning, in reading order: bytes, words, lines of words, files of lines, and then what the code scans from a place.
 pub mod Bytes
 pub mod Word
 pub mod Decimal

@@ -7,6 +7,7 @@ use lib.Dec.{leb, eqb}
 use lib.IntN.{ℤ}
 use Rattle.basis.specs.Refusal.{badForm, outOfRange}
 use Rattle.basis.specs.Scan.{mem}
+use Rattle.text.specs.Bytes.{lf, space}
 use Rattle.text.specs.Word.{Word, malformed, outside, value, identOf}
 use Rattle.text.specs.Decimal.{decimalOf}
 use Rattle.text.specs.declared.decimal.Decimal.{Decimal}
@@ -17,19 +18,12 @@ use Rattle.text.specs.declared.line.EdgeLine.the-variants as EL
 use Rattle.text.specs.declared.line.CoefficientLine.{CoefficientLine}
 use Rattle.text.specs.declared.line.CoefficientLine.the-variants as CL
 
--- what a reader says: a line's values and the place past it; "no line is left"; a refusal's number. "then, and with a fault, the place comes back as it went in"
+-- what a reader says: a line's values and the place past it; "no line is left"; a refusal's number. "then, and with a fault, the place
+-- comes back as it went in"
 pub data LineSaid (A : Type 0) : Type 0 where
   line : A → ℕ → LineSaid A
   none : ℕ → LineSaid A
   fault : ℕ → ℕ → LineSaid A
-
--- "A line is ended by one LF": its byte
-abbrev pub lf : ℕ
-lf = 10
-
--- "with one space between": its byte
-abbrev pub space : ℕ
-space = 32
 
 -- the bytes before the first c; all of them where there is no c
 abbrev pub upTo : ℕ → List ℕ → List ℕ

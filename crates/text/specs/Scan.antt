@@ -1,4 +1,5 @@
--- What the code scans from a place on, without knowing where the word ends. Past the end of a file `getD s at 0` is 0, which begins and continues nothing.
+-- What the code scans from a place on, without knowing where the word ends. Past the end of a file `getD s at 0` is 0, which begins and
+-- continues nothing.
 use Prim.Native.Nat.{ℕ, _+_, min}
 use mathlib.Core.List.{List}
 use mathlib.Core.Bool.{Bool, true, false, cond, _&&_}
@@ -6,10 +7,11 @@ use lib.ListN.{length, getD, drop}
 use lib.Dec.{ltb, eqb}
 use lib.IntN.{ℤ}
 use Rattle.basis.specs.Refusal.{badForm, outOfRange}
+use Rattle.text.specs.Bytes.{lf, zeroDigit, oneDigit, nineDigit, minusSign}
 use Rattle.text.specs.Word.{Word, malformed, outside, value, within, runLen, runVal, rangedOf, signedOf}
 use Rattle.text.specs.Decimal.{decimalOf}
 use Rattle.text.specs.Stop.{decimalStop}
-use Rattle.text.specs.Line.{LineSaid, lf, upTo, lineSays, both}
+use Rattle.text.specs.Line.{LineSaid, upTo, lineSays, both}
 use Rattle.text.specs.declared.count.Run.{Run}
 use Rattle.text.specs.declared.count.Counted.{Counted}
 use Rattle.text.specs.declared.count.Counted.the-variants as C
@@ -21,7 +23,8 @@ use Rattle.text.specs.declared.decimal.DecimalWord.the-variants as DW
 use Rattle.text.specs.declared.line.Rest.{Rest}
 use Rattle.text.specs.declared.line.Rest.the-variants as R
 
--- what was scanned: where it is well formed, with the place of the first byte after it; else with that of the first byte at which it can't go on
+-- what was scanned: where it is well formed, with the place of the first byte after it; else with that of the first byte at which it
+-- can't go on
 pub record Scanned (A : Type 0) : Type 0 where
   pub said : Word A
   pub next : ℕ
@@ -41,24 +44,25 @@ unfoldable pub hasAt : List ℕ → ℕ → ℕ → Bool
 hasAt s p c = ltb p (length s) && eqb (getD s p 0) c
 
 -- what the code carries of a number: itself, or 2^63 + 1 where it is larger
-abbrev pub capped : ℕ → ℕ
-capped n = min n 9223372036854775809
+abbrev pub cutNumber : ℕ → ℕ
+cutNumber n = min n 9223372036854775809
 
 -- the digits at a place, written after those of n
 unfoldable pub runAt : List ℕ → ℕ → ℕ → Run
-runAt s at n = record { n = capped (runVal n (drop at s)); next = at + runLen (drop at s) }
+runAt s at n = record { n = cutNumber (runVal n (drop at s)); next = at + runLen (drop at s) }
 
 -- "A count is `0`, or a digit 1 to 9 and more digits.": from a place on
 unfoldable pub countAt : List ℕ → ℕ → Scanned ℕ
 countAt s at =
-    cond (hasAt s at 48) (scanned (value 0) (at + 1))
-    (cond (within 49 57 (getD s at 0)) (scanned (value (runVal 0 (drop at s))) (at + runLen (drop at s))) (scanned malformed at))
+    cond (hasAt s at zeroDigit) (scanned (value 0) (at + 1))
+    (cond (within oneDigit nineDigit (getD s at 0)) (scanned (value (runVal 0 (drop at s))) (at + runLen (drop at s)))
+    (scanned malformed at))
 
 -- a word's count as the code carries it
 abbrev pub cutWord : Word ℕ → Word ℕ
 cutWord malformed = malformed
 cutWord outside = outside
-cutWord (value n) = value (capped n)
+cutWord (value n) = value (cutNumber n)
 
 -- the same of a scanned count; its place stays
 abbrev pub saturated : Scanned ℕ → Scanned ℕ
@@ -80,8 +84,8 @@ signedAt negative x = scanned (signedOf negative (x .said)) (x .next)
 -- "An identifier is `0`, or an optional `-`, a digit 1 to 9 and more digits.": from a place on; `-0` can't go on at its `0`
 unfoldable pub identAt : List ℕ → ℕ → Scanned ℤ
 identAt s at =
-    cond (hasAt s at 45)
-    (cond (hasAt s (at + 1) 48) (scanned malformed (at + 1)) (signedAt true (countAt s (at + 1))))
+    cond (hasAt s at minusSign)
+    (cond (hasAt s (at + 1) zeroDigit) (scanned malformed (at + 1)) (signedAt true (countAt s (at + 1))))
     (signedAt false (countAt s at))
 
 -- what was scanned, if the byte c follows it: then the place is moved past c

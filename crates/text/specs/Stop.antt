@@ -1,10 +1,11 @@
--- Where a decimal breaks off: the place of the first byte at which no good decimal could go on, and the word's length where there is no such byte.
--- Past the end of a word `getD s at 0` is 0, which continues nothing.
+-- Where a decimal breaks off: the place of the first byte at which no good decimal could go on, and the word's length where there is no
+-- such byte. Past the end of a word `getD s at 0` is 0, which continues nothing.
 use Prim.Native.Nat.{ℕ, _+_, _-_, _*_}
 use mathlib.Core.List.{List}
 use mathlib.Core.Bool.{Bool, cond, _&&_, _||_}
 use lib.ListN.{length, getD, drop}
 use lib.Dec.{ltb, eqb}
+use Rattle.text.specs.Bytes.{plusSign, minusSign, powerMark}
 use Rattle.text.specs.Word.{isDigit, runLen}
 use Rattle.text.specs.Decimal.{Exponent, up, down, wrong, digitLimit, decimal, digitOf, pastPoint, wholeIsGood, signedPower}
 use Rattle.text.specs.declared.decimal.DecimalWord.{DecimalWord}
@@ -14,7 +15,7 @@ use Rattle.text.specs.declared.decimal.Power.the-variants as P
 
 -- `+` or `-`
 unfoldable pub isSign : ℕ → Bool
-isSign b = eqb b 43 || eqb b 45
+isSign b = eqb b plusSign || eqb b minusSign
 
 -- the first of two digits that does not stand where it should, from a place on; or the place past them
 unfoldable pub digitsStop : List ℕ → ℕ → ℕ
@@ -22,7 +23,7 @@ digitsStop s at = cond (isDigit (getD s at 0)) (cond (isDigit (getD s (at + 1) 0
 
 -- the same of `e`, a sign and two digits
 unfoldable pub powerStop : List ℕ → ℕ → ℕ
-powerStop s at = cond (eqb (getD s at 0) 101) (cond (isSign (getD s (at + 1) 0)) (digitsStop s (at + 2)) (at + 1)) at
+powerStop s at = cond (eqb (getD s at 0) powerMark) (cond (isSign (getD s (at + 1) 0)) (digitsStop s (at + 2)) (at + 1)) at
 
 -- w digits before the point; f after it, from p on. In turn: no digit; a digit after a leading zero; before the point, one digit too many,
 -- or the point where only such a digit could follow it; no digit after the point; after the point, one digit too many; the power

@@ -2,14 +2,31 @@
 ghost use mathlib.Core.Path.{_≡_};
 ghost use Prim.Native.Nat.{_+_, _≤_};
 ghost use lib.ListN.{length, drop};
-ghost use Rattle.text.specs.Word.{stepped};
-ghost use Rattle.text.specs.Line.{lf, upTo};
-ghost use Rattle.text.specs.Scan.{capped, saturated, hasAt, runAt, countAt, countSays};
+ghost use Rattle.text.specs.Word.{withDigit};
+ghost use Rattle.text.specs.Bytes.{lf, zeroDigit, nineDigit};
+ghost use Rattle.text.specs.Line.{upTo};
+ghost use Rattle.text.specs.Scan.{cutNumber, saturated, hasAt, runAt, countAt, countSays};
 
-// What ends a line, and what stands between the two words of one.
+// What ends a line.
 pub const LF: u8 = 10;
 
+// What stands between the two words of a line.
 pub const SPACE: u8 = 32;
+
+// The first digit.
+pub const ZERO: u8 = 48;
+
+// The first digit that may lead a number.
+const ONE: u8 = 49;
+
+// The last digit.
+pub const NINE: u8 = 57;
+
+// The sign of a number below zero, and of a power that divides.
+pub const MINUS: u8 = 45;
+
+// The sign of a power that multiplies.
+pub const PLUS: u8 = 43;
 
 // 2^63 + 1: a number is carried as itself, or as this where it is larger.
 pub const CAP: u64 = 9223372036854775809;
@@ -47,35 +64,36 @@ pub fn line_end(s: &[u8], from: usize) -> usize
     i
 }
 
+// A number as it is carried.
 fn cut(n: u64) -> u64
-    ensures { λ r. ⌜ r ≡ capped n ⌝ }
+    ensures { λ r. ⌜ r ≡ cutNumber n ⌝ }
 {
     if CAP < n { CAP } else { n }
 }
 
 // One digit more on a number that is cut down.
 fn step(n: u64, b: u8) -> u64
-    requires { ⌜ (48 ≤ b) × (b ≤ 57) ⌝ }
-    ensures { λ r. ⌜ r ≡ capped (stepped n b) ⌝ }
+    requires { ⌜ (zeroDigit ≤ b) × (b ≤ nineDigit) ⌝ }
+    ensures { λ r. ⌜ r ≡ cutNumber (withDigit n b) ⌝ }
 {
     if 922337203685477580 < n {
         return CAP;
     }
-    n * 10 + ((b - 48) as u64)
+    n * 10 + ((b - ZERO) as u64)
 }
 
 // The digits at a place, written after those of `start`.
-pub fn digits(s: &[u8], from: usize, start: u64) -> Run
+pub(crate) fn digits(s: &[u8], from: usize, start: u64) -> Run
     ensures { λ r. ⌜ r ≡ runAt (now (s .entry)) from start ⌝ }
 {
     let mut n = cut(start);
     let mut i = from;
     while i < s.len() {
         let b = s[i];
-        if b < 48 {
+        if b < ZERO {
             return Run { n, next: i };
         }
-        if 57 < b {
+        if NINE < b {
             return Run { n, next: i };
         }
         n = step(n, b);
@@ -92,13 +110,13 @@ pub fn count(s: &[u8], at: usize) -> Counted
         return Counted::Bad(at);
     }
     let b = s[at];
-    if b == 48 {
+    if b == ZERO {
         return Counted::Value(0, at + 1);
     }
-    if b < 49 {
+    if b < ONE {
         return Counted::Bad(at);
     }
-    if 57 < b {
+    if NINE < b {
         return Counted::Bad(at);
     }
     let run = digits(s, at, 0);

@@ -1,4 +1,8 @@
 // The decimal of a coefficient claim.
+use crate::count::MINUS;
+use crate::count::NINE;
+use crate::count::PLUS;
+use crate::count::ZERO;
 use crate::count::digits;
 ghost use mathlib.Core.Path.{_≡_};
 ghost use mathlib.Core.Bool.{true};
@@ -8,6 +12,12 @@ ghost use Rattle.text.specs.Word.{isDigit};
 ghost use Rattle.text.specs.Decimal.{digitOf, pastPoint, wholeIsGood, powerAt, partsOf, decimalOf};
 ghost use Rattle.text.specs.Stop.{isSign, digitsStop, digitsPower, powerStop, partsStop, decimalStop, powerWord, scaledWord};
 ghost use Rattle.text.specs.Scan.{scanned, decimalSays};
+
+// What stands before the digits of a fraction.
+const POINT: u8 = 46;
+
+// What stands before the sign and the two digits of a power.
+const POWER: u8 = 101;
 
 // How many digits may stand before the `e`.
 pub const DIGITS: usize = 15;
@@ -39,38 +49,40 @@ fn byte_at(s: &[u8], at: usize) -> u8
     if at < s.len() { s[at] } else { 0 }
 }
 
+// Whether a byte is a digit.
 fn is_digit(b: u8) -> bool
     ensures { λ r. ⌜ r ≡ isDigit b ⌝ }
 {
-    if b < 48 {
+    if b < ZERO {
         return false;
     }
-    if 57 < b {
+    if NINE < b {
         return false;
     }
     true
 }
 
+// Whether a byte is a sign.
 fn is_sign(b: u8) -> bool
     ensures { λ r. ⌜ r ≡ isSign b ⌝ }
 {
-    if b == 43 {
+    if b == PLUS {
         return true;
     }
-    b == 45
+    b == MINUS
 }
 
 // What a digit is worth; 0 of any other byte.
 fn digit_of(b: u8) -> u8
     ensures { λ r. ⌜ r ≡ digitOf b ⌝ }
 {
-    if b < 48 {
+    if b < ZERO {
         return 0;
     }
-    if 57 < b {
+    if NINE < b {
         return 0;
     }
-    b - 48
+    b - ZERO
 }
 
 // Where the digits after the point start; `at` itself where there is no point.
@@ -78,7 +90,7 @@ fn past_point(s: &[u8], at: usize) -> usize
     ensures { λ r. ⌜ r ≡ pastPoint (now (s .entry)) at ⌝ }
 {
     if at < s.len() {
-        if s[at] == 46 {
+        if s[at] == POINT {
             return at + 1;
         }
     }
@@ -97,12 +109,13 @@ fn whole_is_good(s: &[u8], w: usize) -> bool
         return false;
     }
     let b = s[0];
-    if b <= 48 {
+    if b <= ZERO {
         return false;
     }
     true
 }
 
+// What two digits are worth.
 fn two_digits(x: u8, y: u8) -> u8
     ensures { λ r. ⌜ r ≡ digitOf x * 10 + digitOf y ⌝ }
 {
@@ -128,7 +141,7 @@ fn signed_power(s: &[u8], at: usize, g: u8) -> Power
         return Power::Wrong(at + 2);
     }
     let k = two_digits(x, y);
-    if g == 43 {
+    if g == PLUS {
         return Power::Up(k);
     }
     Power::Down(k)
@@ -142,7 +155,7 @@ fn power_at(s: &[u8], at: usize) -> Power
     if s.len() == at {
         return Power::Up(0);
     }
-    if byte_at(s, at) != 101 {
+    if byte_at(s, at) != POWER {
         return Power::Wrong(at);
     }
     let g = byte_at(s, at + 1);
@@ -174,7 +187,8 @@ fn with_power(n: u64, f: u8, p: Power) -> DecimalWord
 // w digits before the point and f after it, from p on, that make the number n.
 fn parts(s: &[u8], w: usize, p: usize, f: usize, n: u64) -> DecimalWord
     requires { ⌜ (w ≤ p) × (p + f ≤ length (now s)) ⌝ }
-    ensures { λ r. ⌜ decimalSays (length (now (s .entry))) r
+    ensures { λ r. ⌜
+        decimalSays (length (now (s .entry))) r
         ≡ scanned (partsOf (now (s .entry)) w p f n) (partsStop (now (s .entry)) w p f) ⌝ }
 {
     if w == 0 {
@@ -199,8 +213,9 @@ fn parts(s: &[u8], w: usize, p: usize, f: usize, n: u64) -> DecimalWord
 }
 
 // What the bytes of a whole decimal say, or where they break off.
-pub fn decimal_of(s: &[u8]) -> DecimalWord
-    ensures { λ r. ⌜ decimalSays (length (now (s .entry))) r
+pub(crate) fn decimal_of(s: &[u8]) -> DecimalWord
+    ensures { λ r. ⌜
+        decimalSays (length (now (s .entry))) r
         ≡ scanned (decimalOf (now (s .entry))) (decimalStop (now (s .entry))) ⌝ }
 {
     let whole = digits(s, 0, 0);

@@ -1,5 +1,7 @@
 // An identifier at a place, and one that a byte must follow.
 use crate::count::Counted;
+use crate::count::MINUS;
+use crate::count::ZERO;
 use crate::count::count;
 use crate::count::has;
 ghost use mathlib.Core.Path.{_≡_};
@@ -54,12 +56,12 @@ fn signed(s: &[u8], at: usize, negative: bool) -> Scan
 }
 
 // The identifier at a place.
-pub fn ident(s: &[u8], at: usize) -> Scan
+fn ident(s: &[u8], at: usize) -> Scan
     ensures { λ r. ⌜ scanSays r ≡ identAt (now (s .entry)) at ⌝ }
 {
-    if has(s, at, 45) {
+    if has(s, at, MINUS) {
         let p = at + 1;
-        if has(s, p, 48) {
+        if has(s, p, ZERO) {
             return Scan::Bad(p);
         }
         return signed(s, p, true);

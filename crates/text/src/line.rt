@@ -22,20 +22,21 @@ pub struct Cursor {
     pub at: usize,
 }
 
-// A line with the cursor past it; no line left, or a fault, with the cursor as it went in.
+// A vertex line with the cursor past it; no line left, or a fault, with the cursor as it went in.
 pub enum VertexLine {
     End(Cursor),
     Fault(usize, Cursor),
     Line(i64, Cursor),
 }
 
-// The line of an edge, and of a claim whose value is in identifier form.
+// The same of an edge line, and of a claim line whose value is in identifier form.
 pub enum EdgeLine {
     End(Cursor),
     Fault(usize, Cursor),
     Line(i64, i64, Cursor),
 }
 
+// The same of a claim line whose value is a decimal.
 pub enum CoefficientLine {
     End(Cursor),
     Fault(usize, Cursor),
@@ -48,6 +49,7 @@ enum Rest {
     Value(Decimal, usize),
 }
 
+// The decimal from a place to the end of its line.
 fn decimal_rest(s: &[u8], at: usize) -> Rest
     requires { ⌜ at ≤ length (now s) ⌝ }
     ensures { λ r. ⌜ restSays r ≡ restAt (now (s .entry)) at ⌝ }
@@ -87,7 +89,7 @@ fn fault_beside(second: Scan) -> usize
     }
 }
 
-// A coefficient line, likewise.
+// A coefficient line that began at the cursor, of its first number and the rest of it.
 fn coefficient_of(c: Cursor, u: i64, second: Rest) -> CoefficientLine
     ensures { λ r. ⌜ coefficientSays r ≡ lineOf (c .at) (beside (value u) (restSays second)) ⌝ }
 {
@@ -97,6 +99,7 @@ fn coefficient_of(c: Cursor, u: i64, second: Rest) -> CoefficientLine
     }
 }
 
+// The fault of a coefficient line whose first number is out of range.
 fn fault_beside_rest(second: Rest) -> usize
     ensures { λ r. ⌜ r ≡ faultBeside (restSays second .said) ⌝ }
 {

@@ -17,7 +17,7 @@ use Rattle.text.specs.Word.{Word, identOf}
 use Rattle.text.specs.Decimal.{decimalOf}
 use Rattle.text.specs.Line.{lineBy, twoOf}
 use Rattle.text.specs.File.{noTest}
-use Rattle.text.proofs.Files.{file-accepted, Met, file-met}
+use Rattle.text.proofs.Files.{file-accepted, FileRefusal, file-refusal}
 use Rattle.graph.specs.Sound.{Graph, names, soundGraph, outward}
 use Rattle.graph.proofs.Sounds.{sound-of}
 use Rattle.kernels.specs.Answer.{kernelSays, bfsNumber, wccNumber, cdlpNumber, lccNumber}
@@ -41,7 +41,7 @@ module _ {A : Type 0} (word : List ℕ → Word A) (s : List ℕ) (room : ℕ) w
       record {
         values = λ l e. let f = file-accepted word claimFile most noTest s l .0 e .few in omega arith;
         refusals = λ r e.
-            let m : Met claimFile most r = rw e at (file-met word claimFile most noTest (λ before v. omega arith) s) in
+            let m : FileRefusal claimFile most r = rw e at (file-refusal word claimFile most noTest (λ before v. omega arith) s) in
             (m .some, record { number = omega (arith, m .low); file = omega (arith, m .inFile); line = omega (arith, m .inLines) });
       }
 

@@ -13,7 +13,8 @@ use mir.Val.{SFits}
 use Rattle.basis.specs.Scan.{each, mem}
 use Rattle.basis.proofs.Tests.{and-first, and-second}
 use Rattle.text.specs.Word.{Word, value, within, isDigit, countOf, signedOf, identOf}
-use Rattle.text.specs.Line.{line, lf, lineBy, vertexLine}
+use Rattle.text.specs.Bytes.{lf}
+use Rattle.text.specs.Line.{line, lineBy, vertexLine}
 use Rattle.text.proofs.Bytes.{within-yes, within-is}
 use Rattle.text.proofs.Cuts.{cut-line}
 use Rattle.write.specs.Put.{written, putAt}
@@ -69,12 +70,8 @@ module _ (o : List ℕ) (at : ℕ) {o′ : List ℕ} {p : ℕ} where
       → identOf (take (p - at) (drop at o′)) ≡ value z
   signed-back z f w room = rw (wrote-text o at (signedText z) w room) (ident-back z f)
 
--- ---- a word with an LF behind it is read as a line, and the reader's place is past it
+-- ---- a word that is written with an LF behind it is read as a line, and the reader's place past it is the one that the writer answered
 module _ {A : Type 0} (word : List ℕ → Word A) (x : A) (bs : List ℕ) (said : word bs ≡ value x) (none : mem lf bs ≡ false) where
-  pub line-back : (s r : List ℕ) (at : ℕ) → drop at s ≡ bs ++ lf ∷ r → lineBy word s at ≡ line x (at + length bs + 1)
-  line-back s r at e = cut-line word s at bs r x e none said
-
-  -- so it is where both were written, and its place is the one that the writer answered
   pub line-wrote : (o : List ℕ) (at : ℕ) {o′ : List ℕ} {p : ℕ} → written o′ p ≡ putAt o at (bs ++ (lf ∷ []))
       → at + length (bs ++ (lf ∷ [])) ≤ length o
       → lineBy word o′ at ≡ line x p
@@ -82,7 +79,7 @@ module _ {A : Type 0} (word : List ℕ → Word A) (x : A) (bs : List ℕ) (said
       let e : drop at o′ ≡ bs ++ lf ∷ drop (at + length (bs ++ (lf ∷ []))) o =
       wrote-after o at (bs ++ (lf ∷ [])) w room ∙ append-snoc bs lf (drop (at + length (bs ++ (lf ∷ []))) o) in
       let q : at + length bs + 1 ≡ p = omega (arith, wrote-next o at (bs ++ (lf ∷ [])) w room, length-append bs (lf ∷ [])) in
-      line-back o′ (drop (at + length (bs ++ (lf ∷ []))) o) at e ∙ ap (line x) q
+      cut-line word o′ at bs (drop (at + length (bs ++ (lf ∷ []))) o) x e none said ∙ ap (line x) q
 
 pub vertex-back : (z : ℤ) → SFits w64 z → (o : List ℕ) (at : ℕ) {o′ : List ℕ} {p : ℕ}
     → written o′ p ≡ putAt o at (signedText z ++ (lf ∷ []))

@@ -13,7 +13,7 @@ use mir.Val.{SFits}
 use Rattle.basis.specs.Scan.{each, mem}
 use Rattle.basis.proofs.Tests.{clash, false-of, bool-cases, and-first, and-second, and-both, or-first}
 use Rattle.basis.proofs.Scans.{each-mem, each-append}
-use Rattle.text.specs.Word.{within, isDigit, stepped, runVal}
+use Rattle.text.specs.Word.{within, isDigit, withDigit, runVal}
 use Rattle.text.proofs.Bytes.{within-yes}
 use Rattle.text.proofs.Runs.{val-digit}
 use Rattle.write.specs.Number.{countText, signedText}
@@ -23,13 +23,13 @@ use Rattle.write.proofs.Digits.{count-small, count-more, count-all}
 digit-yes : (d : ℕ) → d < 10 → isDigit (48 + d) ≡ true
 digit-yes d h = within-yes (omega arith) (omega arith)
 
-val-snoc : (n : ℕ) (l : List ℕ) (b : ℕ) → each isDigit l ≡ true → isDigit b ≡ true → runVal n (l ++ (b ∷ [])) ≡ stepped (runVal n l) b
+val-snoc : (n : ℕ) (l : List ℕ) (b : ℕ) → each isDigit l ≡ true → isDigit b ≡ true → runVal n (l ++ (b ∷ [])) ≡ withDigit (runVal n l) b
 unfolding each
 val-snoc n [] b h g = val-digit n b [] g
 val-snoc n (c ∷ l) b h g =
     let d : isDigit c ≡ true = and-first (isDigit c) (each isDigit l) h in
-    val-digit n c (l ++ (b ∷ [])) d ∙ val-snoc (stepped n c) l b (and-second (isDigit c) (each isDigit l) h) g
-    ∙ ap (λ m. stepped m b) (sym (val-digit n c l d))
+    val-digit n c (l ++ (b ∷ [])) d ∙ val-snoc (withDigit n c) l b (and-second (isDigit c) (each isDigit l) h) g
+    ∙ ap (λ m. withDigit m b) (sym (val-digit n c l d))
 
 -- ---- the text of n: digits, the first of them 1 to 9 unless n is 0, that make n
 pub record Spells (n : ℕ) (l : List ℕ) : Type 0 where
@@ -61,7 +61,7 @@ spells-more n d l h k s =
       some = omega (arith, length-append l ((48 + d) ∷ []));
       all = each-append isDigit l ((48 + d) ∷ []) ∙ and-both (s .all) (and-both e refl);
       lead = λ g. rw (lead-snoc l (48 + d) (s .some)) (s .lead h);
-      val = val-snoc 0 l (48 + d) (s .all) e ∙ ap (λ m. stepped m (48 + d)) (s .val)
+      val = val-snoc 0 l (48 + d) (s .all) e ∙ ap (λ m. withDigit m (48 + d)) (s .val)
           ∙ (let z : n * 10 + (48 + d - 48) ≡ n * 10 + d = omega arith in z);
     }
 

@@ -1,21 +1,20 @@
 // Numbers in decimal.
 use crate::bytes::put;
+use text::count::MINUS;
+use text::count::ZERO;
 ghost use mathlib.Core.Path.{_≡_};
 ghost use Prim.Native.Nat.{_+_, _<_};
 ghost use lib.IntN.{natAbs};
+ghost use Rattle.text.specs.Bytes.{zeroDigit};
 ghost use Rattle.write.specs.Put.{written, putAt};
 ghost use Rattle.write.specs.Number.{countText, signedText};
-
-const ZERO: usize = 48;
-
-const MINUS: u8 = 45;
 
 // The byte of a digit.
 fn digit(n: usize) -> u8
     requires { ⌜ n < 10 ⌝ }
-    ensures { λ r. ⌜ r ≡ 48 + n ⌝ }
+    ensures { λ r. ⌜ r ≡ zeroDigit + n ⌝ }
 {
-    (ZERO + n) as u8
+    ZERO + n as u8
 }
 
 // A count.

@@ -9,14 +9,15 @@ use lib.Dec.{leb, ltb}
 use lib.ListN.{length}
 use Rattle.plan.specs.Sheet.{mostBytes}
 use Rattle.sheet.specs.Desk.{mostOutput}
-use Rattle.desk.specs.Whole.{Roomy}
+use Rattle.desk.specs.Whole.{SheetAreas}
 use Rattle.desk.proofs.main.Statement.{statement}
 use Rattle.desk.proofs.main.Tie as tie
 
 -- areas of j and k places have the room that `output` asks for, where these numbers are enough
-roomy : {n : ℕ} {bytes out : List ℕ} (j k : ℕ) → n ≤ length bytes → j ≡ length bytes → k ≡ length out
-    → ltb mostBytes j ≡ true → leb mostOutput k ≡ true → Roomy n bytes out
-roomy j k h e f over room = record { inside = h; over = rw (← e) (ltb-true mostBytes j over); room = rw (← f) (leb-true mostOutput k room) }
+sheet-areas : {n : ℕ} {bytes out : List ℕ} (j k : ℕ) → n ≤ length bytes → j ≡ length bytes → k ≡ length out
+    → ltb mostBytes j ≡ true → leb mostOutput k ≡ true → SheetAreas n bytes out
+sheet-areas j k h e f over room =
+    record { inside = h; over = rw (← e) (ltb-true mostBytes j over); room = rw (← f) (leb-true mostOutput k room) }
 
 area-requires : tie.Need-area-requires
 area-requires c κs = search needs
@@ -35,7 +36,8 @@ slice-aggregate-output-2 c = search needs
 
 output-requires : tie.Need-output-requires
 output-requires c κs =
-    roomy _ _ (c .before .before .before .read-full .ensures .0) (slice-aggregate-output (c .before)) (slice-aggregate-output-2 c) refl refl
+    sheet-areas _ _ (c .before .before .before .read-full .ensures .0) (slice-aggregate-output (c .before)) (slice-aggregate-output-2 c)
+    refl refl
 
 write-all-requires : tie.Need-write-all-requires
 write-all-requires c κs = search needs

@@ -10,11 +10,11 @@ use Rattle.write.specs.Put.{Written, written, putAt}
 use Rattle.write.proofs.Puts.{put-length}
 use Rattle.sheet.specs.Desk.{deskOutput}
 use Rattle.sheet.proofs.Room.{output-whole, cut-prints, output-fits}
-use Rattle.desk.specs.Whole.{Roomy, Whole}
+use Rattle.desk.specs.Whole.{SheetAreas, Whole}
 use Rattle.desk.proofs.output.Statement.{statement}
 use Rattle.desk.proofs.output.Tie as tie
 
-module _ (n : ℕ) (bytes out : List ℕ) (r : Roomy n bytes out) {o′ : List ℕ} {p : ℕ}
+module _ (n : ℕ) (bytes out : List ℕ) (r : SheetAreas n bytes out) {o′ : List ℕ} {p : ℕ}
     (w : written o′ p ≡ putAt out 0 (deskOutput (take n bytes))) where
   whole : Whole n bytes (take p o′)
   whole sheet e = output-whole (take n bytes) out w (r .room) .1 ∙ ap deskOutput e ∙ cut-prints (length bytes) sheet (r .over)

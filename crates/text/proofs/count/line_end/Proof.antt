@@ -1,7 +1,8 @@
 use Prim.Native.Nat.{_+_, _-_}
 use mathlib.Core.Path.{_≡_}
 use lib.ListN.{length, drop}
-use Rattle.text.specs.Line.{lf, upTo}
+use Rattle.text.specs.Bytes.{lf}
+use Rattle.text.specs.Line.{upTo}
 use Rattle.text.proofs.Bytes.{end-out, end-here, end-on}
 use borrow.Author.Needs.{needs}
 use Rattle.text.proofs.count.line_end.Statement.{statement}
