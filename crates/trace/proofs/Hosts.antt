@@ -39,7 +39,7 @@ use Rattle.trace.proofs.Codes.{mapped-readable}
 use Rattle.trace.proofs.Stored.{areaGraph, same-names, same-outward, same-inward}
 use Rattle.trace.proofs.Claims.{call-small, call-judged}
 use Rattle.trace.specs.Code.{hostCode, hostNumberIn, hostFileIn, hostLineIn, narrow, Small}
-use Rattle.trace.specs.Verdict.{threeOf}
+use Rattle.trace.specs.Verdict.{asRefusal}
 use Rattle.verdicts.specs.Call as Call
 use Rattle.basis.specs.declared.refusal.Refusal.{Refusal}
 use Rattle.basis.proofs.Tests.{failed, held, and-first, and-second, and-both}
@@ -207,31 +207,31 @@ module _ (vertices edges claim : List ℕ) (mode kernel : ℕ) (parameter : ℤ)
         )
 
     pub host-judged : (size : Size) → a ≡ Graph size → (z : ℤ) → z ≡ parameter → (k : ℕ)
-        → k ≡ hostCode (threeOf (deskJudged (lent size ids oo ot io is) kernel z claim))
+        → k ≡ hostCode (asRefusal (deskJudged (lent size ids oo ot io is) kernel z claim))
         → k ≡ hostVerdict vertices edges claim mode kernel parameter
     unfolding hostVerdict
     host-judged size q z w k f = go (loaded desk mode deskRoom vertices edges) refl (sym answered ∙ ap says q)
       where
         go : (x : Said Lists) → loaded desk mode deskRoom vertices edges ≡ x → mapped sizeOf x ≡ gives size
-            → k ≡ hostCode (threeOf (hostSays vertices edges claim mode kernel parameter))
+            → k ≡ hostCode (asRefusal (hostSays vertices edges claim mode kernel parameter))
         go (refuses r) l e = refused-given e
         go (gives g) l s =
             let size-is : sizeOf g ≡ size = given-one s in
             let left : Sound.Graph = graphLeft (sizeOf g) (loadCall desk mode deskRoom vertices edges) in
             let graph : lent size ids oo ot io is ≡ left =
             ap (graphLeft size) e ∙ ap (λ x. graphLeft x (loadCall desk mode deskRoom vertices edges)) (sym size-is) in
-            f ∙ ap (λ x. hostCode (threeOf x))
+            f ∙ ap (λ x. hostCode (asRefusal x))
             (ap (λ x. deskJudged x kernel z claim) graph ∙ ap (λ x. deskJudged left kernel x claim) w
             ∙ sym (host-given vertices edges claim mode kernel parameter (held t (isKnown mode kernel) p h) g l))
 
 -- ---- the three numbers can be taken out of the answer again
 module _ (vertices edges claim : List ℕ) (mode kernel : ℕ) (parameter : ℤ) where
-  pub host-small : Small narrow (threeOf (hostSays vertices edges claim mode kernel parameter))
+  pub host-small : Small narrow (asRefusal (hostSays vertices edges claim mode kernel parameter))
   unfolding hostSays deskJudged
   host-small = by-number (isKnown mode kernel) refl
     where
       by-load : (known : isKnown mode kernel ≡ true) (x : Said Lists) → loaded desk mode deskRoom vertices edges ≡ x
-          → Small narrow (threeOf (hostSays vertices edges claim mode kernel parameter))
+          → Small narrow (asRefusal (hostSays vertices edges claim mode kernel parameter))
       by-load known (gives g) e =
           rw (host-given vertices edges claim mode kernel parameter known g e)
           (call-small deskLines (graphLeft (sizeOf g) (loadCall desk mode deskRoom vertices edges)) kernel parameter claim _ _ _ _ _ narrow
@@ -240,21 +240,21 @@ module _ (vertices edges claim : List ℕ) (mode kernel : ℕ) (parameter : ℤ)
           rw (says-known vertices edges claim mode kernel parameter known, e)
           (loaded-readable narrow desk (omega arith) mode deskRoom vertices edges .refusals r e .1)
 
-      by-number : (t : Bool) → isKnown mode kernel ≡ t → Small narrow (threeOf (hostSays vertices edges claim mode kernel parameter))
+      by-number : (t : Bool) → isKnown mode kernel ≡ t → Small narrow (asRefusal (hostSays vertices edges claim mode kernel parameter))
       by-number true h = by-load h (loaded desk mode deskRoom vertices edges) refl
       by-number false h = rw h (record { number = omega arith; file = omega arith; line = omega arith })
 
   pub host-number : hostNumberIn (hostVerdict vertices edges claim mode kernel parameter)
-      ≡ threeOf (hostSays vertices edges claim mode kernel parameter) .number
+      ≡ asRefusal (hostSays vertices edges claim mode kernel parameter) .number
   unfolding hostVerdict
   host-number = let s = host-small in omega arith
 
   pub host-file : hostFileIn (hostVerdict vertices edges claim mode kernel parameter)
-      ≡ threeOf (hostSays vertices edges claim mode kernel parameter) .file
+      ≡ asRefusal (hostSays vertices edges claim mode kernel parameter) .file
   unfolding hostVerdict
   host-file = let s = host-small in omega arith
 
   pub host-line : hostLineIn (hostVerdict vertices edges claim mode kernel parameter)
-      ≡ threeOf (hostSays vertices edges claim mode kernel parameter) .line
+      ≡ asRefusal (hostSays vertices edges claim mode kernel parameter) .line
   unfolding hostVerdict
   host-line = let s = host-small in omega arith

@@ -15,7 +15,7 @@ use Rattle.kernels.specs.Answer.{bfsNumber, wccNumber, cdlpNumber}
 use Rattle.matching.specs.Verdict.{Verdict}
 use Rattle.verdicts.specs.Reference.{Reference, bfsReference, wccReference, cdlpReference, lccReference}
 use Rattle.trace.specs.Code.{hostCode}
-use Rattle.trace.specs.Verdict.{threeOf}
+use Rattle.trace.specs.Verdict.{asRefusal}
 
 -- "Desk limits apply to all three files: 1,024, 2,048 and 1,024 lines.": the last of these, how many lines a claim may have
 abbrev pub deskLines : ℕ
@@ -68,4 +68,4 @@ hostSays vertices edges claim mode kernel parameter =
 
 -- "The answer is number × 1,000,000 + file × 100,000 + line."
 unfoldable pub hostVerdict : List ℕ → List ℕ → List ℕ → ℕ → ℕ → ℤ → ℕ
-hostVerdict vertices edges claim mode kernel parameter = hostCode (threeOf (hostSays vertices edges claim mode kernel parameter))
+hostVerdict vertices edges claim mode kernel parameter = hostCode (asRefusal (hostSays vertices edges claim mode kernel parameter))

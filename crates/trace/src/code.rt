@@ -15,9 +15,9 @@ ghost use Rattle.book.specs.Says.{saysOpened, saysJoined, saysHeaded, saysCompa
 ghost use Rattle.trace.specs.Code.{placed, coded, hostCode, wide, narrow, Small, Readable, nothing};
 ghost use Rattle.load.specs.Load as Load;
 ghost use Rattle.matching.specs.Verdict as Verdict;
-ghost use Rattle.trace.specs.Verdict.{threeOf};
+ghost use Rattle.trace.specs.Verdict.{asRefusal};
 ghost use Rattle.trace.specs.Load.{loadValue};
-ghost use Rattle.trace.specs.Book.{joinValue, headValue, sameValue, itself};
+ghost use Rattle.trace.specs.Book.{joinValue, headValue, sameValue, readingValue};
 
 const NUMBER: u64 = 1000000000000000;
 
@@ -45,8 +45,8 @@ pub(crate) fn host_code(r: Refusal) -> u64
 }
 
 // The three numbers of a verdict or of a refusal.
-pub(crate) fn three_of(a: Judged) -> Refusal
-    ensures { λ r. ⌜ r ≡ threeOf (Verdict.says a) ⌝ }
+pub(crate) fn as_refusal(a: Judged) -> Refusal
+    ensures { λ r. ⌜ r ≡ asRefusal (Verdict.says a) ⌝ }
 {
     match a {
         Judged::Match => Refusal::at(MATCH, CLAIM_FILE, 0),
@@ -99,8 +99,8 @@ pub(crate) fn compared_code(a: Compared) -> u64
 }
 
 pub(crate) fn reading_code(a: Reading) -> u64
-    requires { ⌜ Readable wide (saysReading a) itself ⌝ }
-    ensures { λ k. ⌜ k ≡ coded (saysReading a) itself ⌝ }
+    requires { ⌜ Readable wide (saysReading a) readingValue ⌝ }
+    ensures { λ k. ⌜ k ≡ coded (saysReading a) readingValue ⌝ }
 {
     match a {
         Reading::Value(k) => k as u64,

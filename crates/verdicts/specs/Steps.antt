@@ -15,9 +15,9 @@ use Rattle.verdicts.specs.Reference.{Reference}
 use Rattle.verdicts.specs.Call.{thenSays, verdictSays}
 
 -- an area as it stands, or zero after a refusal
-abbrev pub kept : {A : Type 0} → Said Verdict → A → List A → List A
-kept (gives v) z l = l
-kept (refuses r) z l = replicate (length l) z
+abbrev pub unlessRefused : {A : Type 0} → Said Verdict → A → List A → List A
+unlessRefused (gives v) z l = l
+unlessRefused (refuses r) z l = replicate (length l) z
 
 -- a refusal was said, no verdict
 abbrev pub isRefused : Said Verdict → Bool
@@ -51,11 +51,11 @@ numbersSays answer room rule most ids reference s =
 unfoldable pub numbersOn : Said (Unit {0}) → Bool → Rule → ℕ → ℕ → List ℤ → List ℕ → List ℤ → List ℤ → Numbers
 numbersOn answer room rule most n ids s R C =
     let said = numbersSays answer room rule most (take n ids) (take n R) s in
-    numbers said (kept said (pos 0) R) (clearedZ C)
+    numbers said (unlessRefused said (pos 0) R) (clearedZ C)
 
 -- a kernel's verdict on a claim of numbers
-unfoldable pub numbersCall : Reference → Bool → Bool → List ℤ → List ℤ → Numbers
-numbersCall k sound room R C =
+unfoldable pub numbersVerdict : Reference → Bool → Bool → List ℤ → List ℤ → Numbers
+numbersVerdict k sound room R C =
     let said = verdictSays k sound room in
     numbers said (leaves said (pos 0) (length R) (k .values)) (clearedZ C)
 
@@ -74,14 +74,14 @@ unfoldable pub termsSays : Said (Unit {0}) → Bool → ℕ → ℕ → List ℤ
 termsSays answer room most n ids s F S =
     thenSays answer (check room noRoom (judgedBy (take n ids) (farWithin (fractions n F S)) (coefficientLines most s)))
 
--- the same with the two areas, which are kept or, after a refusal, zero
+-- the same with the two areas, which are unlessRefused or, after a refusal, zero
 unfoldable pub termsOn : Said (Unit {0}) → Bool → ℕ → ℕ → List ℤ → List ℕ → List ℕ → List ℕ → Terms
 termsOn answer room most n ids s F S =
     let said = termsSays answer room most n ids s F S in
-    terms said (kept said 0 F) (kept said 0 S)
+    terms said (unlessRefused said 0 F) (unlessRefused said 0 S)
 
 -- a kernel's verdict on a claim of coefficients: what is said, and its numerators and denominators in the two areas
-unfoldable pub termsCall : Reference → Bool → Bool → List ℕ → List ℕ → Terms
-termsCall k sound room F S =
+unfoldable pub termsVerdict : Reference → Bool → Bool → List ℕ → List ℕ → Terms
+termsVerdict k sound room F S =
     let said = verdictSays k sound room in
     terms said (leaves said 0 (length F) (k .numerators)) (leaves said 0 (length S) (k .denominators))

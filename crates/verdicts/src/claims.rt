@@ -15,7 +15,7 @@ ghost use Rattle.basis.specs.Refusal.{refuses};
 ghost use Rattle.basis.specs.Area.{clearedZ};
 ghost use Rattle.kernels.specs.Answer.{says as answers};
 ghost use Rattle.matching.specs.Verdict.{says};
-ghost use Rattle.verdicts.specs.Steps.{isRefused, kept, numbers, numbersOn, terms, termsOn, Known, Roomy};
+ghost use Rattle.verdicts.specs.Steps.{isRefused, unlessRefused, numbers, numbersOn, terms, termsOn, Known, Roomy};
 
 fn is_refused(judged: Judged) -> bool
     ensures { λ r. ⌜ r ≡ isRefused (says judged) ⌝ }
@@ -30,7 +30,7 @@ fn is_refused(judged: Judged) -> bool
 
 // The results stay after a verdict and go after a refusal.
 fn settle_numbers(judged: Judged, result: &mut [i64]) -> Judged
-    ensures { λ r. ⌜ (r ≡ judged) × (now (result .exit) ≡ kept (says judged) (pos 0) (now (result .entry))) ⌝ }
+    ensures { λ r. ⌜ (r ≡ judged) × (now (result .exit) ≡ unlessRefused (says judged) (pos 0) (now (result .entry))) ⌝ }
 {
     if !is_refused(judged) {
         return judged;
@@ -41,7 +41,7 @@ fn settle_numbers(judged: Judged, result: &mut [i64]) -> Judged
 
 // The same of a coefficient's two areas.
 fn settle_terms(judged: Judged, first: &mut [usize], second: &mut [usize]) -> Judged
-    ensures { λ r. ⌜ terms (says r) (now (first .exit)) (now (second .exit)) ≡ terms (says judged) (kept (says judged) 0 (now (first .entry))) (kept (says judged) 0 (now (second .entry))) ⌝ }
+    ensures { λ r. ⌜ terms (says r) (now (first .exit)) (now (second .exit)) ≡ terms (says judged) (unlessRefused (says judged) 0 (now (first .entry))) (unlessRefused (says judged) 0 (now (second .entry))) ⌝ }
 {
     if !is_refused(judged) {
         return judged;

@@ -14,7 +14,7 @@ ghost use Rattle.basis.specs.Area.{cleared};
 ghost use Rattle.graph.specs.Sound.{lent, soundGraph};
 ghost use Rattle.matching.specs.Verdict.{says};
 ghost use Rattle.verdicts.specs.Reference.{bfsReference, wccReference, cdlpReference, lccReference};
-ghost use Rattle.verdicts.specs.Steps.{numbers, numbersCall, terms, termsCall, Roomy};
+ghost use Rattle.verdicts.specs.Steps.{numbers, numbersVerdict, terms, termsVerdict, Roomy};
 
 pub(crate) fn on_bfs(
     room: bool,
@@ -33,7 +33,7 @@ pub(crate) fn on_bfs(
 ) -> Judged
     requires { ⌜ (Roomy room (size .vertices) (length (now result))) × (Roomy room (size .vertices) (length (now claimed))) ⌝ }
     requires { ⌜ Roomy room (size .vertices) (length (now queue)) ⌝ }
-    ensures { λ r. ⌜ numbers (says r) (now (result .exit)) (now (claimed .exit)) ≡ numbersCall (bfsReference most (lent size (now (ids .entry)) (now («out_offsets» .entry)) (now («out_targets» .entry)) (now («in_offsets» .entry)) (now («in_sources» .entry))) (now (claim .entry)) root) (soundGraph (lent size (now (ids .entry)) (now («out_offsets» .entry)) (now («out_targets» .entry)) (now («in_offsets» .entry)) (now («in_sources» .entry)))) room (now (result .entry)) (now (claimed .entry)) ⌝ }
+    ensures { λ r. ⌜ numbers (says r) (now (result .exit)) (now (claimed .exit)) ≡ numbersVerdict (bfsReference most (lent size (now (ids .entry)) (now («out_offsets» .entry)) (now («out_targets» .entry)) (now («in_offsets» .entry)) (now («in_sources» .entry))) (now (claim .entry)) root) (soundGraph (lent size (now (ids .entry)) (now («out_offsets» .entry)) (now («out_targets» .entry)) (now («in_offsets» .entry)) (now («in_sources» .entry)))) room (now (result .entry)) (now (claimed .entry)) ⌝ }
     ensures { λ r. ⌜ now (queue .exit) ≡ cleared (now (queue .entry)) ⌝ }
 {
     let answer = bfs(
@@ -77,7 +77,7 @@ pub(crate) fn on_wcc(
 ) -> Judged
     requires { ⌜ (Roomy room (size .vertices) (length (now result))) × (Roomy room (size .vertices) (length (now claimed))) ⌝ }
     requires { ⌜ (Roomy room (size .vertices) (length (now parents))) × (Roomy room (size .vertices) (length (now sizes))) ⌝ }
-    ensures { λ r. ⌜ numbers (says r) (now (result .exit)) (now (claimed .exit)) ≡ numbersCall (wccReference most (lent size (now (ids .entry)) (now («out_offsets» .entry)) (now («out_targets» .entry)) (now («in_offsets» .entry)) (now («in_sources» .entry))) (now (claim .entry))) (soundGraph (lent size (now (ids .entry)) (now («out_offsets» .entry)) (now («out_targets» .entry)) (now («in_offsets» .entry)) (now («in_sources» .entry)))) room (now (result .entry)) (now (claimed .entry)) ⌝ }
+    ensures { λ r. ⌜ numbers (says r) (now (result .exit)) (now (claimed .exit)) ≡ numbersVerdict (wccReference most (lent size (now (ids .entry)) (now («out_offsets» .entry)) (now («out_targets» .entry)) (now («in_offsets» .entry)) (now («in_sources» .entry))) (now (claim .entry))) (soundGraph (lent size (now (ids .entry)) (now («out_offsets» .entry)) (now («out_targets» .entry)) (now («in_offsets» .entry)) (now («in_sources» .entry)))) room (now (result .entry)) (now (claimed .entry)) ⌝ }
     ensures { λ r. ⌜ (now (parents .exit) ≡ cleared (now (parents .entry))) × (now (sizes .exit) ≡ cleared (now (sizes .entry))) ⌝ }
 {
     let answer = wcc(
@@ -123,7 +123,7 @@ pub(crate) fn on_cdlp(
 ) -> Judged
     requires { ⌜ (Roomy room (size .vertices) (length (now result))) × (Roomy room (size .vertices) (length (now claimed))) ⌝ }
     requires { ⌜ (Roomy room (size .vertices) (length (now labels))) × (Roomy room (size .vertices) (length (now next))) × (Roomy room (size .vertices) (length (now counts))) ⌝ }
-    ensures { λ r. ⌜ numbers (says r) (now (result .exit)) (now (claimed .exit)) ≡ numbersCall (cdlpReference most (lent size (now (ids .entry)) (now («out_offsets» .entry)) (now («out_targets» .entry)) (now («in_offsets» .entry)) (now («in_sources» .entry))) (now (claim .entry)) iterations) (soundGraph (lent size (now (ids .entry)) (now («out_offsets» .entry)) (now («out_targets» .entry)) (now («in_offsets» .entry)) (now («in_sources» .entry)))) room (now (result .entry)) (now (claimed .entry)) ⌝ }
+    ensures { λ r. ⌜ numbers (says r) (now (result .exit)) (now (claimed .exit)) ≡ numbersVerdict (cdlpReference most (lent size (now (ids .entry)) (now («out_offsets» .entry)) (now («out_targets» .entry)) (now («in_offsets» .entry)) (now («in_sources» .entry))) (now (claim .entry)) iterations) (soundGraph (lent size (now (ids .entry)) (now («out_offsets» .entry)) (now («out_targets» .entry)) (now («in_offsets» .entry)) (now («in_sources» .entry)))) room (now (result .entry)) (now (claimed .entry)) ⌝ }
     ensures { λ r. ⌜ (now (labels .exit) ≡ cleared (now (labels .entry))) × (now (next .exit) ≡ cleared (now (next .entry))) × (now (counts .exit) ≡ cleared (now (counts .entry))) ⌝ }
 {
     let answer = cdlp(
@@ -168,7 +168,7 @@ pub(crate) fn on_lcc(
 ) -> Judged
     requires { ⌜ (Roomy room (size .vertices) (length (now numerators))) × (Roomy room (size .vertices) (length (now denominators))) ⌝ }
     requires { ⌜ Roomy room (size .vertices) (length (now work)) ⌝ }
-    ensures { λ r. ⌜ terms (says r) (now (numerators .exit)) (now (denominators .exit)) ≡ termsCall (lccReference most (lent size (now (ids .entry)) (now («out_offsets» .entry)) (now («out_targets» .entry)) (now («in_offsets» .entry)) (now («in_sources» .entry))) (now (claim .entry))) (soundGraph (lent size (now (ids .entry)) (now («out_offsets» .entry)) (now («out_targets» .entry)) (now («in_offsets» .entry)) (now («in_sources» .entry)))) room (now (numerators .entry)) (now (denominators .entry)) ⌝ }
+    ensures { λ r. ⌜ terms (says r) (now (numerators .exit)) (now (denominators .exit)) ≡ termsVerdict (lccReference most (lent size (now (ids .entry)) (now («out_offsets» .entry)) (now («out_targets» .entry)) (now («in_offsets» .entry)) (now («in_sources» .entry))) (now (claim .entry))) (soundGraph (lent size (now (ids .entry)) (now («out_offsets» .entry)) (now («out_targets» .entry)) (now («in_offsets» .entry)) (now («in_sources» .entry)))) room (now (numerators .entry)) (now (denominators .entry)) ⌝ }
     ensures { λ r. ⌜ now (work .exit) ≡ cleared (now (work .entry)) ⌝ }
 {
     let answer = lcc(
