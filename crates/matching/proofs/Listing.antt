@@ -37,6 +37,7 @@ unfoldable pub claimText : {A : Type 0} → List (WrittenLine A) → List ℕ
 claimText [] = []
 claimText (x ∷ l) = signedText (x .id) ++ (space ∷ (x .text ++ (lf ∷ claimText l)))
 
+-- the identifiers and values that written lines say
 abbrev pub pairsOf : {A : Type 0} → List (WrittenLine A) → List (ℤ × A)
 pairsOf [] = []
 pairsOf (x ∷ l) = (x .id, x .is) ∷ pairsOf l
@@ -47,6 +48,7 @@ pub record Spelled {A : Type 0} (word : List ℕ → Word A) (x : WrittenLine A)
   pub said : word (x .text) ≡ value (x .is)
   pub inLine : mem lf (x .text) ≡ false
 
+-- all lines are written so
 abbrev pub AllSpelled : {A : Type 0} → (List ℕ → Word A) → List (WrittenLine A) → Type 0
 AllSpelled word [] = Unit {0}
 AllSpelled word (x ∷ l) = Spelled word x × AllSpelled word l

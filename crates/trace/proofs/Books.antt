@@ -7,6 +7,7 @@ use native.Mathlib.Omega.{arith}
 use lib.ListN.{length}
 use lib.Dec.{leb, ltb, eqb}
 use borrow.Author.Tests.{ltb-true}
+use Rattle.basis.specs.Limits.{mostVertices}
 use Rattle.basis.specs.Refusal.{Said, gives, refuses, plain, noRoom, unsound, notThere, check}
 use Rattle.book.specs.Rules.{Next, stop, to, Found, found, follow, Heads, Step, already, merge, merged, same, Done, done}
 use Rattle.book.specs.Rules.{walk, walkFrom, headOf, pair, headsOf, sameGroup, groupSize, tally, isStop, groupCount}
@@ -40,7 +41,7 @@ checked : {A : Type 0} {value : A → ℕ} (t : Bool) (number : ℕ) {s : Said A
 checked t number p q h = readable-check t number (omega arith) p q h
 
 -- a head is in the area, and 16 moves reach it at most
-module _ (next : ℕ → Next) (n : ℕ) (small : n ≤ 65536) where
+module _ (next : ℕ → Next) (n : ℕ) (small : n ≤ mostVertices) where
   walk-readable : (left moves at : ℕ) → at < n → moves + left ≤ 16 → Readable wide (walk next n left moves at) headValue
   unfolding walk
   walk-readable zero moves at l m = go (next at)

@@ -9,6 +9,7 @@ use lib.ListN.{length, replicate}
 use lib.Dec.{eqb, leb}
 use borrow.Author.Tests.{leb-true, le-leb, eqb-true, eqb-false}
 use Rattle.basis.specs.declared.refusal.Refusal.{Refusal}
+use Rattle.basis.specs.Limits.{deskVertices}
 use Rattle.basis.specs.Refusal.{Said, gives, refuses, plain, noRoom, claimFile}
 use Rattle.basis.specs.Order.{sameZ}
 use Rattle.basis.proofs.Tests.{and-first, and-second, and-both}
@@ -72,7 +73,7 @@ unfolding unlikeLine
 unlike-bound a b = let h = failing-bound (agrees a b) (length a) 0 in omega arith
 
 -- ---- what is said of a claim
-module _ (room : ℕ) (some : 65537 < room) where
+module _ (room : ℕ) (some : Call.mostLines + 1 < room) where
   verdict-small : (incomplete mismatch : ℕ) → incomplete < room → mismatch < room
       → Small room (asRefusal (gives (verdictOf incomplete mismatch)))
   verdict-small (suc k) mismatch p q = record { number = omega arith; file = omega arith; line = p }
@@ -95,7 +96,7 @@ module _ (room : ℕ) (some : 65537 < room) where
       judged-small ids (firstLine alike 1 reference) x h
       (λ l e. let f = first-bound alike 1 reference (claimedOf l) in let n = claimed-length l in let k = h .values l e in omega arith)
 
-  module _ (most : ℕ) (few : most ≤ 65536) (g : Graph) (s : List ℕ) (kernel : ℕ) (parameter : ℤ) where
+  module _ (most : ℕ) (few : most ≤ Call.mostLines) (g : Graph) (s : List ℕ) (kernel : ℕ) (parameter : ℤ) where
     numbers-readable : Readable room (numberLines most s) (λ l. 1 + length l)
     numbers-readable = lines-readable (twoOf identOf identOf) s room most (omega arith)
 
@@ -190,7 +191,7 @@ module _ (most : ℕ) (g : Graph) (kernel : ℕ) (parameter : ℤ) (s : List ℕ
       go false false false false true p q r t h = absurd (none-left p q r t h)
       go false false false false false p q r t h = refl
 
-  pub call-small : (room : ℕ) → 65537 < room → most ≤ 65536
+  pub call-small : (room : ℕ) → Call.mostLines + 1 < room → most ≤ Call.mostLines
       → Small room (asRefusal (Call.verdictCall most g kernel parameter s R C F S T .said))
   unfolding Call.callOn Call.leftBy Call.unknownCall
   call-small room some few = rw (by-number (isKernel kernel) refl) (go (isKernel kernel))
@@ -232,8 +233,8 @@ module _ (g : Graph) (kernel : ℕ) (parameter : ℤ) (s : List ℕ) (R₀ C₀ 
 -- ---- the call in areas of desk size
 module _ (g : Graph) (kernel : ℕ) (parameter : ℤ) (s : List ℕ) (x : Said Verdict) (R C : List ℤ) (F S T : List ℕ)
     (e : Call.outcome x R C F S T
-    ≡ Call.verdictCall deskLines g kernel parameter s (replicate 1024 (pos 0)) (replicate 1024 (pos 0)) (replicate 1024 0)
-    (replicate 1024 0) (replicate 1024 0))
+    ≡ Call.verdictCall deskLines g kernel parameter s (replicate deskVertices (pos 0)) (replicate deskVertices (pos 0))
+    (replicate deskVertices 0) (replicate deskVertices 0) (replicate deskVertices 0))
     (r : Refusal) (f : r ≡ asRefusal x) where
   pub desk-small : Small narrow r
   desk-small = rw (f, ap (λ o. o .said) e) (call-small deskLines g kernel parameter s _ _ _ _ _ narrow (omega arith) (omega arith))

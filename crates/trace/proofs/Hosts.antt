@@ -2,13 +2,14 @@
 use mathlib.Core.Path.{_≡_, refl, sym, ap, _∙_}
 use mathlib.Core.Bool.{Bool, true, false, not}
 use mathlib.Core.List.{List}
-use Prim.Native.Nat.{ℕ, _≤_, _<_}
+use Prim.Native.Nat.{ℕ, _+_, _≤_, _<_}
 use native.Mathlib.Omega.{arith}
 use lib.IntN.{ℤ, pos, natAbs}
 use lib.ListN.{length, replicate, length-replicate}
 use lib.Dec.{leb}
 use borrow.Author.Tests.{le-leb, lt-leb, lt-ltb}
 use Rattle.basis.proofs.Saids.{refused-given, given-one, mapped-refuses}
+use Rattle.basis.specs.Limits.{deskVertices, deskEdges}
 use Rattle.basis.specs.Refusal.{Said, gives, refuses, plain, unknownNumber, onward, mapped}
 use Rattle.graph.specs.Arcs.{Arc, arcs}
 use Rattle.graph.specs.declared.find.Found.{Found}
@@ -59,34 +60,38 @@ module _ (mode kernel : ℕ) where
   known-last h k = rw (le-leb mode 1 h, le-leb 1 kernel k)
 
 -- ---- the load: the desk's limits leave room in areas of desk size
+-- an edge stores two arcs at most
+abbrev deskArcs : ℕ
+deskArcs = deskEdges + deskEdges
+
 abbrev listed : List ℤ → List Arc → Lists
 listed ids l = record { ids = ids; arcs = l }
 
 module _ (mode : ℕ) (vertices edges : List ℕ) where
   pub loaded-desk : leb mode 1 ≡ true → loaded desk mode deskRoom vertices edges ≡ listsSaid (isUndirected mode) vertices edges
   unfolding loaded listsRead arcsRead listsSaid
-  loaded-desk m = rw m (go (identifiers 1024 vertices) refl)
+  loaded-desk m = rw m (go (identifiers deskVertices vertices) refl)
     where
-      by-edges : (ids : List ℤ) (x : Said (List (ℤ × ℤ))) → edgesOf (isUndirected mode) 2048 (placeIn ids) edges ≡ x
+      by-edges : (ids : List ℤ) (x : Said (List (ℤ × ℤ))) → edgesOf (isUndirected mode) deskEdges (placeIn ids) edges ≡ x
           → mapped (listed ids)
-          (onward x (λ es. withRoom (arcRoom 4096 4096 (length (arcs (isUndirected mode) (allNumbered (placeIn ids) es))))
+          (onward x (λ es. withRoom (arcRoom deskArcs deskArcs (length (arcs (isUndirected mode) (allNumbered (placeIn ids) es))))
           (arcs (isUndirected mode) (allNumbered (placeIn ids) es))))
           ≡ mapped (λ es. listed ids (arcs (isUndirected mode) (allNumbered (placeIn ids) es))) x
       by-edges ids (gives es) q =
-          let few = edges-accepted (isUndirected mode) 2048 ids edges es .0 q .few in
+          let few = edges-accepted (isUndirected mode) deskEdges ids edges es .0 q .few in
           let h = arcs-few (isUndirected mode) ids es in
-          rw (le-leb (length (arcs (isUndirected mode) (allNumbered (placeIn ids) es))) 4096 (omega arith))
+          rw (le-leb (length (arcs (isUndirected mode) (allNumbered (placeIn ids) es))) deskArcs (omega arith))
       by-edges ids (refuses r) q = refl
 
-      go : (x : Said (List ℤ)) → identifiers 1024 vertices ≡ x
-          → onward x (λ ids. onward (withRoom (vertexRoom 1024 1025 1025 (length ids)) ids)
-          (λ ids. mapped (listed ids) (arcsRead (isUndirected mode) 2048 ids edges 4096 4096)))
+      go : (x : Said (List ℤ)) → identifiers deskVertices vertices ≡ x
+          → onward x (λ ids. onward (withRoom (vertexRoom deskVertices (deskVertices + 1) (deskVertices + 1) (length ids)) ids)
+          (λ ids. mapped (listed ids) (arcsRead (isUndirected mode) deskEdges ids edges deskArcs deskArcs)))
           ≡ onward x (λ ids. mapped (λ es. listed ids (arcs (isUndirected mode) (allNumbered (placeIn ids) es)))
-          (edgesOf (isUndirected mode) 2048 (placeIn ids) edges))
+          (edgesOf (isUndirected mode) deskEdges (placeIn ids) edges))
       go (gives ids) q =
-          let few = vertices-accepted 1024 vertices ids .0 q .few in
-          rw (le-leb (length ids) 1024 (omega arith), lt-ltb (length ids) 1025 (omega arith))
-          (by-edges ids (edgesOf (isUndirected mode) 2048 (placeIn ids) edges) refl)
+          let few = vertices-accepted deskVertices vertices ids .0 q .few in
+          rw (le-leb (length ids) deskVertices (omega arith), lt-ltb (length ids) (deskVertices + 1) (omega arith))
+          (by-edges ids (edgesOf (isUndirected mode) deskEdges (placeIn ids) edges) refl)
       go (refuses r) q = refl
 
 -- ---- the reference output, by what a graph shows
@@ -154,15 +159,16 @@ module _ (vertices edges claim : List ℕ) (mode kernel : ℕ) (parameter : ℤ)
     unfolding loadCall outcomeOf
     stands-so = rw h
 
-    roomy : Call.roomFor (length (g .ids)) (replicate 1024 (pos 0)) (replicate 1024 (pos 0)) (replicate 1024 0) (replicate 1024 0)
-        (replicate 1024 0) ≡ true
+    roomy : Call.roomFor (length (g .ids)) (replicate deskVertices (pos 0)) (replicate deskVertices (pos 0))
+        (replicate deskVertices 0) (replicate deskVertices 0) (replicate deskVertices 0)
+        ≡ true
     unfolding Call.roomFor
     roomy =
         let n = length (g .ids) in
-        let z : leb n (length (replicate 1024 (pos 0)))
-        ≡ true = rw (length-replicate 1024 (pos 0)) (le-leb n 1024 (ok .goodVertices .few)) in
-        let o : leb n (length (replicate {A = ℕ} 1024 0))
-        ≡ true = rw (length-replicate {A = ℕ} 1024 0) (le-leb n 1024 (ok .goodVertices .few)) in
+        let z : leb n (length (replicate deskVertices (pos 0)))
+        ≡ true = rw (length-replicate deskVertices (pos 0)) (le-leb n deskVertices (ok .goodVertices .few)) in
+        let o : leb n (length (replicate {A = ℕ} deskVertices 0))
+        ≡ true = rw (length-replicate {A = ℕ} deskVertices 0) (le-leb n deskVertices (ok .goodVertices .few)) in
         and-both z (and-both z (and-both o (and-both o o)))
 
     judged-so : deskJudged stands kernel parameter claim ≡ judgedAs (referenceFor deskLines (graphOf g) claim kernel parameter)

@@ -20,7 +20,7 @@ abbrev pub sameValue : Bool → ℕ
 sameValue true = 1
 sameValue false = 0
 
--- a size, a count or a step limit is its own number
+-- a size, a count or a step limit as its own number
 abbrev pub readingValue : ℕ → ℕ
 readingValue k = k
 

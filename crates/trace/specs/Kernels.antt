@@ -9,7 +9,7 @@ use Rattle.cdlp.specs.Promise as Cdlp
 use Rattle.lcc.specs.Promise as Lcc
 use Rattle.trace.specs.Code.{coded, nothing}
 
--- a graph's "stated counts"
+-- a graph's "stated counts" as its size
 abbrev pub statedSize : ℕ → ℕ → Size
 statedSize vertices arcs = record { vertices = vertices; arcs = arcs }
 

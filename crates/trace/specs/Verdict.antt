@@ -8,7 +8,7 @@ use Rattle.matching.specs.Verdict.{Verdict}
 use Rattle.verdicts.specs.Call.{Outcome}
 use Rattle.trace.specs.Code.{placed}
 
--- number, file and line, of a verdict as of a refusal
+-- a verdict's three numbers as those of a refusal, or a refusal as it is
 abbrev pub asRefusal : Said Verdict → Refusal
 asRefusal (gives v) = at (v .number) (v .file) (v .line)
 asRefusal (refuses r) = r

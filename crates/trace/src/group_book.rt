@@ -19,7 +19,9 @@ ghost use Rattle.trace.specs.Book.{joinValue, headValue, sameValue, read
 
 #[no_mangle]
 pub extern "C" fn trace_book_open(parents: &mut [usize], sizes: &mut [usize]) -> u64
-    ensures { λ r. ⌜ bookTold r (now (parents .exit)) (now (sizes .exit)) ≡ bookTells nothing (openBook twoBook (areas (now (parents .entry)) (now (sizes .entry)))) ⌝ }
+    ensures { λ r. ⌜
+        bookTold r (now (parents .exit)) (now (sizes .exit))
+        ≡ bookTells nothing (openBook twoBook (areas (now (parents .entry)) (now (sizes .entry)))) ⌝ }
 {
     opened_code(open_book(parents, sizes))
 }
@@ -31,7 +33,9 @@ pub extern "C" fn trace_book_join(
     u: usize,
     v: usize,
 ) -> u64
-    ensures { λ r. ⌜ bookTold r (now (parents .exit)) (now (sizes .exit)) ≡ bookTells joinValue (joinBook twoBook (areas (now (parents .entry)) (now (sizes .entry))) u v) ⌝ }
+    ensures { λ r. ⌜
+        bookTold r (now (parents .exit)) (now (sizes .exit))
+        ≡ bookTells joinValue (joinBook twoBook (areas (now (parents .entry)) (now (sizes .entry))) u v) ⌝ }
 {
     joined_code(join(parents, sizes, u, v))
 }

@@ -129,7 +129,7 @@ module _ (most : ℕ) (g : Graph) (sound : Sound g) (few : g .vertices ≤ most)
       ∙ exact-own most (names g) names-few fits values (names-length g sound ∙ sym (cdlp-length g sound (natAbs iterations)))
       (cdlp-fits g fits (natAbs iterations))
 
-  -- under any renaming that keeps labels apart and in range, as that of no label (`wcc-fits`)
+  -- under any renaming that keeps labels apart and in range
   pub wcc-own : (f : ℤ → ℤ) → ((x y : ℤ) → f x ≡ f y → x ≡ y) → AllFit (map f (wccOf g))
       → verdictSays (wccReference most g (claimText (listed (names g) (map f (wccOf g))))) true true ≡ accepted
   wcc-own f apart fit =
