@@ -106,6 +106,11 @@ use Rattle.matching.proofs.Judging.{says-apart}
 pub meet : {A : Type 0} {x y d : A} → x ≡ d → y ≡ d → x ≡ y
 meet p q = p ∙ sym q
 
+infixr 20 _&_
+-- what stands at exit, argument by argument: an area, or nothing where none is lent for writing
+abbrev _&_ : {A B : Type 0} → A → B → A × B
+x & rest = (x, rest)
+
 -- ---- basis
 pub basis-plain-one : One basis-plain.ended (λ M 𝓤. basis-plain.clauses 𝓤)
 basis-plain-one = record {
@@ -153,35 +158,35 @@ pub basis-fill-one : One basis-fill.ended (λ M 𝓤. basis-fill.clauses 𝓤)
 basis-fill-one = record {
   promise = basis-fill.Reads.Learnt;
   told = refl;
-  one = λ _ _ _ _ _ _ p q. (refl, ap (λ l. (l, tt, tt)) (meet p q));
+  one = λ _ _ _ _ _ _ p q. (refl, ap (λ l. l & tt & tt) (meet p q));
 }
 
 pub basis-fill_signed-one : One basis-fill_signed.ended (λ M 𝓤. basis-fill_signed.clauses 𝓤)
 basis-fill_signed-one = record {
   promise = basis-fill_signed.Reads.Learnt;
   told = refl;
-  one = λ _ _ _ _ _ _ p q. (refl, ap (λ l. (l, tt, tt)) (meet p q));
+  one = λ _ _ _ _ _ _ p q. (refl, ap (λ l. l & tt & tt) (meet p q));
 }
 
 pub basis-clear-one : One basis-clear.ended (λ M 𝓤. basis-clear.clauses 𝓤)
 basis-clear-one = record {
   promise = basis-clear.Reads.Learnt;
   told = refl;
-  one = λ _ _ _ _ _ _ p q. (refl, ap (λ l. (l, tt)) (meet p q));
+  one = λ _ _ _ _ _ _ p q. (refl, ap (λ l. l & tt) (meet p q));
 }
 
 pub basis-clear_signed-one : One basis-clear_signed.ended (λ M 𝓤. basis-clear_signed.clauses 𝓤)
 basis-clear_signed-one = record {
   promise = basis-clear_signed.Reads.Learnt;
   told = refl;
-  one = λ _ _ _ _ _ _ p q. (refl, ap (λ l. (l, tt)) (meet p q));
+  one = λ _ _ _ _ _ _ p q. (refl, ap (λ l. l & tt) (meet p q));
 }
 
 pub basis-copy-one : One basis-copy.ended (λ M 𝓤. basis-copy.clauses 𝓤)
 basis-copy-one = record {
   promise = basis-copy.Reads.Learnt;
   told = refl;
-  one = λ _ _ _ _ _ _ p q. (refl, ap (λ l. (tt, tt, l, tt)) (meet p q));
+  one = λ _ _ _ _ _ _ p q. (refl, ap (λ l. tt & tt & l & tt) (meet p q));
 }
 
 -- ---- text
@@ -269,7 +274,7 @@ write-put-one = record {
   told = refl;
   one = λ _ _ _ _ _ _ p q. (
     ap (λ o. o .next) (meet p q),
-    ap (λ o. (o .area, tt, tt, tt)) (meet p q),
+    ap (λ o. o .area & tt & tt & tt) (meet p q),
   );
 }
 
@@ -279,7 +284,7 @@ write-put_bytes-one = record {
   told = refl;
   one = λ _ _ _ _ _ _ p q. (
     ap (λ o. o .next) (meet p q),
-    ap (λ o. (o .area, tt, tt, tt)) (meet p q),
+    ap (λ o. o .area & tt & tt & tt) (meet p q),
   );
 }
 
@@ -289,7 +294,7 @@ write-put_number-one = record {
   told = refl;
   one = λ _ _ _ _ _ _ p q. (
     ap (λ o. o .next) (meet p q),
-    ap (λ o. (o .area, tt, tt, tt)) (meet p q),
+    ap (λ o. o .area & tt & tt & tt) (meet p q),
   );
 }
 
@@ -299,7 +304,7 @@ write-put_signed-one = record {
   told = refl;
   one = λ _ _ _ _ _ _ p q. (
     ap (λ o. o .next) (meet p q),
-    ap (λ o. (o .area, tt, tt, tt)) (meet p q),
+    ap (λ o. o .area & tt & tt & tt) (meet p q),
   );
 }
 
@@ -310,7 +315,7 @@ book-open_book-one = record {
   told = refl;
   one = λ _ _ z z′ _ _ p q. (
     one-opened z z′ (ap (λ o. o .said) (meet p q)),
-    ap (λ o. (o .area .parents, o .area .sizes, tt)) (meet p q),
+    ap (λ o. o .area .parents & o .area .sizes & tt) (meet p q),
   );
 }
 
@@ -320,7 +325,7 @@ book-join-one = record {
   told = refl;
   one = λ _ _ z z′ _ _ p q. (
     one-joined z z′ (ap (λ o. o .said) (meet p q)),
-    ap (λ o. (o .area .parents, o .area .sizes, tt, tt, tt)) (meet p q),
+    ap (λ o. o .area .parents & o .area .sizes & tt & tt & tt) (meet p q),
   );
 }
 
@@ -330,7 +335,7 @@ book-join_each-one = record {
   told = refl;
   one = λ _ _ z z′ _ _ p q. (
     one-joinedEach z z′ (ap (λ o. o .said) (meet p q)),
-    ap (λ o. (o .area .parents, o .area .sizes, tt, tt, tt)) (meet p q),
+    ap (λ o. o .area .parents & o .area .sizes & tt & tt & tt) (meet p q),
   );
 }
 
@@ -390,7 +395,7 @@ graph-sound_over-one = record {
   told = refl;
   one = λ _ _ _ _ _ _ p q. (
     ap (λ o. o .sound) (meet p q),
-    ap (λ o. (tt, tt, tt, tt, tt, tt, o .cursors, tt)) (meet p q),
+    ap (λ o. tt & tt & tt & tt & tt & tt & o .cursors & tt) (meet p q),
   );
 }
 
@@ -437,7 +442,7 @@ store-spread-one = record {
   told = refl;
   one = λ _ _ _ _ _ _ p q. (
     ap (λ o. o .done) (meet p q),
-    ap (λ o. (o .offsets, o .targets, tt, tt, tt, tt, tt)) (meet p q),
+    ap (λ o. o .offsets & o .targets & tt & tt & tt & tt & tt) (meet p q),
   );
 }
 
@@ -445,7 +450,7 @@ pub store-sum_up-one : One store-sum_up.ended (λ M 𝓤. store-sum_up.clauses �
 store-sum_up-one = record {
   promise = store-sum_up.Reads.Learnt;
   told = refl;
-  one = λ _ _ _ _ _ _ p q. (refl, ap (λ l. (l, tt, tt)) (meet p q));
+  one = λ _ _ _ _ _ _ p q. (refl, ap (λ l. l & tt & tt) (meet p q));
 }
 
 -- ---- lists
@@ -455,7 +460,7 @@ lists-read_vertices-one = record {
   told = refl;
   one = λ _ _ z z′ _ _ p q. (
     one-listed z z′ (ap (λ o. o .answer) (meet p q)),
-    ap (λ o. (tt, tt, o .ids, tt)) (meet p q),
+    ap (λ o. tt & tt & o .ids & tt) (meet p q),
   );
 }
 
@@ -465,7 +470,7 @@ lists-read_edges-one = record {
   told = refl;
   one = λ _ _ z z′ _ _ p q. (
     one-listed z z′ (ap (λ o. o .answer) (meet p q)),
-    ap (λ o. (tt, tt, tt, tt, o .counts, o .targets, tt)) (meet p q),
+    ap (λ o. tt & tt & tt & tt & o .counts & o .targets & tt) (meet p q),
   );
 }
 
@@ -476,7 +481,7 @@ load-load_within-one = record {
   told = refl;
   one = λ _ _ z z′ _ _ p q. (
     one-loaded z z′ (ap (λ o. o .answer) (meet p q)),
-    ap (λ o. (tt, tt, tt, tt, o .ids, o .outOffsets, o .outTargets, o .inOffsets, o .inSources, tt)) (meet p q),
+    ap (λ o. tt & tt & tt & tt & o .ids & o .outOffsets & o .outTargets & o .inOffsets & o .inSources & tt) (meet p q),
   );
 }
 
@@ -486,7 +491,7 @@ load-load-one = record {
   told = refl;
   one = λ _ _ z z′ _ _ p q. (
     one-loaded z z′ (ap (λ o. o .answer) (meet p q)),
-    ap (λ o. (tt, tt, tt, o .ids, o .outOffsets, o .outTargets, o .inOffsets, o .inSources, tt)) (meet p q),
+    ap (λ o. tt & tt & tt & o .ids & o .outOffsets & o .outTargets & o .inOffsets & o .inSources & tt) (meet p q),
   );
 }
 
@@ -505,7 +510,7 @@ bfs-bfs-one = record {
   told = refl;
   one = λ _ _ z z′ _ _ p q. (
     one-kernel z z′ (ap (λ o. o .said) (meet p q)),
-    ap (λ o. (tt, tt, tt, tt, tt, tt, tt, o .depth, o .queue, tt)) (meet p q),
+    ap (λ o. tt & tt & tt & tt & tt & tt & tt & o .depth & o .queue & tt) (meet p q),
   );
 }
 
@@ -516,7 +521,7 @@ wcc-wcc-one = record {
   told = refl;
   one = λ _ _ z z′ _ _ p q. (
     one-kernel z z′ (ap (λ o. o .said) (meet p q)),
-    ap (λ o. (tt, tt, tt, tt, tt, tt, o .result, o .parents, o .sizes, tt)) (meet p q),
+    ap (λ o. tt & tt & tt & tt & tt & tt & o .result & o .parents & o .sizes & tt) (meet p q),
   );
 }
 
@@ -527,7 +532,7 @@ cdlp-cdlp-one = record {
   told = refl;
   one = λ _ _ z z′ _ _ p q. (
     one-kernel z z′ (ap (λ o. o .said) (meet p q)),
-    ap (λ o. (tt, tt, tt, tt, tt, tt, tt, o .result, o .labels, o .next, o .counts, tt)) (meet p q),
+    ap (λ o. tt & tt & tt & tt & tt & tt & tt & o .result & o .labels & o .next & o .counts & tt) (meet p q),
   );
 }
 
@@ -538,7 +543,7 @@ lcc-lcc-one = record {
   told = refl;
   one = λ _ _ z z′ _ _ p q. (
     one-kernel z z′ (ap (λ o. o .said) (meet p q)),
-    ap (λ o. (tt, tt, tt, tt, tt, tt, o .numerators, o .denominators, o .work, tt)) (meet p q),
+    ap (λ o. tt & tt & tt & tt & tt & tt & o .numerators & o .denominators & o .work & tt) (meet p q),
   );
 }
 
@@ -577,7 +582,7 @@ matching-judge_numbers-one = record {
   told = refl;
   one = λ _ _ z z′ _ _ p q. (
     says-apart z z′ (ap (λ o. o .said) (meet p q)),
-    ap (λ o. (tt, tt, tt, tt, tt, o .claimed, tt)) (meet p q),
+    ap (λ o. tt & tt & tt & tt & tt & o .claimed & tt) (meet p q),
   );
 }
 
@@ -595,7 +600,7 @@ verdicts-verdict_within-one = record {
   told = refl;
   one = λ _ _ z z′ _ _ p q. (
     says-apart z z′ (ap (λ o. o .said) (meet p q)),
-    ap (λ o. (tt, tt, tt, tt, tt, tt, tt, tt, tt, tt, o .result, o .claimed, o .first, o .second, o .third, tt)) (meet p q),
+    ap (λ o. tt & tt & tt & tt & tt & tt & tt & tt & tt & tt & o .result & o .claimed & o .first & o .second & o .third & tt) (meet p q),
   );
 }
 
@@ -605,7 +610,7 @@ verdicts-verdict-one = record {
   told = refl;
   one = λ _ _ z z′ _ _ p q. (
     says-apart z z′ (ap (λ o. o .said) (meet p q)),
-    ap (λ o. (tt, tt, tt, tt, tt, tt, tt, tt, tt, o .result, o .claimed, o .first, o .second, o .third, tt)) (meet p q),
+    ap (λ o. tt & tt & tt & tt & tt & tt & tt & tt & tt & o .result & o .claimed & o .first & o .second & o .third & tt) (meet p q),
   );
 }
 
@@ -614,7 +619,7 @@ pub plan-read_job-one : One plan-read_job.ended (λ M 𝓤. plan-read_job.clause
 plan-read_job-one = record {
   promise = plan-read_job.Reads.Learnt;
   told = refl;
-  one = λ _ _ z z′ _ _ p q. (job-one z z′ (meet p q), refl);
+  one = λ _ _ z z′ _ _ p q. ((job-one) z z′ (meet p q), refl);
 }
 
 pub plan-read_sections-one : One plan-read_sections.ended (λ M 𝓤. plan-read_sections.clauses 𝓤)
@@ -659,7 +664,7 @@ listing-put_spaced-one = record {
   told = refl;
   one = λ _ _ _ _ _ _ p q. (
     ap (λ o. o .next) (meet p q),
-    ap (λ o. (o .area, tt, tt, tt)) (meet p q),
+    ap (λ o. o .area & tt & tt & tt) (meet p q),
   );
 }
 
@@ -669,7 +674,7 @@ listing-put_refused-one = record {
   told = refl;
   one = λ _ _ _ _ _ _ p q. (
     ap (λ o. o .next) (meet p q),
-    ap (λ o. (o .area, tt, tt, tt)) (meet p q),
+    ap (λ o. o .area & tt & tt & tt) (meet p q),
   );
 }
 
@@ -679,7 +684,7 @@ listing-put_head-one = record {
   told = refl;
   one = λ _ _ _ _ _ _ p q. (
     ap (λ o. o .next) (meet p q),
-    ap (λ o. (o .area, tt, tt, tt, tt)) (meet p q),
+    ap (λ o. o .area & tt & tt & tt & tt) (meet p q),
   );
 }
 
@@ -689,7 +694,7 @@ listing-put_pair-one = record {
   told = refl;
   one = λ _ _ _ _ _ _ p q. (
     ap (λ o. o .next) (meet p q),
-    ap (λ o. (o .area, tt, tt, tt, tt)) (meet p q),
+    ap (λ o. o .area & tt & tt & tt & tt) (meet p q),
   );
 }
 
@@ -699,7 +704,7 @@ listing-put_ratio-one = record {
   told = refl;
   one = λ _ _ _ _ _ _ p q. (
     ap (λ o. o .next) (meet p q),
-    ap (λ o. (o .area, tt, tt, tt, tt, tt)) (meet p q),
+    ap (λ o. o .area & tt & tt & tt & tt & tt) (meet p q),
   );
 }
 
@@ -709,7 +714,7 @@ listing-put_pairs-one = record {
   told = refl;
   one = λ _ _ _ _ _ _ p q. (
     ap (λ o. o .next) (meet p q),
-    ap (λ o. (o .area, tt, tt, tt, tt)) (meet p q),
+    ap (λ o. o .area & tt & tt & tt & tt) (meet p q),
   );
 }
 
@@ -719,7 +724,7 @@ listing-put_ratios-one = record {
   told = refl;
   one = λ _ _ _ _ _ _ p q. (
     ap (λ o. o .next) (meet p q),
-    ap (λ o. (o .area, tt, tt, tt, tt, tt)) (meet p q),
+    ap (λ o. o .area & tt & tt & tt & tt & tt) (meet p q),
   );
 }
 
@@ -730,7 +735,7 @@ sheet-run_jobs-one = record {
   told = refl;
   one = λ _ _ _ _ _ _ p q. (
     ap (λ o. o .next) (meet p q),
-    ap (λ o. (tt, tt, tt, tt, tt, tt, tt, tt, tt, o .area, tt, tt)) (meet p q),
+    ap (λ o. tt & tt & tt & tt & tt & tt & tt & tt & tt & o .area & tt & tt) (meet p q),
   );
 }
 
@@ -740,7 +745,7 @@ sheet-answer-one = record {
   told = refl;
   one = λ _ _ _ _ _ _ p q. (
     ap (λ o. o .next) (meet p q),
-    ap (λ o. (tt, o .area, tt)) (meet p q),
+    ap (λ o. tt & o .area & tt) (meet p q),
   );
 }
 
@@ -751,7 +756,7 @@ trace-trace_load-one = record {
   told = refl;
   one = λ _ _ _ _ _ _ p q. (
     ap (λ o. o .answer) (meet p q),
-    ap (λ o. (tt, tt, tt, o .ids, o .outOffsets, o .outTargets, o .inOffsets, o .inSources, tt)) (meet p q),
+    ap (λ o. tt & tt & tt & o .ids & o .outOffsets & o .outTargets & o .inOffsets & o .inSources & tt) (meet p q),
   );
 }
 
@@ -761,7 +766,7 @@ trace-trace_bfs-one = record {
   told = refl;
   one = λ _ _ _ _ _ _ p q. (
     ap (λ o. o .answer) (meet p q),
-    ap (λ o. (tt, tt, tt, tt, tt, tt, tt, tt, o .depth, o .queue, tt)) (meet p q),
+    ap (λ o. tt & tt & tt & tt & tt & tt & tt & tt & o .depth & o .queue & tt) (meet p q),
   );
 }
 
@@ -771,7 +776,7 @@ trace-trace_wcc-one = record {
   told = refl;
   one = λ _ _ _ _ _ _ p q. (
     ap (λ o. o .answer) (meet p q),
-    ap (λ o. (tt, tt, tt, tt, tt, tt, tt, o .result, o .parents, o .sizes, tt)) (meet p q),
+    ap (λ o. tt & tt & tt & tt & tt & tt & tt & o .result & o .parents & o .sizes & tt) (meet p q),
   );
 }
 
@@ -781,7 +786,7 @@ trace-trace_cdlp-one = record {
   told = refl;
   one = λ _ _ _ _ _ _ p q. (
     ap (λ o. o .answer) (meet p q),
-    ap (λ o. (tt, tt, tt, tt, tt, tt, tt, tt, o .result, o .labels, o .next, o .counts, tt)) (meet p q),
+    ap (λ o. tt & tt & tt & tt & tt & tt & tt & tt & o .result & o .labels & o .next & o .counts & tt) (meet p q),
   );
 }
 
@@ -791,7 +796,7 @@ trace-trace_lcc-one = record {
   told = refl;
   one = λ _ _ _ _ _ _ p q. (
     ap (λ o. o .answer) (meet p q),
-    ap (λ o. (tt, tt, tt, tt, tt, tt, tt, o .numerators, o .denominators, o .work, tt)) (meet p q),
+    ap (λ o. tt & tt & tt & tt & tt & tt & tt & o .numerators & o .denominators & o .work & tt) (meet p q),
   );
 }
 
@@ -801,7 +806,7 @@ pub «trace-trace_book_open-one» : One trace-opened.ended (λ M 𝓤. trace-ope
   told = refl;
   one = λ _ _ _ _ _ _ p q. (
     ap (λ o. o .answer) (meet p q),
-    ap (λ o. (o .parents, o .sizes, tt)) (meet p q),
+    ap (λ o. o .parents & o .sizes & tt) (meet p q),
   );
 }
 
@@ -811,7 +816,7 @@ trace-trace_book_join-one = record {
   told = refl;
   one = λ _ _ _ _ _ _ p q. (
     ap (λ o. o .answer) (meet p q),
-    ap (λ o. (o .parents, o .sizes, tt, tt, tt)) (meet p q),
+    ap (λ o. o .parents & o .sizes & tt & tt & tt) (meet p q),
   );
 }
 
@@ -856,7 +861,7 @@ trace-trace_judge-one = record {
   told = refl;
   one = λ _ _ _ _ _ _ p q. (
     ap (λ o. o .answer) (meet p q),
-    ap (λ o. (tt, tt, tt, tt, tt, tt, tt, tt, tt, tt, o .result, o .claimed, o .first, o .second, o .third, tt)) (meet p q),
+    ap (λ o. tt & tt & tt & tt & tt & tt & tt & tt & tt & tt & o .result & o .claimed & o .first & o .second & o .third & tt) (meet p q),
   );
 }
 
