@@ -1,4 +1,5 @@
--- 01 "Checked examples": P1 to P12 as one list. Each entry has what the definitions that the promises cite compute, and then what 01 says that it is.
+-- 01 "Checked examples": P1 to P12 as one list. Each entry has what the definitions that the promises cite compute, and then what 01
+-- says that it is.
 use Prim.Native.Nat.{ℕ}
 use mathlib.Core.List.{List, [], _∷_}
 use lib.IntN.{ℤ, pos}
@@ -20,7 +21,8 @@ use Rattle.matching.specs.Calls.{numbersCall, coefficientsSays}
 use Rattle.verdicts.specs.Call.{mostLines}
 use Rattle.cases.specs.SheetGraph.{sheetGraph}
 
--- what is computed: a line read; a kernel's answer and what stands in its result area, or in the two of LCC; a verdict; a book's areas and its group count
+-- what is computed: a line read; a kernel's answer and what stands in its result area, or in the two of LCC; a verdict; a book's areas
+-- and its group count
 pub data Value : Type 0 where
   reads : LineSaid ℤ → Value
   results : Said (Unit {0}) → List ℤ → Value
@@ -38,7 +40,7 @@ infix 20 _is_
 abbrev pub _is_ : Value → Value → Case
 computed is expected = record { computed = computed; expected = expected }
 
--- areas of five places, one for each vertex of the sheet's graph
+-- an area of five places, one for each vertex of the sheet's graph
 abbrev lentZ : List ℤ
 lentZ = replicate 5 (pos 0)
 
@@ -46,7 +48,7 @@ lentZ = replicate 5 (pos 0)
 abbrev lentN : List ℕ
 lentN = replicate 5 0
 
--- what the four kernels leave on the sheet's graph
+-- BFS from a root, on the sheet's graph: the answer, and the depths in the result area
 abbrev bfsFrom : ℤ → Value
 bfsFrom root = let o = B.bfsCall sheetGraph root lentZ lentN in results (o .said) (o .depth)
 
@@ -114,12 +116,12 @@ cases =
     is books (areas (0 ∷ 0 ∷ 0 ∷ 2 ∷ []) (4 ∷ 1 ∷ 2 ∷ 1 ∷ [])) (gives 1))
     ∷ []
 
--- the two sides of every entry
+-- the first side: what the definitions compute, of every entry
 abbrev pub computeds : List Case → List Value
 computeds [] = []
 computeds (c ∷ l) = c .computed ∷ computeds l
 
--- the second side: what 01 says of every entry
+-- the second side: what 01 says, of every entry
 abbrev pub expecteds : List Case → List Value
 expecteds [] = []
 expecteds (c ∷ l) = c .expected ∷ expecteds l

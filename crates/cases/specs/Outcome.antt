@@ -24,9 +24,10 @@ module _ (f : Ended) (contract : Contract f) where
   abbrev Ensures : Type 2
   Ensures =
       (M : Type 1) (𝓤 : URA M) (H : Heap 𝓤) (A : Atoms 𝓤) (mem : Memory → SProp 𝓤) (run : Routine → Fun 𝓤)
-      (κs : Lfts (f .signature .lifetimes)) (a : Args (f .signature) κs) → contract M 𝓤 H A mem run κs a .ghost → Res (f .signature) κs → AtExit f κs → SProp 𝓤
+      (κs : Lfts (f .signature .lifetimes)) (a : Args (f .signature) κs)
+      → contract M 𝓤 H A mem run κs a .ghost → Res (f .signature) κs → AtExit f κs → SProp 𝓤
 
-  -- the contract's `ensures`, and a plain promise as an `ensures`
+  -- the contract's `ensures`
   abbrev pub ensured : Ensures
   ensured M 𝓤 H A mem run κs a g z e = contract M 𝓤 H A mem run κs a .ensures g z e
 
@@ -34,14 +35,17 @@ module _ (f : Ended) (contract : Contract f) where
   abbrev pub promised : Promise f → Ensures
   promised P M 𝓤 H A mem run κs a g z e = fact 𝓤 (P κs a z e)
 
-  -- A function has one outcome, of whose answer so much is read: z and z′ are answers, w and w′ what stands at exit in the areas lent for writing.
-  pub record OneAs {A : Lfts (f .signature .lifetimes) → Type 0} (read : (κs : Lfts (f .signature .lifetimes)) → Res (f .signature) κs → A κs) : Type 2 where
+  -- A function has one outcome, of whose answer so much is read: z and z′ are answers, w and w′ what stands at exit in the areas lent
+  -- for writing.
+  pub record OneAs {A : Lfts (f .signature .lifetimes) → Type 0}
+      (read : (κs : Lfts (f .signature .lifetimes)) → Res (f .signature) κs → A κs) : Type 2 where
     pub promise : Promise f
     -- the promise is the whole `ensures`
     pub told : ensured ≡ promised promise
     -- "any two outcomes it allows are equal", of the same arguments
     pub one : (κs : Lfts (f .signature .lifetimes)) (a : Args (f .signature) κs) (z z′ : Res (f .signature) κs) (w w′ : Lasts f κs a)
-        → promise κs a z (atExit f κs a w) → promise κs a z′ (atExit f κs a w′) → (read κs z ≡ read κs z′) × (w ≡ w′)
+        → promise κs a z (atExit f κs a w) → promise κs a z′ (atExit f κs a w′)
+        → (read κs z ≡ read κs z′) × (w ≡ w′)
 
   -- the same of the whole answer
   abbrev pub One : Type 2

@@ -6,14 +6,14 @@ use Rattle.graph.specs.Sound.{Graph, lent}
 use Rattle.load.specs.Load.{Outcome, roomOf, library, loadCall}
 
 -- the size that a load gives; none where it is refused
-abbrev sizeOf : Said Size → Size
-sizeOf (gives size) = size
-sizeOf (refuses r) = record { vertices = 0; arcs = 0 }
+abbrev sizeGiven : Said Size → Size
+sizeGiven (gives size) = size
+sizeGiven (refuses r) = record { vertices = 0; arcs = 0 }
 
 -- the graph that a load leaves in its areas
-abbrev graphOf : Outcome → Graph
-graphOf o = lent (sizeOf (o .answer)) (o .ids) (o .outOffsets) (o .outTargets) (o .inOffsets) (o .inSources)
+abbrev loadedGraph : Outcome → Graph
+loadedGraph o = lent (sizeGiven (o .answer)) (o .ids) (o .outOffsets) (o .outTargets) (o .inOffsets) (o .inSources)
 
 -- "directed / 5 / -3 / 2 / 5 / 9 / 20 / 5 / 2 5 / 2 9 / 5 2 / 5 9 / 9 20", in areas of as many places as it needs
 abbrev pub sheetGraph : Graph
-sheetGraph = graphOf (loadCall library 1 (roomOf 5 6 5 6 5) (bytes "-3\n2\n5\n9\n20\n") (bytes "2 5\n2 9\n5 2\n5 9\n9 20\n"))
+sheetGraph = loadedGraph (loadCall library 1 (roomOf 5 6 5 6 5) (bytes "-3\n2\n5\n9\n20\n") (bytes "2 5\n2 9\n5 2\n5 9\n9 20\n"))

@@ -1,7 +1,14 @@
 // A program beside the layers. Runs what the rules say to run at the library's limits; what it prints is stored beside it.
 use basis::Refusal;
+use basis::limits::MOST_VERTICES;
 use load::Limits;
 use load::Loaded;
+
+// One line fewer than a vertex file may have.
+const ONE_FEWER: usize = MOST_VERTICES - 1;
+
+// One line more.
+const ONE_MORE: usize = MOST_VERTICES + 1;
 
 fn words(text: &[u8]) {
     io::write_all(1, text);
@@ -35,10 +42,10 @@ fn refused(r: Refusal) {
 
 // A load of a vertex file and no edges into areas of the library's size.
 fn run(vertices: &[u8]) {
-    let mut ids = [0i64; 65536];
-    let mut out_offsets = [0usize; 65537];
+    let mut ids = [0i64; MOST_VERTICES];
+    let mut out_offsets = [0usize; MOST_VERTICES + 1];
     let mut out_targets = [0usize; 1];
-    let mut in_offsets = [0usize; 65537];
+    let mut in_offsets = [0usize; MOST_VERTICES + 1];
     let mut in_sources = [0usize; 1];
     shown(load::load(
         1,
@@ -52,15 +59,16 @@ fn run(vertices: &[u8]) {
     ));
 }
 
-// Vertex files of 65,535, 65,536 and 65,537 lines, the numbers from 0 on, written as they are loaded; the end of the last.
+// Vertex files of one line fewer than the limit, as many and one more, the numbers from 0 on, each loaded once it is written; the end of
+// the last.
 fn fill(text: &mut [u8]) -> usize {
     let mut at = 0;
     let mut line = 0;
-    while line < 65537 {
+    while line < ONE_MORE {
         let past = write::numbers::put_number(text, at, line);
         at = write::bytes::put(text, past, 10);
         line += 1;
-        if 65534 < line {
+        if ONE_FEWER <= line {
             front(text, at);
         }
     }

@@ -16,7 +16,7 @@ use Rattle.text.specs.Line.{lineBy, twoOf}
 use Rattle.text.specs.File.{noTest, GoodFile, FirstFault}
 use Rattle.text.specs.declared.decimal.Decimal.{Decimal}
 use Rattle.text.proofs.Files.{file-accepted, file-refused}
-use Rattle.matching.specs.Claim.{claimLines, numberLines, coefficientLines, valuesOf}
+use Rattle.matching.specs.Claim.{claimLines, numberLines, coefficientLines, claimedOf}
 use Rattle.matching.specs.Verdict.{Verdict, matched, incompleteAt, mismatchAt, Fraction}
 use Rattle.matching.specs.Verdict.{near, unequalLine, unlikeLine, farLine, judgedBy}
 use Rattle.matching.specs.Good.{Least, Alike, Differs, Disagrees, EqualWhere, Judges}
@@ -85,9 +85,9 @@ module _ {A : Type 0} (word : List ℕ → Word A) (most : ℕ) (ids : List ℤ)
                 lines = h .0;
                 file = claim-read word most s (h .0) .0 (h .1);
                 complete = m .0;
-                matches = match (valuesOf (h .0)) .0 (m .1);
+                matches = match (claimedOf (h .0)) .0 (m .1);
               },
-          λ g. read-as (g .file) (accepted-exactly ids mismatch (g .lines) .1 (g .complete, match (valuesOf (g .lines)) .1 (g .matches))),
+          λ g. read-as (g .file) (accepted-exactly ids mismatch (g .lines) .1 (g .complete, match (claimedOf (g .lines)) .1 (g .matches))),
         );
         incomplete = λ i. (
           λ e.
@@ -107,9 +107,10 @@ module _ {A : Type 0} (word : List ℕ → Word A) (most : ℕ) (ids : List ℤ)
                 lines = h .0;
                 file = claim-read word most s (h .0) .0 (h .1);
                 complete = m .0;
-                first = wrong (valuesOf (h .0)) i .0 (m .1);
+                first = wrong (claimedOf (h .0)) i .0 (m .1);
               },
-          λ g. read-as (g .file) (mismatch-exactly ids mismatch (g .lines) i .1 (g .complete, wrong (valuesOf (g .lines)) i .1 (g .first))),
+          λ g. read-as (g .file) (mismatch-exactly ids mismatch (g .lines) i .1
+              (g .complete, wrong (claimedOf (g .lines)) i .1 (g .first))),
         );
         refused = λ r. (
           λ e. claim-refused word most s r .0 (on-fault ids mismatch read r .0 e),

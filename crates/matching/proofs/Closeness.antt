@@ -13,7 +13,7 @@ use Rattle.text.specs.Decimal.{decimal}
 use Rattle.text.specs.declared.decimal.Decimal.{Decimal}
 use Rattle.matching.specs.declared.close.Order.{Order}
 use Rattle.matching.specs.declared.close.Order.the-variants.{Less, Equal, Greater}
-use Rattle.matching.specs.Close.{apart, isClose}
+use Rattle.matching.specs.Close.{distance, isClose}
 use Rattle.matching.specs.Steps.{orderOf, isLess, isGreater}
 
 -- ---- the order of two numbers, from a fact and back
@@ -72,13 +72,15 @@ same-test {a} {b} {c} {d} f g = go (leb c d) refl
 pub cancel : (x y c : ℕ) → 0 < c → leb (x * c) (y * c) ≡ leb x y
 cancel x y c p = same-test (λ h. le-of-mul-le-mul-right h p) (λ h. mul-le-mul-right c h)
 
-pub window : (x y : ℕ) → leb (10000 * apart x y) x ≡ (leb (9999 * x) (10000 * y) && leb (10000 * y) (10001 * x))
+pub window : (x y : ℕ) → leb (10000 * distance x y) x ≡ (leb (9999 * x) (10000 * y) && leb (10000 * y) (10001 * x))
 window x y = go (leb (9999 * x) (10000 * y)) (leb (10000 * y) (10001 * x)) refl refl
   where
-    go : (p q : Bool) → leb (9999 * x) (10000 * y) ≡ p → leb (10000 * y) (10001 * x) ≡ q → leb (10000 * apart x y) x ≡ (p && q)
-    go true true e f = le-leb (10000 * apart x y) x (omega (arith, leb-true (9999 * x) (10000 * y) e, leb-true (10000 * y) (10001 * x) f))
-    go true false e f = lt-leb (10000 * apart x y) x (omega (arith, leb-true (9999 * x) (10000 * y) e, leb-false (10000 * y) (10001 * x) f))
-    go false q e f = lt-leb (10000 * apart x y) x (omega (arith, leb-false (9999 * x) (10000 * y) e))
+    go : (p q : Bool) → leb (9999 * x) (10000 * y) ≡ p → leb (10000 * y) (10001 * x) ≡ q → leb (10000 * distance x y) x ≡ (p && q)
+    go true true e f =
+        le-leb (10000 * distance x y) x (omega (arith, leb-true (9999 * x) (10000 * y) e, leb-true (10000 * y) (10001 * x) f))
+    go true false e f =
+        lt-leb (10000 * distance x y) x (omega (arith, leb-true (9999 * x) (10000 * y) e, leb-false (10000 * y) (10001 * x) f))
+    go false q e f = lt-leb (10000 * distance x y) x (omega (arith, leb-false (9999 * x) (10000 * y) e))
 
 pub ten-pos : (k : ℕ) → 0 < 10 ^ k
 ten-pos k = one-le-pow k 10 (omega arith)
@@ -138,20 +140,20 @@ close-up a b n u w c h p l =
 -- no fraction at all
 pub close-none : (a n u w : ℕ) → isClose a 0 (decimal n u w) ≡ eqb a 0
 unfolding isClose
-close-none zero n u w = le-leb (10000 * apart (0 * 10 ^ w) (0 * (n * 10 ^ u))) (0 * 10 ^ w) (omega arith)
+close-none zero n u w = le-leb (10000 * distance (0 * 10 ^ w) (0 * (n * 10 ^ u))) (0 * 10 ^ w) (omega arith)
 close-none (suc a) n u w =
     let p : 0 < suc a * 10 ^ w = mul-pos (omega arith) (ten-pos w) in
-    lt-leb (10000 * apart (suc a * 10 ^ w) (0 * (n * 10 ^ u))) (suc a * 10 ^ w) (omega arith) ∙ sym (eqb·suc-zero a)
+    lt-leb (10000 * distance (suc a * 10 ^ w) (0 * (n * 10 ^ u))) (suc a * 10 ^ w) (omega arith) ∙ sym (eqb·suc-zero a)
 
 -- "r = 0 matches only zero"
 pub zero-only : (b n u w : ℕ) → 0 < b → isClose 0 b (decimal n u w) ≡ eqb n 0
 unfolding isClose
-zero-only b zero u w p = le-leb (10000 * apart (0 * 10 ^ w) (b * (0 * 10 ^ u))) (0 * 10 ^ w) (omega arith)
+zero-only b zero u w p = le-leb (10000 * distance (0 * 10 ^ w) (b * (0 * 10 ^ u))) (0 * 10 ^ w) (omega arith)
 zero-only b (suc n) u w p =
     let q : 0 < b * (suc n * 10 ^ u) = mul-pos p (mul-pos (omega arith) (ten-pos u)) in
-    lt-leb (10000 * apart (0 * 10 ^ w) (b * (suc n * 10 ^ u))) (0 * 10 ^ w) (omega arith) ∙ sym (eqb·suc-zero n)
+    lt-leb (10000 * distance (0 * 10 ^ w) (b * (suc n * 10 ^ u))) (0 * 10 ^ w) (omega arith) ∙ sym (eqb·suc-zero n)
 
--- ---- the ways out of `close`: r is what `between` answers
+-- ---- the ways out of `close`: r is what `enclosed` answers
 module _ (a b : ℕ) (s : Decimal) where
   pub close-zero : b ≡ 0 → eqb a 0 ≡ isClose a b s
   close-zero e = rw e (sym (close-none a (s .digits) (s .up) (s .down)))

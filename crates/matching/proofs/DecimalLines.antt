@@ -28,9 +28,9 @@ use Rattle.text.proofs.Places.{coefficient-range}
 use Rattle.text.proofs.Files.{Passed, passed-none, passed-next, passed-end, passed-fault, passed-full, passed-over}
 use Rattle.matching.specs.declared.judged.Judged.{Judged}
 use Rattle.matching.specs.Close.{isClose}
-use Rattle.matching.specs.Claim.{coefficientLines, idsOf, valuesOf}
+use Rattle.matching.specs.Claim.{coefficientLines, idsOf, claimedOf}
 use Rattle.matching.specs.Verdict.{Verdict, Fraction, incompleteLine, verdictOf, says, judgedBy}
-use Rattle.matching.specs.Calls.{nearWithin, farWithin, fractionAt, fractions, coefficientsSays}
+use Rattle.matching.specs.Calls.{nearWithin, farWithin, fractionIn, fractions, coefficientsSays}
 use Rattle.matching.specs.Steps.{placeLine, coverStep, nearStep, endLine}
 use Rattle.matching.proofs.FirstLines.{bits-back, Against, against-none, against-next, against-end}
 use Rattle.matching.proofs.Readings.{ids-more, values-more}
@@ -55,17 +55,17 @@ pub record Decimals (most : ℕ) (ids : List ℤ) (nums dens : List ℕ) (s : Li
   pub done : List (ℤ × Decimal)
   pub passed : Passed (twoOf identOf decimalOf) claimFile most noTest s done place k
   pub covers : Against sameZ ids (idsOf done) k incomplete
-  pub nears : Against nearWithin (fractions (length ids) nums dens) (valuesOf done) k mismatch
+  pub nears : Against nearWithin (fractions (length ids) nums dens) (claimedOf done) k mismatch
 
 -- the fraction at a place below n, and any at the others
 placed : (n : ℕ) (nums dens : List ℕ) (k : ℕ) (d : Decimal)
     → placeLine (length (fractions n nums dens)) k (nearWithin (getD (fractions n nums dens) k (0, 0)) d)
-    ≡ placeLine n k (nearWithin (fractionAt nums dens k) d)
+    ≡ placeLine n k (nearWithin (fractionIn nums dens k) d)
 placed n nums dens k d =
-    rw (column-length (fractionAt nums dens) 0 n)
+    rw (column-length (fractionIn nums dens) 0 n)
     (bool-cases (ltb k n) (placeLine n k (nearWithin (getD (fractions n nums dens) k (0, 0)) d)
-    ≡ placeLine n k (nearWithin (fractionAt nums dens k) d))
-    (λ l. ap (λ (r : Fraction). placeLine n k (nearWithin r d)) (column-at (fractionAt nums dens) n k (0, 0) (ltb-true k n l)))
+    ≡ placeLine n k (nearWithin (fractionIn nums dens k) d))
+    (λ l. ap (λ (r : Fraction). placeLine n k (nearWithin r d)) (column-at (fractionIn nums dens) n k (0, 0) (ltb-true k n l)))
     (λ l. rw l))
 
 module _ (most : ℕ) (ids : List ℤ) (nums dens : List ℕ) (s : List ℕ) where
@@ -89,9 +89,9 @@ module _ (most : ℕ) (ids : List ℤ) (nums dens : List ℕ) (s : List ℕ) whe
         covered : incompleteLine ids (idsOf (h .done)) ≡ endLine (length ids) k incomplete
         covered = against-end sameZ ids (pos 0) (idsOf (h .done)) k incomplete (h .covers)
 
-        far : farWithin (fractions (length ids) nums dens) (valuesOf (h .done)) ≡ orElse mismatch (cond (ltb k (length ids)) (k + 1) 0)
-        far = against-end nearWithin (fractions (length ids) nums dens) (0, 0) (valuesOf (h .done)) k mismatch (h .nears)
-            ∙ rw (column-length (fractionAt nums dens) 0 (length ids))
+        far : farWithin (fractions (length ids) nums dens) (claimedOf (h .done)) ≡ orElse mismatch (cond (ltb k (length ids)) (k + 1) 0)
+        far = against-end nearWithin (fractions (length ids) nums dens) (0, 0) (claimedOf (h .done)) k mismatch (h .nears)
+            ∙ rw (column-length (fractionIn nums dens) 0 (length ids))
 
         or-zero : (m : ℕ) → orElse m 0 ≡ m
         or-zero zero = refl
@@ -99,7 +99,7 @@ module _ (most : ℕ) (ids : List ℤ) (nums dens : List ℕ) (s : List ℕ) whe
 
         by : (i : ℕ) → i ≡ endLine (length ids) k incomplete
             → verdictOf i mismatch ≡ verdictOf (incompleteLine ids (idsOf (h .done)))
-            (farWithin (fractions (length ids) nums dens) (valuesOf (h .done)))
+            (farWithin (fractions (length ids) nums dens) (claimedOf (h .done)))
         by zero q =
             rw (covered, ← q, far, le-ltb k (length ids) (end-zero (length ids) k incomplete (sym q) .1))
             (ap (verdictOf 0) (sym (or-zero mismatch)))
@@ -130,7 +130,7 @@ module _ (most : ℕ) (ids : List ℤ) (nums dens : List ℕ) (s : List ℕ) whe
               covers = rw (ids-more (h .done) (id, d), r, bits-back id (coefficient-range s place id d (c .at) here))
                   (against-next sameZ ids (pos 0) (idsOf (h .done)) k incomplete (h .covers) id);
               nears = rw (values-more (h .done) (id, d), r′, ← placed (length ids) nums dens k d)
-                  (against-next nearWithin (fractions (length ids) nums dens) (0, 0) (valuesOf (h .done)) k mismatch (h .nears) d);
+                  (against-next nearWithin (fractions (length ids) nums dens) (0, 0) (claimedOf (h .done)) k mismatch (h .nears) d);
             }
           where
             here : coefficientLine s place ≡ line (id, d) (c .at)

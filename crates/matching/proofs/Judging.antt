@@ -19,7 +19,7 @@ use Rattle.matching.specs.declared.numbers.Rule.{Rule}
 use Rattle.matching.specs.declared.numbers.Rule.the-variants.{Exact, Equivalence}
 use Rattle.matching.specs.declared.reading.Read.{Read}
 use Rattle.matching.specs.declared.reading.Read.the-variants.{Lines, Fault}
-use Rattle.matching.specs.Claim.{numberLines, idsOf, valuesOf}
+use Rattle.matching.specs.Claim.{numberLines, idsOf, claimedOf}
 use Rattle.matching.specs.Verdict.{Verdict, matched, incompleteAt, mismatchAt, says, unequalLine}
 use Rattle.matching.specs.Verdict.{unlikeLine, mismatchLine, verdictOf, incompleteLine, judgedBy}
 use Rattle.matching.specs.Calls.{outcome, numbersCall}
@@ -92,9 +92,9 @@ module _ (rule : Rule) (most : ℕ) (ids reference : List ℤ) (s : List ℕ) (c
     read-as (Fault r) h = rw h
     read-as (Lines i) h = rw (h .are) (ap gives (by i (h .first) (h .values)))
       where
-        by : (i : ℕ) → i ≡ incompleteLine ids (idsOf (h .lines)) → (i ≡ 0 → take (length ids) mid ≡ valuesOf (h .lines))
+        by : (i : ℕ) → i ≡ incompleteLine ids (idsOf (h .lines)) → (i ≡ 0 → take (length ids) mid ≡ claimedOf (h .lines))
             → verdictOf i (mismatchLine rule (take (length ids) reference) (take (length ids) mid))
-            ≡ verdictOf (incompleteLine ids (idsOf (h .lines))) (mismatchLine rule (take (length ids) reference) (valuesOf (h .lines)))
+            ≡ verdictOf (incompleteLine ids (idsOf (h .lines))) (mismatchLine rule (take (length ids) reference) (claimedOf (h .lines)))
         by zero p v = rw (← p, v refl)
         by (suc i) p v = rw (← p)
 

@@ -22,33 +22,35 @@ use Rattle.text.proofs.Files.{file-accepted, passes-all}
 use Rattle.write.specs.Number.{signedText}
 use Rattle.write.proofs.Texts.{signed-without}
 use Rattle.write.proofs.Back.{ident-back}
-use Rattle.matching.specs.Claim.{claimLines, numberLines, coefficientLines, idsOf, valuesOf}
+use Rattle.matching.specs.Claim.{claimLines, numberLines, coefficientLines, idsOf, claimedOf}
 use Rattle.matching.specs.Verdict.{Fraction, near, unequalLine, unlikeLine, farLine, judgedBy}
 use Rattle.matching.specs.Good.{Alike}
 use Rattle.matching.proofs.Meaning.{accepted, exact-match, epsilon-match, equivalence-match, renamed}
 
 -- a line to be written: its identifier, its value and the value's bytes
-pub record Line (A : Type 0) : Type 0 where
+pub record WrittenLine (A : Type 0) : Type 0 where
   pub id : ℤ
   pub text : List ℕ
   pub is : A
 
 -- "identifier, one space, value", each ended by one LF
-unfoldable pub claimText : {A : Type 0} → List (Line A) → List ℕ
+unfoldable pub claimText : {A : Type 0} → List (WrittenLine A) → List ℕ
 claimText [] = []
 claimText (x ∷ l) = signedText (x .id) ++ (space ∷ (x .text ++ (lf ∷ claimText l)))
 
-abbrev pub linesOf : {A : Type 0} → List (Line A) → List (ℤ × A)
-linesOf [] = []
-linesOf (x ∷ l) = (x .id, x .is) ∷ linesOf l
+-- the identifiers and values that written lines say
+abbrev pub pairsOf : {A : Type 0} → List (WrittenLine A) → List (ℤ × A)
+pairsOf [] = []
+pairsOf (x ∷ l) = (x .id, x .is) ∷ pairsOf l
 
 -- the identifier is in range, and the bytes say the value on one line
-pub record Spelled {A : Type 0} (word : List ℕ → Word A) (x : Line A) : Type 0 where
+pub record Spelled {A : Type 0} (word : List ℕ → Word A) (x : WrittenLine A) : Type 0 where
   pub fits : SFits w64 (x .id)
   pub said : word (x .text) ≡ value (x .is)
   pub inLine : mem lf (x .text) ≡ false
 
-abbrev pub AllSpelled : {A : Type 0} → (List ℕ → Word A) → List (Line A) → Type 0
+-- all lines are written so
+abbrev pub AllSpelled : {A : Type 0} → (List ℕ → Word A) → List (WrittenLine A) → Type 0
 AllSpelled word [] = Unit {0}
 AllSpelled word (x ∷ l) = Spelled word x × AllSpelled word l
 
@@ -58,7 +60,7 @@ past-cut c (b ∷ bs) r h =
     past-more c b (bs ++ c ∷ r) (ne-eqb c b (λ e. eqb-false b c (not-head c b bs h) (sym e))) ∙ past-cut c bs r (not-tail c b bs h)
 
 -- ---- one line
-module _ {A : Type 0} (word : List ℕ → Word A) (x : Line A) (h : Spelled word x) where
+module _ {A : Type 0} (word : List ℕ → Word A) (x : WrittenLine A) (h : Spelled word x) where
   abbrev lineText : List ℕ
   lineText = signedText (x .id) ++ (space ∷ x .text)
 
@@ -82,46 +84,48 @@ module _ {A : Type 0} (word : List ℕ → Word A) (x : Line A) (h : Spelled wor
   unbroken = mem-join lf (signedText (x .id)) (space ∷ x .text) (signed-without (x .id) lf refl) (h .inLine)
 
 -- ---- all lines
-abbrev wordsOf : {A : Type 0} → List (Line A) → List (List ℕ)
+abbrev wordsOf : {A : Type 0} → List (WrittenLine A) → List (List ℕ)
 wordsOf [] = []
 wordsOf (x ∷ l) = (signedText (x .id) ++ (space ∷ x .text)) ∷ wordsOf l
 
-written : {A : Type 0} (l : List (Line A)) → claimText l ≡ joined (wordsOf l)
+written : {A : Type 0} (l : List (WrittenLine A)) → claimText l ≡ joined (wordsOf l)
 unfolding claimText
 written [] = refl
 written (x ∷ l) =
     sym (append-assoc (signedText (x .id)) (space ∷ x .text) (lf ∷ claimText l))
     ∙ ap (λ (t : List ℕ). (signedText (x .id) ++ (space ∷ x .text)) ++ lf ∷ t) (written l)
 
-spoken : {A : Type 0} (word : List ℕ → Word A) (l : List (Line A)) → AllSpelled word l → Says (twoOf identOf word) (wordsOf l) (linesOf l)
+spoken : {A : Type 0} (word : List ℕ → Word A) (l : List (WrittenLine A)) → AllSpelled word l
+    → Says (twoOf identOf word) (wordsOf l) (pairsOf l)
 spoken word [] h = tt
 spoken word (x ∷ l) h = (unbroken word x (h .0), two-back word x (h .0), spoken word l (h .1))
 
-lines-length : {A : Type 0} (l : List (Line A)) → length (linesOf l) ≡ length l
-lines-length [] = refl
-lines-length (x ∷ l) = ap suc (lines-length l)
+pairs-length : {A : Type 0} (l : List (WrittenLine A)) → length (pairsOf l) ≡ length l
+pairs-length [] = refl
+pairs-length (x ∷ l) = ap suc (pairs-length l)
 
 -- the lines that a claim's text was written from
-lines-back : {A : Type 0} (word : List ℕ → Word A) (most : ℕ) (l : List (Line A)) → AllSpelled word l → length l ≤ most
-    → claimLines (lineBy (twoOf identOf word)) most (claimText l) ≡ gives (linesOf l)
+lines-back : {A : Type 0} (word : List ℕ → Word A) (most : ℕ) (l : List (WrittenLine A)) → AllSpelled word l → length l ≤ most
+    → claimLines (lineBy (twoOf identOf word)) most (claimText l) ≡ gives (pairsOf l)
 lines-back word most l h f =
-    file-accepted (twoOf identOf word) claimFile most noTest (claimText l) (linesOf l) .1
+    file-accepted (twoOf identOf word) claimFile most noTest (claimText l) (pairsOf l) .1
     (record {
       lines = record { words = wordsOf l; whole = written l; values = spoken word l h };
-      few = omega (arith, lines-length l);
-      pass = passes-all first (linesOf l);
+      few = omega (arith, pairs-length l);
+      pass = passes-all first (pairsOf l);
     })
 
 module _ (most : ℕ) where
-  pub numbers-back : (l : List (Line ℤ)) → AllSpelled identOf l → length l ≤ most → numberLines most (claimText l) ≡ gives (linesOf l)
+  pub numbers-back : (l : List (WrittenLine ℤ)) → AllSpelled identOf l → length l ≤ most
+      → numberLines most (claimText l) ≡ gives (pairsOf l)
   numbers-back l h f = lines-back identOf most l h f
 
-  pub coefficients-back : (l : List (Line Decimal)) → AllSpelled decimalOf l → length l ≤ most
-      → coefficientLines most (claimText l) ≡ gives (linesOf l)
+  pub coefficients-back : (l : List (WrittenLine Decimal)) → AllSpelled decimalOf l → length l ≤ most
+      → coefficientLines most (claimText l) ≡ gives (pairsOf l)
   coefficients-back l h f = lines-back decimalOf most l h f
 
 -- ---- a claim that lists the reference output
-abbrev pub listed : List ℤ → List ℤ → List (Line ℤ)
+abbrev pub listed : List ℤ → List ℤ → List (WrittenLine ℤ)
 listed [] values = []
 listed (i ∷ ids) [] = []
 listed (i ∷ ids) (v ∷ values) = record { id = i; text = signedText v; is = v } ∷ listed ids values
@@ -138,12 +142,12 @@ listed-spelled (i ∷ ids) [] f g = tt
 listed-spelled (i ∷ ids) (v ∷ values) f g =
     (record { fits = f .0; said = ident-back v (g .0); inLine = signed-without v lf refl }, listed-spelled ids values (f .1) (g .1))
 
-listed-ids : (ids values : List ℤ) → length ids ≡ length values → idsOf (linesOf (listed ids values)) ≡ ids
+listed-ids : (ids values : List ℤ) → length ids ≡ length values → idsOf (pairsOf (listed ids values)) ≡ ids
 listed-ids [] values e = refl
 listed-ids (i ∷ ids) [] e = absurd (omega arith)
 listed-ids (i ∷ ids) (v ∷ values) e = ap (λ l. i ∷ l) (listed-ids ids values (omega arith))
 
-listed-values : (ids values : List ℤ) → length ids ≡ length values → valuesOf (linesOf (listed ids values)) ≡ values
+listed-values : (ids values : List ℤ) → length ids ≡ length values → claimedOf (pairsOf (listed ids values)) ≡ values
 listed-values [] [] e = refl
 listed-values [] (v ∷ values) e = absurd (omega arith)
 listed-values (i ∷ ids) [] e = absurd (omega arith)
@@ -156,13 +160,13 @@ listed-length (i ∷ ids) (v ∷ values) = let h = listed-length ids values in o
 
 module _ (most : ℕ) (ids : List ℤ) (few : length ids ≤ most) (fits : AllFit ids) where
   module _ (values : List ℤ) (long : length ids ≡ length values) (fit : AllFit values) where
-    lines : numberLines most (claimText (listed ids values)) ≡ gives (linesOf (listed ids values))
+    lines : numberLines most (claimText (listed ids values)) ≡ gives (pairsOf (listed ids values))
     lines = numbers-back most (listed ids values) (listed-spelled ids values fits fit) (let h = listed-length ids values in omega arith)
 
     -- "the vertex values of the system's output" are the reference output
     pub exact-own : judgedBy ids (unequalLine values) (numberLines most (claimText (listed ids values))) ≡ accepted
     exact-own =
-        rw lines (exact-match ids values (linesOf (listed ids values)) (listed-ids ids values long) .1 (listed-values ids values long))
+        rw lines (exact-match ids values (pairsOf (listed ids values)) (listed-ids ids values long) .1 (listed-values ids values long))
 
     -- they are a reference output renamed
     pub equivalence-own : (f : ℤ → ℤ) → ((x y : ℤ) → f x ≡ f y → x ≡ y) → (reference : List ℤ) → length reference ≡ length ids
@@ -170,12 +174,12 @@ module _ (most : ℕ) (ids : List ℤ) (few : length ids ≤ most) (fits : AllFi
         → judgedBy ids (unlikeLine reference) (numberLines most (claimText (listed ids values))) ≡ accepted
     equivalence-own f apart reference n e =
         rw lines
-        (equivalence-match ids reference (linesOf (listed ids values)) n (listed-ids ids values long) .1
+        (equivalence-match ids reference (pairsOf (listed ids values)) n (listed-ids ids values long) .1
         (rw (listed-values ids values long, e) (renamed f apart reference)))
 
   -- they are decimals, in any spelling, each close to its fraction
-  pub epsilon-own : (any : Decimal) (reference : List Fraction) (l : List (Line Decimal)) → AllSpelled decimalOf l → length l ≤ most
-      → idsOf (linesOf l) ≡ ids
-      → Alike near (0, 1) any reference (valuesOf (linesOf l))
+  pub epsilon-own : (any : Decimal) (reference : List Fraction) (l : List (WrittenLine Decimal)) → AllSpelled decimalOf l → length l ≤ most
+      → idsOf (pairsOf l) ≡ ids
+      → Alike near (0, 1) any reference (claimedOf (pairsOf l))
       → judgedBy ids (farLine reference) (coefficientLines most (claimText l)) ≡ accepted
-  epsilon-own any reference l h f e a = rw (coefficients-back most l h f) (epsilon-match any ids reference (linesOf l) e .1 a)
+  epsilon-own any reference l h f e a = rw (coefficients-back most l h f) (epsilon-match any ids reference (pairsOf l) e .1 a)

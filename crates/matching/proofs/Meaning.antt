@@ -18,21 +18,21 @@ use Rattle.basis.proofs.Tests.{clash, bool-cases, same-test}
 use Rattle.basis.proofs.Saids.{given-one}
 use Rattle.basis.proofs.Orders.{signed-order}
 use Rattle.text.specs.declared.decimal.Decimal.{Decimal}
-use Rattle.matching.specs.Close.{apart, isClose}
-use Rattle.matching.specs.Claim.{idsOf, valuesOf}
+use Rattle.matching.specs.Close.{distance, isClose}
+use Rattle.matching.specs.Claim.{idsOf, claimedOf}
 use Rattle.matching.specs.Verdict.{Verdict, matched, incompleteAt, mismatchAt, Fraction, near, firstLine}
 use Rattle.matching.specs.Verdict.{incompleteLine, unequalLine, sameKind, unlikeLine, farLine, verdictOf, judgedBy}
 use Rattle.matching.specs.Good.{Least, Alike, Differs, EqualWhere, TwoWay}
 use Rattle.matching.proofs.Closeness.{cancel, window, ten-pos, zero-only}
 use Rattle.matching.proofs.Leasts.{first-least, line-exactly, unlike-none}
-use Rattle.matching.proofs.Readings.{ids-length, values-length}
+use Rattle.matching.proofs.Readings.{ids-length, claimed-length}
 
 -- ---- "10,000 times |r-s| at most r": what matches the fraction a / b
 module _ (a b : ℕ) (s : Decimal) where
   -- "Equality matches"
   pub equality-matches : a * 10 ^ s .down ≡ b * (s .digits * 10 ^ s .up) → isClose a b s ≡ true
   unfolding isClose
-  equality-matches e = le-leb (10000 * apart (a * 10 ^ s .down) (b * (s .digits * 10 ^ s .up))) (a * 10 ^ s .down) (omega arith)
+  equality-matches e = le-leb (10000 * distance (a * 10 ^ s .down) (b * (s .digits * 10 ^ s .up))) (a * 10 ^ s .down) (omega arith)
 
   -- "r = 0 matches only zero"; a fraction has a denominator
   pub zero-matches : 0 < b → a ≡ 0 → (isClose a b s ≡ true) ↔ (s .digits ≡ 0)
@@ -45,7 +45,7 @@ module _ (a b : ℕ) (s : Decimal) where
   unfolding isClose
   zero-matched z = (
     λ t.
-        let h : 10000 * apart (a * 10 ^ s .down) (b * (0 * 10 ^ s .up)) ≤ a * 10 ^ s .down = leb-true _ _ (rw z at t) in
+        let h : 10000 * distance (a * 10 ^ s .down) (b * (0 * 10 ^ s .up)) ≤ a * 10 ^ s .down = leb-true _ _ (rw z at t) in
         let g : a * 10 ^ s .down ≡ 0 = omega arith in
         bool-cases (eqb a 0) (a ≡ 0) (λ q. eqb-true a 0 q)
         (λ q. absurd (omega (arith, mul-pos (pos-of-ne-zero (eqb-false a 0 q)) (ten-pos (s .down))))),
@@ -111,10 +111,10 @@ module _ {A : Type 0} (ids : List ℤ) (mismatch : List A → ℕ) (l : List (�
   pub complete-exactly : (incompleteLine ids (idsOf l) ≡ 0) ↔ (idsOf l ≡ ids)
   complete-exactly = same-list ids (idsOf l)
 
-  pub accepted-exactly : (judgedBy ids mismatch (gives l) ≡ accepted) ↔ ((idsOf l ≡ ids) × (mismatch (valuesOf l) ≡ 0))
+  pub accepted-exactly : (judgedBy ids mismatch (gives l) ≡ accepted) ↔ ((idsOf l ≡ ids) × (mismatch (claimedOf l) ≡ 0))
   unfolding judgedBy
   accepted-exactly = (
-    λ e. let z = match-of (incompleteLine ids (idsOf l)) (mismatch (valuesOf l)) e in (complete-exactly .0 (z .0), z .1),
+    λ e. let z = match-of (incompleteLine ids (idsOf l)) (mismatch (claimedOf l)) e in (complete-exactly .0 (z .0), z .1),
     λ h. rw (complete-exactly .1 (h .0), h .1),
   )
 
@@ -125,31 +125,31 @@ module _ {A : Type 0} (ids : List ℤ) (mismatch : List A → ℕ) (l : List (�
   unfolding judgedBy
   incomplete-exactly i =
       let f = first-least sameZ (pos 0) (pos 0) ids (idsOf l) i in (
-        λ e. f .0 (incomplete-of (incompleteLine ids (idsOf l)) (mismatch (valuesOf l)) i e),
+        λ e. f .0 (incomplete-of (incompleteLine ids (idsOf l)) (mismatch (claimedOf l)) i e),
         λ h. rw (f .1 h),
       )
 
   -- "Verdict 21, only for a complete claim, is a mismatch at its first line."
   pub mismatch-exactly : (i : ℕ) → (judgedBy ids mismatch (gives l) ≡ gives (mismatchAt (suc i)))
-      ↔ ((idsOf l ≡ ids) × (mismatch (valuesOf l) ≡ suc i))
+      ↔ ((idsOf l ≡ ids) × (mismatch (claimedOf l) ≡ suc i))
   unfolding judgedBy
   mismatch-exactly i = (
-    λ e. let z = mismatch-of (incompleteLine ids (idsOf l)) (mismatch (valuesOf l)) i e in (complete-exactly .0 (z .0), z .1),
+    λ e. let z = mismatch-of (incompleteLine ids (idsOf l)) (mismatch (claimedOf l)) i e in (complete-exactly .0 (z .0), z .1),
     λ h. rw (complete-exactly .1 (h .0), h .1),
   )
 
-  by-match : {M : Type 0} → ((mismatch (valuesOf l) ≡ 0) ↔ M) → idsOf l ≡ ids → (judgedBy ids mismatch (gives l) ≡ accepted) ↔ M
+  by-match : {M : Type 0} → ((mismatch (claimedOf l) ≡ 0) ↔ M) → idsOf l ≡ ids → (judgedBy ids mismatch (gives l) ≡ accepted) ↔ M
   by-match x c = (λ e. x .0 (accepted-exactly .0 e .1), λ m. accepted-exactly .1 (c, x .1 m))
 
 -- ---- "Exact match": "the vertex values of the system's output should be identical to the reference output"
 pub exact-match : (ids reference : List ℤ) (l : List (ℤ × ℤ)) → idsOf l ≡ ids
-    → (judgedBy ids (unequalLine reference) (gives l) ≡ accepted) ↔ (valuesOf l ≡ reference)
-exact-match ids reference l = by-match ids (unequalLine reference) l (same-list reference (valuesOf l))
+    → (judgedBy ids (unequalLine reference) (gives l) ≡ accepted) ↔ (claimedOf l ≡ reference)
+exact-match ids reference l = by-match ids (unequalLine reference) l (same-list reference (claimedOf l))
 
 -- ---- "Epsilon match": every decimal is close to the fraction of its vertex
 pub epsilon-match : (any : Decimal) (ids : List ℤ) (reference : List Fraction) (l : List (ℤ × Decimal)) → idsOf l ≡ ids
-    → (judgedBy ids (farLine reference) (gives l) ≡ accepted) ↔ (Alike near (0, 1) any reference (valuesOf l))
-epsilon-match any ids reference l = by-match ids (farLine reference) l (line-exactly near (0, 1) any reference (valuesOf l))
+    → (judgedBy ids (farLine reference) (gives l) ≡ accepted) ↔ (Alike near (0, 1) any reference (claimedOf l))
+epsilon-match any ids reference l = by-match ids (farLine reference) l (line-exactly near (0, 1) any reference (claimedOf l))
 
 -- ---- "Equivalence match"
 -- what stands beside the first z in a list of keys
@@ -265,10 +265,10 @@ module _ (a b : List ℤ) where
     unlike-exactly = (λ h. two-way (kinds-of h), λ w. kinds-all (one-way w))
 
 pub equivalence-match : (ids reference : List ℤ) (l : List (ℤ × ℤ)) → length reference ≡ length ids → idsOf l ≡ ids
-    → (judgedBy ids (unlikeLine reference) (gives l) ≡ accepted) ↔ (TwoWay reference (valuesOf l))
+    → (judgedBy ids (unlikeLine reference) (gives l) ≡ accepted) ↔ (TwoWay reference (claimedOf l))
 equivalence-match ids reference l n c =
-    by-match ids (unlikeLine reference) l (unlike-exactly reference (valuesOf l)
-    (n ∙ ap length (sym c) ∙ ids-length l ∙ sym (values-length l))) c
+    by-match ids (unlikeLine reference) l (unlike-exactly reference (claimedOf l)
+    (n ∙ ap length (sym c) ∙ ids-length l ∙ sym (claimed-length l))) c
 
 -- a reference output under a renaming that keeps labels apart
 map-at : (f : ℤ → ℤ) (l : List ℤ) (i : ℕ) → i < length l → getD (map f l) i (pos 0) ≡ f (getD l i (pos 0))

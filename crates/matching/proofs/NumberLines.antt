@@ -25,7 +25,7 @@ use Rattle.text.specs.declared.line.EdgeLine.the-variants as EL
 use Rattle.text.proofs.Places.{edge-range}
 use Rattle.text.proofs.Files.{Passed, passed-none, passed-next, passed-end, passed-fault, passed-full, passed-over}
 use Rattle.matching.specs.declared.reading.Read.the-variants.{Lines, Fault}
-use Rattle.matching.specs.Claim.{numberLines, idsOf, valuesOf}
+use Rattle.matching.specs.Claim.{numberLines, idsOf, claimedOf}
 use Rattle.matching.specs.Steps.{coverStep, endLine, ReadOf}
 use Rattle.matching.proofs.FirstLines.{bits-back, Against, against-none, against-next, against-end}
 use Rattle.matching.proofs.Readings.{ids-more, values-more}
@@ -37,7 +37,7 @@ pub record Numbers (most : ℕ) (ids : List ℤ) (s : List ℕ) (size : ℕ) (cl
   pub covers : Against sameZ ids (idsOf done) k incomplete
   pub kept : length claimed ≡ size
   pub within : incomplete ≡ 0 → k ≤ length ids
-  pub stored : incomplete ≡ 0 → take k claimed ≡ valuesOf done
+  pub stored : incomplete ≡ 0 → take k claimed ≡ claimedOf done
 
 -- what follows where a step or an end finds nothing incomplete
 cover-zero : (ids : List ℤ) (k : ℕ) (id : ℤ) (incomplete : ℕ) → coverStep ids k id incomplete ≡ 0 → (incomplete ≡ 0) × (k < length ids)
@@ -126,7 +126,7 @@ module _ (most : ℕ) (ids : List ℤ) (s : List ℕ) where
             kept′ = bool-cases (ltb k (length ids)) _ (λ t. rw (t, length-set) (h .kept)) (λ t. rw t (h .kept))
 
             stored′ : (incomplete ≡ 0) × (k < length ids)
-                → take (k + 1) (cond (ltb k (length ids)) (set claimed k (toZ w64 (ofZ w64 v))) claimed) ≡ valuesOf (h .done) ++ (v ∷ [])
+                → take (k + 1) (cond (ltb k (length ids)) (set claimed k (toZ w64 (ofZ w64 v))) claimed) ≡ claimedOf (h .done) ++ (v ∷ [])
             stored′ f =
                 let g : k < length claimed = omega (arith, h .kept, f .1) in
                 rw (lt-ltb k (length ids) (f .1), add-one k)

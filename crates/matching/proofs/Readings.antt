@@ -4,13 +4,13 @@ use mathlib.Core.List.{List, [], _∷_, _++_}
 use Prim.Native.Nat.{suc}
 use lib.IntN.{ℤ}
 use lib.ListN.{length}
-use Rattle.matching.specs.Claim.{idsOf, valuesOf}
+use Rattle.matching.specs.Claim.{idsOf, claimedOf}
 
 pub ids-more : {A : Type 0} (l : List (ℤ × A)) (x : ℤ × A) → idsOf (l ++ (x ∷ [])) ≡ idsOf l ++ (x .0 ∷ [])
 ids-more [] x = refl
 ids-more (y ∷ l) x = ap (λ t. y .0 ∷ t) (ids-more l x)
 
-pub values-more : {A : Type 0} (l : List (ℤ × A)) (x : ℤ × A) → valuesOf (l ++ (x ∷ [])) ≡ valuesOf l ++ (x .1 ∷ [])
+pub values-more : {A : Type 0} (l : List (ℤ × A)) (x : ℤ × A) → claimedOf (l ++ (x ∷ [])) ≡ claimedOf l ++ (x .1 ∷ [])
 values-more [] x = refl
 values-more (y ∷ l) x = ap (λ t. y .1 ∷ t) (values-more l x)
 
@@ -18,6 +18,6 @@ pub ids-length : {A : Type 0} (l : List (ℤ × A)) → length (idsOf l) ≡ len
 ids-length [] = refl
 ids-length (x ∷ l) = ap suc (ids-length l)
 
-pub values-length : {A : Type 0} (l : List (ℤ × A)) → length (valuesOf l) ≡ length l
-values-length [] = refl
-values-length (x ∷ l) = ap suc (values-length l)
+pub claimed-length : {A : Type 0} (l : List (ℤ × A)) → length (claimedOf l) ≡ length l
+claimed-length [] = refl
+claimed-length (x ∷ l) = ap suc (claimed-length l)

@@ -21,7 +21,8 @@ pub record Outcome : Type 0 where
 abbrev pub outcome : Said Verdict → List ℤ → Outcome
 outcome said claimed = record { said = said; claimed = claimed }
 
--- 8, then the claim: the first n values of the reference output are those of the n vertices; "working areas are zero throughout"
+-- 8, then the claim of at most so many lines: the first n values of the reference output are those of the n vertices;
+-- "working areas are zero throughout"
 unfoldable pub numbersCall : Rule → ℕ → List ℤ → List ℤ → List ℕ → List ℤ → Outcome
 numbersCall rule most ids reference s claimed =
     outcome
@@ -29,24 +30,27 @@ numbersCall rule most ids reference s claimed =
     (judgedBy ids (mismatchLine rule (take (length ids) reference)) (numberLines most s)))
     (clearedZ claimed)
 
--- a fraction whose terms are below 2^32, as every coefficient's are, and a decimal near it
+-- a fraction's terms are below 2^32, as every coefficient's are, and a decimal is near it
 unfoldable pub nearWithin : Fraction → Decimal → Bool
 nearWithin r s = ltb (r .0) (2 ^ 32) && (ltb (r .1) (2 ^ 32) && near r s)
 
--- the first line whose decimal is not near its fraction in this way, or at which one of the two lists has ended; 0 where there is none
+-- the first line whose decimal is not near its fraction in this way, or at which one of the two lists has ended; or 0
 abbrev pub farWithin : List Fraction → List Decimal → ℕ
 farWithin reference claimed = firstLine nearWithin 1 reference claimed
 
 -- the fraction at a place of two areas, of numerators and of denominators
-abbrev pub fractionAt : List ℕ → List ℕ → ℕ → Fraction
-fractionAt nums dens i = (getD nums i 0, getD dens i 0)
+abbrev pub fractionIn : List ℕ → List ℕ → ℕ → Fraction
+fractionIn nums dens i = (getD nums i 0, getD dens i 0)
 
 -- the fractions at the first n places of two such areas
 abbrev pub fractions : ℕ → List ℕ → List ℕ → List Fraction
-fractions n nums dens = column (fractionAt nums dens) 0 n
+fractions n nums dens = column (fractionIn nums dens) 0 n
 
--- 8, then the claim of at most so many lines: the first n fractions of the reference output are those of the n vertices
+-- what is said of a claim of at most so many lines on n vertices, of which the first n fractions of the two areas are the coefficients
+abbrev pub coefficientsJudged : ℕ → List ℤ → List ℕ → List ℕ → List ℕ → Said Verdict
+coefficientsJudged most ids nums dens s = judgedBy ids (farWithin (fractions (length ids) nums dens)) (coefficientLines most s)
+
+-- 8, then that claim
 unfoldable pub coefficientsSays : ℕ → List ℤ → List ℕ → List ℕ → List ℕ → Said Verdict
 coefficientsSays most ids nums dens s =
-    check (leb (length ids) (length nums) && leb (length ids) (length dens)) noRoom
-    (judgedBy ids (farWithin (fractions (length ids) nums dens)) (coefficientLines most s))
+    check (leb (length ids) (length nums) && leb (length ids) (length dens)) noRoom (coefficientsJudged most ids nums dens s)

@@ -12,7 +12,7 @@ use Rattle.basis.specs.Order.{sameZ}
 use Rattle.text.specs.Word.{Word, identOf}
 use Rattle.text.specs.Line.{twoOf}
 use Rattle.text.specs.File.{noTest, GoodFile, FirstFault}
-use Rattle.matching.specs.Claim.{idsOf, valuesOf}
+use Rattle.matching.specs.Claim.{idsOf, claimedOf}
 use Rattle.matching.specs.Verdict.{Verdict, matched, incompleteAt, mismatchAt, sameKind}
 
 -- the least number that has P
@@ -25,7 +25,7 @@ pub record Alike {A B : Type 0} (alike : A → B → Bool) (x : A) (y : B) (xs :
   pub long : length xs ≡ length ys
   pub everywhere : (i : ℕ) → i < length xs → alike (getD xs i x) (getD ys i y) ≡ true
 
--- a place at which a list differs from the one that is asked for: another value stands there, or it is "missing or surplus"
+-- a place at which a list ys differs from the list xs that is asked for: another value stands there, or it is "missing or surplus"
 pub data Differs {A B : Type 0} (alike : A → B → Bool) (x : A) (y : B) (xs : List A) (ys : List B) (i : ℕ) : Type 0 where
   other : i < length xs → i < length ys → alike (getD xs i x) (getD ys i y) ≡ false → Differs alike x y xs ys i
   missing : length ys ≤ i → i < length xs → Differs alike x y xs ys i
@@ -35,7 +35,8 @@ pub data Differs {A B : Type 0} (alike : A → B → Bool) (x : A) (y : B) (xs :
 abbrev pub EqualWhere : ℕ → (ℕ → ℕ → Type 0) → List ℤ → Type 0
 EqualWhere n Together claims = (i j : ℕ) → i < n → j < n → (getD claims i (pos 0) ≡ getD claims j (pos 0)) ↔ Together i j
 
--- 000 "Equivalence match": "a two-way mapping should exists that maps the system's output to be identical to reference output", and its inverse
+-- 000 "Equivalence match": "a two-way mapping should exists that maps the system's output to be identical to reference output",
+-- and its inverse
 pub record TwoWay (reference output : List ℤ) : Type 0 where
   pub there : ℤ → ℤ
   pub back : ℤ → ℤ
@@ -56,7 +57,7 @@ module _ {A : Type 0} (word : List ℕ → Word A) (most : ℕ) (ids : List ℤ)
     pub lines : List (ℤ × A)
     pub file : GoodFile (twoOf identOf word) most noTest s lines
     pub complete : idsOf lines ≡ ids
-    pub matches : Matches (valuesOf lines)
+    pub matches : Matches (claimedOf lines)
 
   -- those of one whose place i is "the first line whose identifier isn't the graph's at that place, or the first missing or surplus line"
   pub record IncompleteClaim (i : ℕ) (s : List ℕ) : Type 0 where
@@ -64,14 +65,15 @@ module _ {A : Type 0} (word : List ℕ → Word A) (most : ℕ) (ids : List ℤ)
     pub file : GoodFile (twoOf identOf word) most noTest s lines
     pub first : Least (Differs sameZ (pos 0) (pos 0) ids (idsOf lines)) i
 
-  -- those of a complete one whose values first mismatch at place i
+  -- those of one that names the identifiers in order, with values of which the first that is wrong stands at place i
   pub record MismatchClaim (Wrong : List A → ℕ → Type 0) (i : ℕ) (s : List ℕ) : Type 0 where
     pub lines : List (ℤ × A)
     pub file : GoodFile (twoOf identOf word) most noTest s lines
     pub complete : idsOf lines ≡ ids
-    pub first : Least (Wrong (valuesOf lines)) i
+    pub first : Least (Wrong (claimedOf lines)) i
 
-  -- what is said of a claim's bytes, where values match or are wrong at a place: each answer exactly where the bytes are of its kind; line i + 1 is place i
+  -- what is said of a claim's bytes, where values match or are wrong at a place: each answer exactly where the bytes are of its kind;
+  -- line i + 1 is place i
   pub record Judges (Matches : List A → Type 0) (Wrong : List A → ℕ → Type 0) (s : List ℕ) (said : Said Verdict) : Type 0 where
     pub accepted : (said ≡ gives matched) ↔ GoodClaim Matches s
     pub incomplete : (i : ℕ) → (said ≡ gives (incompleteAt (suc i))) ↔ IncompleteClaim i s

@@ -15,39 +15,41 @@ use Rattle.matching.specs.declared.reading.Read.{Read}
 use Rattle.matching.specs.declared.reading.Read.the-variants.{Lines, Fault}
 use Rattle.matching.specs.declared.numbers.Rule.{Rule}
 use Rattle.text.specs.declared.decimal.Decimal.{Decimal}
-use Rattle.matching.specs.Calls.{nearWithin, fractionAt}
-use Rattle.matching.specs.Claim.{numberLines, idsOf, valuesOf}
+use Rattle.matching.specs.Calls.{nearWithin, fractionIn}
+use Rattle.matching.specs.Claim.{numberLines, idsOf, claimedOf}
 use Rattle.matching.specs.Verdict.{Verdict, incompleteLine, mismatchLine, verdictOf}
 
 -- how x stands to y
 unfoldable pub orderOf : ℕ → ℕ → Order
 orderOf x y = cond (ltb x y) Less (cond (eqb x y) Equal Greater)
 
--- the order of x to y says that x is below y
+-- an order is that of a smaller number to a larger
 abbrev pub isLess : Order → Bool
 isLess Less = true
 isLess Equal = false
 isLess Greater = false
 
--- the order of x to y says that x is above y
+-- an order is that of a larger number to a smaller
 abbrev pub isGreater : Order → Bool
 isGreater Less = false
 isGreater Equal = false
 isGreater Greater = true
 
--- what the line after k others adds to a first line found before it, where place k of a list of the given length passes the test t
+-- the line after k others where it is at fault, else 0: place k of n fails the test t, or there is no place k
 abbrev pub placeLine : ℕ → ℕ → Bool → ℕ
 placeLine n k t = cond (ltb k n) (cond t 0 (k + 1)) (k + 1)
 
--- the first incomplete line once the line after k others has named id: one found before, or this where id isn't the graph's at that place or there is no such place
+-- the first incomplete line once the line after k others has named id: one found before,
+-- or this where id isn't the graph's at that place or there is no such place
 abbrev pub coverStep : List ℤ → ℕ → ℤ → ℕ → ℕ
 coverStep ids k id incomplete = orElse incomplete (placeLine (length ids) k (sameZ (getD ids k (pos 0)) id))
 
--- the first mismatch once the line after k others, of n, has claimed s: one found before, or this where s is not near its fraction or the line is surplus
+-- the first mismatch once the line after k others, of n, has claimed s: one found before,
+-- or this where s is not near its fraction or the line is surplus
 abbrev pub nearStep : ℕ → List ℕ → List ℕ → ℕ → Decimal → ℕ → ℕ
-nearStep n nums dens k s mismatch = orElse mismatch (placeLine n k (nearWithin (fractionAt nums dens k) s))
+nearStep n nums dens k s mismatch = orElse mismatch (placeLine n k (nearWithin (fractionIn nums dens k) s))
 
--- the end of a claim after k lines, of n
+-- the first incomplete line of a claim that ends after k lines, of n: one found before, or the line after its last where that is missing
 unfoldable pub endLine : ℕ → ℕ → ℕ → ℕ
 endLine n k incomplete = orElse incomplete (cond (ltb k n) (k + 1) 0)
 
@@ -56,7 +58,7 @@ pub record WholeOf (most : ℕ) (ids : List ℤ) (s : List ℕ) (claimed : List 
   pub lines : List (ℤ × ℤ)
   pub are : numberLines most s ≡ gives lines
   pub first : incomplete ≡ incompleteLine ids (idsOf lines)
-  pub values : incomplete ≡ 0 → take (length ids) claimed ≡ valuesOf lines
+  pub values : incomplete ≡ 0 → take (length ids) claimed ≡ claimedOf lines
 
 -- what the code's answer tells of a claim: it was read whole, with its first incomplete line or 0, or its first fault is this refusal
 abbrev pub ReadAs : ℕ → List ℤ → List ℕ → List ℤ → Read → Type 0

@@ -13,7 +13,7 @@ use Rattle.matching.specs.declared.judged.Judged.the-variants as J
 use Rattle.matching.specs.declared.numbers.Rule.{Rule}
 use Rattle.matching.specs.declared.numbers.Rule.the-variants.{Exact, Equivalence}
 use Rattle.matching.specs.Close.{isClose}
-use Rattle.matching.specs.Claim.{idsOf, valuesOf}
+use Rattle.matching.specs.Claim.{idsOf, claimedOf}
 
 -- a verdict's number, its file and its line
 pub record Verdict : Type 0 where
@@ -44,7 +44,8 @@ says (J.Incomplete line) = gives (incompleteAt line)
 says (J.Mismatch line) = gives (mismatchAt line)
 says (J.Refused r) = refuses r
 
--- two lists side by side, the next line being k: the first line at which they aren't alike by a test, or at which one of them has ended; 0 where there is none
+-- two lists side by side, the next line being k: the first line at which they aren't alike by a test,
+-- or at which one of them has ended; 0 where there is none
 unfoldable pub firstLine : {A B : Type 0} → (A → B → Bool) → ℕ → List A → List B → ℕ
 firstLine alike k [] [] = 0
 firstLine alike k [] (y ∷ ys) = k
@@ -59,7 +60,8 @@ incompleteLine ids claimed = firstLine sameZ 1 ids claimed
 abbrev pub unequalLine : List ℤ → List ℤ → ℕ
 unequalLine reference claimed = firstLine sameZ 1 reference claimed
 
--- 000 "Equivalence match": two lines agree in kind, "all vertices which have the same label in the system's output also have the same label in the reference output, and vice versa"
+-- 000 "Equivalence match": two lines agree in kind, "all vertices which have the same label in the system's output
+-- also have the same label in the reference output, and vice versa"
 unfoldable pub sameKind : List ℤ → List ℤ → ℕ → ℕ → Bool
 sameKind labels claims i j =
     Bool·beq (sameZ (getD claims i (pos 0)) (getD claims j (pos 0))) (sameZ (getD labels i (pos 0)) (getD labels j (pos 0)))
@@ -89,7 +91,7 @@ near r s = isClose (r .0) (r .1) s
 abbrev pub farLine : List Fraction → List Decimal → ℕ
 farLine reference claimed = firstLine near 1 reference claimed
 
--- the method of a kernel whose values are numbers
+-- the first mismatch of numbers by a rule: exact or equivalence match
 abbrev pub mismatchLine : Rule → List ℤ → List ℤ → ℕ
 mismatchLine Exact reference claimed = unequalLine reference claimed
 mismatchLine Equivalence reference claimed = unlikeLine reference claimed
@@ -100,7 +102,7 @@ verdictOf (suc k) mismatch = incompleteAt (suc k)
 verdictOf zero (suc k) = mismatchAt (suc k)
 verdictOf zero zero = matched
 
--- "All lines are read for 1, 2 and 3 first": a claim on vertices with these identifiers, by the line of its first mismatch
+-- "All lines are read for 1, 2 and 3 first": what is said of a claim on vertices with these identifiers, by the line of its first mismatch
 unfoldable pub judgedBy : {A : Type 0} → List ℤ → (List A → ℕ) → Said (List (ℤ × A)) → Said Verdict
-judgedBy ids mismatch (gives l) = gives (verdictOf (incompleteLine ids (idsOf l)) (mismatch (valuesOf l)))
+judgedBy ids mismatch (gives l) = gives (verdictOf (incompleteLine ids (idsOf l)) (mismatch (claimedOf l)))
 judgedBy ids mismatch (refuses r) = refuses r

@@ -89,7 +89,7 @@ fn is_greater(o: Order) -> bool
 }
 
 // Whether d * n is from low * 10^k to high * 10^k.
-fn between(low: u64, high: u64, n: u64, d: u64, k: u64) -> bool
+fn enclosed(low: u64, high: u64, n: u64, d: u64, k: u64) -> bool
     requires { ⌜ (0 < n) × (n < 2 ^ 50) ⌝ }
     ensures { λ r. ⌜ r ≡ (leb (low * 10 ^ k) (d * n) && leb (d * n) (high * 10 ^ k)) ⌝ }
 {
@@ -116,8 +116,8 @@ pub fn close(a: u32, b: u32, s: Decimal) -> bool
     let up = s.up as u64;
     let down = s.down as u64;
     if up <= down {
-        between(low, high, n, digits, down - up)
+        enclosed(low, high, n, digits, down - up)
     } else {
-        between(low, high, n, scaled_up(digits, up - down), 0)
+        enclosed(low, high, n, scaled_up(digits, up - down), 0)
     }
 }

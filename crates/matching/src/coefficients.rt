@@ -15,13 +15,12 @@ use text::line::CoefficientLine;
 ghost use mathlib.Core.Path.{_≡_};
 ghost use Prim.Native.Nat.{_-_, _^_, _<_, _≤_};
 ghost use lib.ListN.{length};
-ghost use Rattle.matching.specs.Claim.{coefficientLines};
-ghost use Rattle.matching.specs.Verdict.{says, judgedBy};
-ghost use Rattle.matching.specs.Calls.{nearWithin, fractions, farWithin, coefficientsSays};
+ghost use Rattle.matching.specs.Verdict.{says};
+ghost use Rattle.matching.specs.Calls.{nearWithin, coefficientsJudged, coefficientsSays};
 ghost use Rattle.matching.specs.Steps.{nearStep};
 
 // A decimal is near a fraction whose terms are within 32 bits.
-fn near(a: usize, b: usize, s: Decimal) -> bool
+fn near_within(a: usize, b: usize, s: Decimal) -> bool
     ensures { λ r. ⌜ r ≡ nearWithin (a, b) s ⌝ }
 {
     if 4294967295 < a {
@@ -52,7 +51,7 @@ fn measured(
     if n <= k {
         return k + 1;
     }
-    if near(numerators[k], denominators[k], s) {
+    if near_within(numerators[k], denominators[k], s) {
         return 0;
     }
     k + 1
@@ -67,7 +66,9 @@ fn read_coefficients(
     claim: &[u8],
 ) -> Judged
     requires { ⌜ (length (now ids) ≤ length (now numerators)) × (length (now ids) ≤ length (now denominators)) ⌝ }
-    ensures { λ r. ⌜ says r ≡ judgedBy (now (ids .entry)) (farWithin (fractions (length (now (ids .entry))) (now (numerators .entry)) (now (denominators .entry)))) (coefficientLines most (now (claim .entry))) ⌝ }
+    ensures { λ r. ⌜
+        says r
+        ≡ coefficientsJudged most (now (ids .entry)) (now (numerators .entry)) (now (denominators .entry)) (now (claim .entry)) ⌝ }
 {
     let n = ids.len();
     let mut cursor = Cursor { at: 0 };
@@ -106,7 +107,9 @@ pub fn judge_coefficients(
     denominators: &[usize],
     claim: &[u8],
 ) -> Judged
-    ensures { λ r. ⌜ says r ≡ coefficientsSays most (now (ids .entry)) (now (numerators .entry)) (now (denominators .entry)) (now (claim .entry)) ⌝ }
+    ensures { λ r. ⌜
+        says r
+        ≡ coefficientsSays most (now (ids .entry)) (now (numerators .entry)) (now (denominators .entry)) (now (claim .entry)) ⌝ }
 {
     if !both_room(ids.len(), numerators.len(), denominators.len()) {
         return Judged::Refused(Refusal::plain(NO_ROOM));

@@ -96,7 +96,9 @@ pub fn judge_numbers(
     claim: &[u8],
     claimed: &mut [i64],
 ) -> Judged
-    ensures { λ r. ⌜ outcome (says r) (now (claimed .exit)) ≡ numbersCall rule most (now (ids .entry)) (now (reference .entry)) (now (claim .entry)) (now (claimed .entry)) ⌝ }
+    ensures { λ r. ⌜
+        outcome (says r) (now (claimed .exit))
+        ≡ numbersCall rule most (now (ids .entry)) (now (reference .entry)) (now (claim .entry)) (now (claimed .entry)) ⌝ }
 {
     let n = ids.len();
     if !both_room(n, reference.len(), claimed.len()) {

@@ -7,10 +7,9 @@ use text::Cursor;
 use text::line::EdgeLine;
 ghost use mathlib.Core.Path.{_≡_};
 ghost use Prim.Native.Nat.{_-_, _^_, _<_, _≤_};
-ghost use lib.ListN.{length};
+ghost use lib.ListN.{length, set};
 ghost use lib.Dec.{ltb};
 ghost use mathlib.Core.Bool.{cond};
-ghost use lib.ListN.{set};
 ghost use Rattle.matching.specs.Steps.{coverStep, endLine, ReadOf};
 
 // What the lines of a claim say of the vertices: the first incomplete line, or 0. Or the first fault.

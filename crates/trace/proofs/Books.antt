@@ -7,6 +7,7 @@ use native.Mathlib.Omega.{arith}
 use lib.ListN.{length}
 use lib.Dec.{leb, ltb, eqb}
 use borrow.Author.Tests.{ltb-true}
+use Rattle.basis.specs.Limits.{mostVertices}
 use Rattle.basis.specs.Refusal.{Said, gives, refuses, plain, noRoom, unsound, notThere, check}
 use Rattle.book.specs.Rules.{Next, stop, to, Found, found, follow, Heads, Step, already, merge, merged, same, Done, done}
 use Rattle.book.specs.Rules.{walk, walkFrom, headOf, pair, headsOf, sameGroup, groupSize, tally, isStop, groupCount}
@@ -16,7 +17,7 @@ use Rattle.book.proofs.Checks.{fits-within}
 use Rattle.book.proofs.Calls.{size-inside}
 use Rattle.book.proofs.Tally.{tally-le}
 use Rattle.trace.specs.Code.{coded, wide, Readable, nothing}
-use Rattle.trace.specs.Book.{joinValue, headValue, sameValue, itself, bookTold, bookTells}
+use Rattle.trace.specs.Book.{joinValue, headValue, sameValue, readingValue, bookTold, bookTells}
 use Rattle.trace.proofs.Codes.{onward-readable, readable-by, readable-given, readable-refused, readable-plain}
 use Rattle.trace.proofs.Codes.{readable-check, readable-values, readable-silent, readable-untold, untold}
 
@@ -40,7 +41,7 @@ checked : {A : Type 0} {value : A → ℕ} (t : Bool) (number : ℕ) {s : Said A
 checked t number p q h = readable-check t number (omega arith) p q h
 
 -- a head is in the area, and 16 moves reach it at most
-module _ (next : ℕ → Next) (n : ℕ) (small : n ≤ 65536) where
+module _ (next : ℕ → Next) (n : ℕ) (small : n ≤ mostVertices) where
   walk-readable : (left moves at : ℕ) → at < n → moves + left ≤ 16 → Readable wide (walk next n left moves at) headValue
   unfolding walk
   walk-readable zero moves at l m = go (next at)
@@ -95,21 +96,21 @@ module _ (ps ss : List ℕ) where
       (λ f e. let a = two ps ss .size (f .head) in
       checked (ltb 0 a && leb a (two ps ss .count)) unsound (omega arith) (omega arith) (λ t. readable-silent a (omega arith)))
 
-  pub size-readable : (v : ℕ) → Readable wide (groupSize (two ps ss) v) itself
+  pub size-readable : (v : ℕ) → Readable wide (groupSize (two ps ss) v) readingValue
   unfolding two
-  size-readable v = readable-values (size-checked v) itself small
+  size-readable v = readable-values (size-checked v) readingValue small
     where
       small : (s : ℕ) → groupSize (two ps ss) v ≡ gives s → s < wide
       small s e = let t = size-inside (two ps ss) v s e in omega (arith, fits-within ps ss (t .0))
 
-  pub count-readable : Readable wide (groupCount (two ps ss)) itself
+  pub count-readable : Readable wide (groupCount (two ps ss)) readingValue
   unfolding groupCount two
   count-readable = checked _ noRoom (omega arith) (omega arith) (λ f. readable-given _ (small f))
     where
       small : fits ps ss ≡ true → tally (λ v. isStop (nextIn ps v)) (length ps) < wide
       small f = omega (arith, fits-within ps ss f, tally-le (λ v. isStop (nextIn ps v)) (length ps))
 
-  pub limit-readable : (v : ℕ) → Readable wide (stepLimit (two ps ss) v) itself
+  pub limit-readable : (v : ℕ) → Readable wide (stepLimit (two ps ss) v) readingValue
   unfolding stepLimit
   limit-readable v =
       onward-readable (groupSize (two ps ss) v) (readable-untold (size-readable v) (omega arith))

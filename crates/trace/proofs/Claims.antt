@@ -9,6 +9,7 @@ use lib.ListN.{length, replicate}
 use lib.Dec.{eqb, leb}
 use borrow.Author.Tests.{leb-true, le-leb, eqb-true, eqb-false}
 use Rattle.basis.specs.declared.refusal.Refusal.{Refusal}
+use Rattle.basis.specs.Limits.{deskVertices}
 use Rattle.basis.specs.Refusal.{Said, gives, refuses, plain, noRoom, claimFile}
 use Rattle.basis.specs.Order.{sameZ}
 use Rattle.basis.proofs.Tests.{and-first, and-second, and-both}
@@ -22,13 +23,13 @@ use Rattle.graph.specs.Sound.{Graph, names, soundGraph, outward}
 use Rattle.graph.proofs.Sounds.{sound-of}
 use Rattle.kernels.specs.Answer.{kernelSays, bfsNumber, wccNumber, cdlpNumber, lccNumber}
 use Rattle.wcc.specs.Component.{labelOf, wccOf}
-use Rattle.matching.specs.Claim.{claimLines, numberLines, coefficientLines, idsOf, valuesOf}
+use Rattle.matching.specs.Claim.{claimLines, numberLines, coefficientLines, idsOf, claimedOf}
 use Rattle.matching.specs.Verdict.{Verdict, near, firstLine, incompleteLine, agrees, failingLine, unlikeLine, verdictOf, judgedBy}
-use Rattle.matching.proofs.Readings.{ids-length, values-length}
+use Rattle.matching.proofs.Readings.{ids-length, claimed-length}
 use Rattle.verdicts.specs.Reference.{Reference, coefficients, bfsReference, wccReference, cdlpReference, lccReference}
 use Rattle.verdicts.specs.Call as Call
 use Rattle.trace.specs.Code.{placed, hostCode, wide, narrow, Small, Readable}
-use Rattle.trace.specs.Verdict.{threeOf, judgeTold, judgeTells}
+use Rattle.trace.specs.Verdict.{asRefusal, judgeTold, judgeTells}
 use Rattle.trace.specs.Host.{deskLines, isKernel, referenceFor, judgedAs}
 use Rattle.trace.specs.Steps.{deskJudged}
 
@@ -72,51 +73,51 @@ unfolding unlikeLine
 unlike-bound a b = let h = failing-bound (agrees a b) (length a) 0 in omega arith
 
 -- ---- what is said of a claim
-module _ (room : ℕ) (some : 65537 < room) where
+module _ (room : ℕ) (some : Call.mostLines + 1 < room) where
   verdict-small : (incomplete mismatch : ℕ) → incomplete < room → mismatch < room
-      → Small room (threeOf (gives (verdictOf incomplete mismatch)))
+      → Small room (asRefusal (gives (verdictOf incomplete mismatch)))
   verdict-small (suc k) mismatch p q = record { number = omega arith; file = omega arith; line = p }
   verdict-small zero (suc k) p q = record { number = omega arith; file = omega arith; line = q }
   verdict-small zero zero p q = record { number = omega arith; file = omega arith; line = omega arith }
 
   judged-small : {A : Type 0} (ids : List ℤ) (mismatch : List A → ℕ) (x : Said (List (ℤ × A))) → Readable room x (λ l. 1 + length l)
-      → ((l : List (ℤ × A)) → x ≡ gives l → mismatch (valuesOf l) < room) → Small room (threeOf (judgedBy ids mismatch x))
+      → ((l : List (ℤ × A)) → x ≡ gives l → mismatch (claimedOf l) < room) → Small room (asRefusal (judgedBy ids mismatch x))
   unfolding judgedBy
   judged-small ids mismatch (gives l) h m =
-      verdict-small (incompleteLine ids (idsOf l)) (mismatch (valuesOf l))
+      verdict-small (incompleteLine ids (idsOf l)) (mismatch (claimedOf l))
       (let f = first-bound sameZ 1 ids (idsOf l) in let n = ids-length l in let k = h .values l refl in omega arith) (m l refl)
   judged-small ids mismatch (refuses r) h m = h .refusals r refl .1
 
   -- by the line at which two lists part
   parted-small : {A B : Type 0} (alike : B → A → Bool) (ids : List ℤ) (reference : List B) (x : Said (List (ℤ × A)))
       → Readable room x (λ l. 1 + length l)
-      → Small room (threeOf (judgedBy ids (firstLine alike 1 reference) x))
+      → Small room (asRefusal (judgedBy ids (firstLine alike 1 reference) x))
   parted-small alike ids reference x h =
       judged-small ids (firstLine alike 1 reference) x h
-      (λ l e. let f = first-bound alike 1 reference (valuesOf l) in let n = values-length l in let k = h .values l e in omega arith)
+      (λ l e. let f = first-bound alike 1 reference (claimedOf l) in let n = claimed-length l in let k = h .values l e in omega arith)
 
-  module _ (most : ℕ) (few : most ≤ 65536) (g : Graph) (s : List ℕ) (kernel : ℕ) (parameter : ℤ) where
+  module _ (most : ℕ) (few : most ≤ Call.mostLines) (g : Graph) (s : List ℕ) (kernel : ℕ) (parameter : ℤ) where
     numbers-readable : Readable room (numberLines most s) (λ l. 1 + length l)
     numbers-readable = lines-readable (twoOf identOf identOf) s room most (omega arith)
 
     decimals-readable : Readable room (coefficientLines most s) (λ l. 1 + length l)
     decimals-readable = lines-readable (twoOf identOf decimalOf) s room most (omega arith)
 
-    wcc-small : soundGraph g ≡ true → Small room (threeOf (judgedBy (names g) (unlikeLine (wccOf g)) (numberLines most s)))
+    wcc-small : soundGraph g ≡ true → Small room (asRefusal (judgedBy (names g) (unlikeLine (wccOf g)) (numberLines most s)))
     wcc-small h =
         judged-small (names g) (unlikeLine (wccOf g)) (numberLines most s) numbers-readable
-        (λ l e. let f = unlike-bound (wccOf g) (valuesOf l) in
+        (λ l e. let f = unlike-bound (wccOf g) (claimedOf l) in
         let n = column-length (labelOf (g .vertices) (outward g) (names g)) 0 (g .vertices) in let k = sound-of g h .fewVertices in
         omega arith)
 
     -- what is said of the claim fits, and so does a parameter's refusal
-    reference-small : soundGraph g ≡ true → Small room (threeOf (referenceFor most g s kernel parameter .judged))
+    reference-small : soundGraph g ≡ true → Small room (asRefusal (referenceFor most g s kernel parameter .judged))
     unfolding referenceFor
     reference-small h = go (eqb kernel bfsNumber) (eqb kernel wccNumber) (eqb kernel cdlpNumber)
       where
         go : (a b c : Bool)
             → Small room
-            (threeOf (cond a (bfsReference most g s parameter)
+            (asRefusal (cond a (bfsReference most g s parameter)
             (cond b (wccReference most g s) (cond c (cdlpReference most g s parameter) (lccReference most g s))) .judged))
         go true b c = parted-small sameZ (names g) _ (numberLines most s) numbers-readable
         go false true c = wcc-small h
@@ -134,18 +135,18 @@ module _ (room : ℕ) (some : 65537 < room) where
         go false false true = omega arith
         go false false false = omega arith
 
-    says-small : (k : Reference) (sound room′ : Bool) → (sound ≡ true → Small room (threeOf (k .judged))) → k .number ≤ 21
-        → Small room (threeOf (Call.verdictSays k sound room′))
+    says-small : (k : Reference) (sound room′ : Bool) → (sound ≡ true → Small room (asRefusal (k .judged))) → k .number ≤ 21
+        → Small room (asRefusal (Call.verdictSays k sound room′))
     unfolding Call.verdictSays kernelSays
     says-small k true room′ h p = go (k .given)
       where
-        roomy : (t : Bool) → Small room (threeOf (Call.thenSays (cond t (gives tt) (refuses (plain noRoom))) (k .judged)))
+        roomy : (t : Bool) → Small room (asRefusal (Call.thenSays (cond t (gives tt) (refuses (plain noRoom))) (k .judged)))
         roomy true = h refl
         roomy false = record { number = omega arith; file = omega arith; line = omega arith }
 
         go : (t : Bool)
             → Small room
-            (threeOf (Call.thenSays (cond t (cond room′ (gives tt) (refuses (plain noRoom))) (refuses (plain (k .number)))) (k .judged)))
+            (asRefusal (Call.thenSays (cond t (cond room′ (gives tt) (refuses (plain noRoom))) (refuses (plain (k .number)))) (k .judged)))
         go true = roomy room′
         go false = record { number = p; file = omega arith; line = omega arith }
     says-small k false room′ h p = record { number = omega arith; file = omega arith; line = omega arith }
@@ -190,14 +191,14 @@ module _ (most : ℕ) (g : Graph) (kernel : ℕ) (parameter : ℤ) (s : List ℕ
       go false false false false true p q r t h = absurd (none-left p q r t h)
       go false false false false false p q r t h = refl
 
-  pub call-small : (room : ℕ) → 65537 < room → most ≤ 65536
-      → Small room (threeOf (Call.verdictCall most g kernel parameter s R C F S T .said))
+  pub call-small : (room : ℕ) → Call.mostLines + 1 < room → most ≤ Call.mostLines
+      → Small room (asRefusal (Call.verdictCall most g kernel parameter s R C F S T .said))
   unfolding Call.callOn Call.leftBy Call.unknownCall
   call-small room some few = rw (by-number (isKernel kernel) refl) (go (isKernel kernel))
     where
       go : (k : Bool)
           → Small room
-          (threeOf (cond k (Call.callOn (referenceFor most g s kernel parameter) g R C F S T) (Call.unknownCall R C F S T) .said))
+          (asRefusal (cond k (Call.callOn (referenceFor most g s kernel parameter) g R C F S T) (Call.unknownCall R C F S T) .said))
       go true =
           says-small room some most few g s kernel parameter (referenceFor most g s kernel parameter) (soundGraph g)
           (Call.roomFor (g .vertices) R C F S T)
@@ -220,7 +221,7 @@ module _ (most : ℕ) (g : Graph) (kernel : ℕ) (parameter : ℤ) (s : List ℕ
 module _ (g : Graph) (kernel : ℕ) (parameter : ℤ) (s : List ℕ) (R₀ C₀ : List ℤ) (F₀ S₀ T₀ : List ℕ) (x : Said Verdict) (R C : List ℤ)
     (F S T : List ℕ)
     (e : Call.outcome x R C F S T ≡ Call.verdictCall Call.mostLines g kernel parameter s R₀ C₀ F₀ S₀ T₀) (r : Refusal)
-    (f : r ≡ threeOf x) where
+    (f : r ≡ asRefusal x) where
   pub judge-small : Small wide r
   judge-small = rw (f, ap (λ o. o .said) e) (call-small Call.mostLines g kernel parameter s R₀ C₀ F₀ S₀ T₀ wide (omega arith) (omega arith))
 
@@ -232,12 +233,12 @@ module _ (g : Graph) (kernel : ℕ) (parameter : ℤ) (s : List ℕ) (R₀ C₀ 
 -- ---- the call in areas of desk size
 module _ (g : Graph) (kernel : ℕ) (parameter : ℤ) (s : List ℕ) (x : Said Verdict) (R C : List ℤ) (F S T : List ℕ)
     (e : Call.outcome x R C F S T
-    ≡ Call.verdictCall deskLines g kernel parameter s (replicate 1024 (pos 0)) (replicate 1024 (pos 0)) (replicate 1024 0)
-    (replicate 1024 0) (replicate 1024 0))
-    (r : Refusal) (f : r ≡ threeOf x) where
+    ≡ Call.verdictCall deskLines g kernel parameter s (replicate deskVertices (pos 0)) (replicate deskVertices (pos 0))
+    (replicate deskVertices 0) (replicate deskVertices 0) (replicate deskVertices 0))
+    (r : Refusal) (f : r ≡ asRefusal x) where
   pub desk-small : Small narrow r
   desk-small = rw (f, ap (λ o. o .said) e) (call-small deskLines g kernel parameter s _ _ _ _ _ narrow (omega arith) (omega arith))
 
-  pub desk-told : (k : ℕ) → k ≡ hostCode r → (z : ℤ) → parameter ≡ z → k ≡ hostCode (threeOf (deskJudged g kernel z s))
+  pub desk-told : (k : ℕ) → k ≡ hostCode r → (z : ℤ) → parameter ≡ z → k ≡ hostCode (asRefusal (deskJudged g kernel z s))
   unfolding deskJudged
-  desk-told k h z q = h ∙ ap hostCode (f ∙ ap threeOf (ap (λ o. o .said) e ∙ ap (λ y. deskJudged g kernel y s) q))
+  desk-told k h z q = h ∙ ap hostCode (f ∙ ap asRefusal (ap (λ o. o .said) e ∙ ap (λ y. deskJudged g kernel y s) q))

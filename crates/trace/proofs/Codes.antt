@@ -89,7 +89,8 @@ pub onward-readable : {A B : Type 0} {room : ℕ} {value : B → ℕ} (s : Said 
 onward-readable (gives x) h k = k x refl
 onward-readable (refuses r) h k = let t = h .refusals r refl in readable-refused r (t .0) (t .1)
 
-pub mapped-readable : {A B : Type 0} {room : ℕ} (f : A → B) (s : Said A) → 0 < room → Readable room s untold → Readable room (mapped f s) untold
+pub mapped-readable : {A B : Type 0} {room : ℕ} (f : A → B) (s : Said A) → 0 < room → Readable room s untold
+    → Readable room (mapped f s) untold
 mapped-readable f s k h = onward-readable s h (λ x e. readable-silent _ k)
 
 -- ---- an answer by its cases

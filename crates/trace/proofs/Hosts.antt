@@ -2,13 +2,14 @@
 use mathlib.Core.Path.{_≡_, refl, sym, ap, _∙_}
 use mathlib.Core.Bool.{Bool, true, false, not}
 use mathlib.Core.List.{List}
-use Prim.Native.Nat.{ℕ, _≤_, _<_}
+use Prim.Native.Nat.{ℕ, _+_, _≤_, _<_}
 use native.Mathlib.Omega.{arith}
 use lib.IntN.{ℤ, pos, natAbs}
 use lib.ListN.{length, replicate, length-replicate}
 use lib.Dec.{leb}
 use borrow.Author.Tests.{le-leb, lt-leb, lt-ltb}
 use Rattle.basis.proofs.Saids.{refused-given, given-one, mapped-refuses}
+use Rattle.basis.specs.Limits.{deskVertices, deskEdges}
 use Rattle.basis.specs.Refusal.{Said, gives, refuses, plain, unknownNumber, onward, mapped}
 use Rattle.graph.specs.Arcs.{Arc, arcs}
 use Rattle.graph.specs.declared.find.Found.{Found}
@@ -40,7 +41,7 @@ use Rattle.trace.proofs.Codes.{mapped-readable}
 use Rattle.trace.proofs.Stored.{areaGraph, same-names, same-outward, same-inward}
 use Rattle.trace.proofs.Claims.{call-small, call-judged}
 use Rattle.trace.specs.Code.{hostCode, hostNumberIn, hostFileIn, hostLineIn, narrow, Small}
-use Rattle.trace.specs.Verdict.{threeOf}
+use Rattle.trace.specs.Verdict.{asRefusal}
 use Rattle.verdicts.specs.Call as Call
 use Rattle.basis.specs.declared.refusal.Refusal.{Refusal}
 use Rattle.basis.proofs.Tests.{failed, held, and-first, and-second, and-both}
@@ -60,34 +61,38 @@ module _ (mode kernel : ℕ) where
   known-last h k = rw (le-leb mode 1 h, le-leb 1 kernel k)
 
 -- ---- the load: the desk's limits leave room in areas of desk size
+-- an edge stores two arcs at most
+abbrev deskArcs : ℕ
+deskArcs = deskEdges + deskEdges
+
 abbrev listed : List ℤ → List Arc → Lists
 listed ids l = record { ids = ids; arcs = l }
 
 module _ (mode : ℕ) (vertices edges : List ℕ) where
   pub loaded-desk : leb mode 1 ≡ true → loaded desk mode deskRoom vertices edges ≡ listsSaid (isUndirected mode) vertices edges
   unfolding loaded listsRead arcsRead listsSaid
-  loaded-desk m = rw m (go (identifiers 1024 vertices) refl)
+  loaded-desk m = rw m (go (identifiers deskVertices vertices) refl)
     where
-      by-edges : (ids : List ℤ) (x : Said (List (ℤ × ℤ))) → edgesOf (isUndirected mode) 2048 (placeIn ids) edges ≡ x
+      by-edges : (ids : List ℤ) (x : Said (List (ℤ × ℤ))) → edgesOf (isUndirected mode) deskEdges (placeIn ids) edges ≡ x
           → mapped (listed ids)
-          (onward x (λ es. withRoom (arcRoom 4096 4096 (length (arcs (isUndirected mode) (allNumbered (placeIn ids) es))))
+          (onward x (λ es. withRoom (arcRoom deskArcs deskArcs (length (arcs (isUndirected mode) (allNumbered (placeIn ids) es))))
           (arcs (isUndirected mode) (allNumbered (placeIn ids) es))))
           ≡ mapped (λ es. listed ids (arcs (isUndirected mode) (allNumbered (placeIn ids) es))) x
       by-edges ids (gives es) q =
-          let few = edges-accepted (isUndirected mode) 2048 ids edges es .0 q .few in
+          let few = edges-accepted (isUndirected mode) deskEdges ids edges es .0 q .few in
           let h = arcs-few (isUndirected mode) ids es in
-          rw (le-leb (length (arcs (isUndirected mode) (allNumbered (placeIn ids) es))) 4096 (omega arith))
+          rw (le-leb (length (arcs (isUndirected mode) (allNumbered (placeIn ids) es))) deskArcs (omega arith))
       by-edges ids (refuses r) q = refl
 
-      go : (x : Said (List ℤ)) → identifiers 1024 vertices ≡ x
-          → onward x (λ ids. onward (withRoom (vertexRoom 1024 1025 1025 (length ids)) ids)
-          (λ ids. mapped (listed ids) (arcsRead (isUndirected mode) 2048 ids edges 4096 4096)))
+      go : (x : Said (List ℤ)) → identifiers deskVertices vertices ≡ x
+          → onward x (λ ids. onward (withRoom (vertexRoom deskVertices (deskVertices + 1) (deskVertices + 1) (length ids)) ids)
+          (λ ids. mapped (listed ids) (arcsRead (isUndirected mode) deskEdges ids edges deskArcs deskArcs)))
           ≡ onward x (λ ids. mapped (λ es. listed ids (arcs (isUndirected mode) (allNumbered (placeIn ids) es)))
-          (edgesOf (isUndirected mode) 2048 (placeIn ids) edges))
+          (edgesOf (isUndirected mode) deskEdges (placeIn ids) edges))
       go (gives ids) q =
-          let few = vertices-accepted 1024 vertices ids .0 q .few in
-          rw (le-leb (length ids) 1024 (omega arith), lt-ltb (length ids) 1025 (omega arith))
-          (by-edges ids (edgesOf (isUndirected mode) 2048 (placeIn ids) edges) refl)
+          let few = vertices-accepted deskVertices vertices ids .0 q .few in
+          rw (le-leb (length ids) deskVertices (omega arith), lt-ltb (length ids) (deskVertices + 1) (omega arith))
+          (by-edges ids (edgesOf (isUndirected mode) deskEdges (placeIn ids) edges) refl)
       go (refuses r) q = refl
 
 -- ---- the reference output, by what a graph shows
@@ -155,15 +160,16 @@ module _ (vertices edges claim : List ℕ) (mode kernel : ℕ) (parameter : ℤ)
     unfolding loadCall outcomeOf
     stands-so = rw h
 
-    roomy : Call.roomFor (length (g .ids)) (replicate 1024 (pos 0)) (replicate 1024 (pos 0)) (replicate 1024 0) (replicate 1024 0)
-        (replicate 1024 0) ≡ true
+    roomy : Call.roomFor (length (g .ids)) (replicate deskVertices (pos 0)) (replicate deskVertices (pos 0))
+        (replicate deskVertices 0) (replicate deskVertices 0) (replicate deskVertices 0)
+        ≡ true
     unfolding Call.roomFor
     roomy =
         let n = length (g .ids) in
-        let z : leb n (length (replicate 1024 (pos 0)))
-        ≡ true = rw (length-replicate 1024 (pos 0)) (le-leb n 1024 (ok .goodVertices .few)) in
-        let o : leb n (length (replicate {A = ℕ} 1024 0))
-        ≡ true = rw (length-replicate {A = ℕ} 1024 0) (le-leb n 1024 (ok .goodVertices .few)) in
+        let z : leb n (length (replicate deskVertices (pos 0)))
+        ≡ true = rw (length-replicate deskVertices (pos 0)) (le-leb n deskVertices (ok .goodVertices .few)) in
+        let o : leb n (length (replicate {A = ℕ} deskVertices 0))
+        ≡ true = rw (length-replicate {A = ℕ} deskVertices 0) (le-leb n deskVertices (ok .goodVertices .few)) in
         and-both z (and-both z (and-both o (and-both o o)))
 
     judged-so : deskJudged stands kernel parameter claim ≡ judgedAs (referenceFor deskLines (graphOf g) claim kernel parameter)
@@ -208,31 +214,31 @@ module _ (vertices edges claim : List ℕ) (mode kernel : ℕ) (parameter : ℤ)
         )
 
     pub host-judged : (size : Size) → a ≡ Graph size → (z : ℤ) → z ≡ parameter → (k : ℕ)
-        → k ≡ hostCode (threeOf (deskJudged (lent size ids oo ot io is) kernel z claim))
+        → k ≡ hostCode (asRefusal (deskJudged (lent size ids oo ot io is) kernel z claim))
         → k ≡ hostVerdict vertices edges claim mode kernel parameter
     unfolding hostVerdict
     host-judged size q z w k f = go (loaded desk mode deskRoom vertices edges) refl (sym answered ∙ ap says q)
       where
         go : (x : Said Lists) → loaded desk mode deskRoom vertices edges ≡ x → mapped sizeOf x ≡ gives size
-            → k ≡ hostCode (threeOf (hostSays vertices edges claim mode kernel parameter))
+            → k ≡ hostCode (asRefusal (hostSays vertices edges claim mode kernel parameter))
         go (refuses r) l e = refused-given e
         go (gives g) l s =
             let size-is : sizeOf g ≡ size = given-one s in
             let left : Sound.Graph = graphLeft (sizeOf g) (loadCall desk mode deskRoom vertices edges) in
             let graph : lent size ids oo ot io is ≡ left =
             ap (graphLeft size) e ∙ ap (λ x. graphLeft x (loadCall desk mode deskRoom vertices edges)) (sym size-is) in
-            f ∙ ap (λ x. hostCode (threeOf x))
+            f ∙ ap (λ x. hostCode (asRefusal x))
             (ap (λ x. deskJudged x kernel z claim) graph ∙ ap (λ x. deskJudged left kernel x claim) w
             ∙ sym (host-given vertices edges claim mode kernel parameter (held t (isKnown mode kernel) p h) g l))
 
 -- ---- the three numbers can be taken out of the answer again
 module _ (vertices edges claim : List ℕ) (mode kernel : ℕ) (parameter : ℤ) where
-  pub host-small : Small narrow (threeOf (hostSays vertices edges claim mode kernel parameter))
+  pub host-small : Small narrow (asRefusal (hostSays vertices edges claim mode kernel parameter))
   unfolding hostSays deskJudged
   host-small = by-number (isKnown mode kernel) refl
     where
       by-load : (known : isKnown mode kernel ≡ true) (x : Said Lists) → loaded desk mode deskRoom vertices edges ≡ x
-          → Small narrow (threeOf (hostSays vertices edges claim mode kernel parameter))
+          → Small narrow (asRefusal (hostSays vertices edges claim mode kernel parameter))
       by-load known (gives g) e =
           rw (host-given vertices edges claim mode kernel parameter known g e)
           (call-small deskLines (graphLeft (sizeOf g) (loadCall desk mode deskRoom vertices edges)) kernel parameter claim _ _ _ _ _ narrow
@@ -241,21 +247,21 @@ module _ (vertices edges claim : List ℕ) (mode kernel : ℕ) (parameter : ℤ)
           rw (says-known vertices edges claim mode kernel parameter known, e)
           (loaded-readable narrow desk (omega arith) mode deskRoom vertices edges .refusals r e .1)
 
-      by-number : (t : Bool) → isKnown mode kernel ≡ t → Small narrow (threeOf (hostSays vertices edges claim mode kernel parameter))
+      by-number : (t : Bool) → isKnown mode kernel ≡ t → Small narrow (asRefusal (hostSays vertices edges claim mode kernel parameter))
       by-number true h = by-load h (loaded desk mode deskRoom vertices edges) refl
       by-number false h = rw h (record { number = omega arith; file = omega arith; line = omega arith })
 
   pub host-number : hostNumberIn (hostVerdict vertices edges claim mode kernel parameter)
-      ≡ threeOf (hostSays vertices edges claim mode kernel parameter) .number
+      ≡ asRefusal (hostSays vertices edges claim mode kernel parameter) .number
   unfolding hostVerdict
   host-number = let s = host-small in omega arith
 
   pub host-file : hostFileIn (hostVerdict vertices edges claim mode kernel parameter)
-      ≡ threeOf (hostSays vertices edges claim mode kernel parameter) .file
+      ≡ asRefusal (hostSays vertices edges claim mode kernel parameter) .file
   unfolding hostVerdict
   host-file = let s = host-small in omega arith
 
   pub host-line : hostLineIn (hostVerdict vertices edges claim mode kernel parameter)
-      ≡ threeOf (hostSays vertices edges claim mode kernel parameter) .line
+      ≡ asRefusal (hostSays vertices edges claim mode kernel parameter) .line
   unfolding hostVerdict
   host-line = let s = host-small in omega arith

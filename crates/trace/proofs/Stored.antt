@@ -43,7 +43,7 @@ module _ (n s t : ℕ) (l : List Arc) (fine : All (Fine n) l) (places : n < s) (
           sym (part-far n (pad s (offsets l n)) (pad t (parts l n)) v (omega (arith, h)))
           ∙ part-far n (offsets l n) (parts l n) v (omega (arith, h))
 
--- the graph that stands in areas of some room, and that of the lists alone
+-- the graph of the lists that stands in areas of some room
 abbrev pub areaGraph : Room → Lists → Graph
 areaGraph room g =
     storedGraph (length (g .ids)) (g .arcs) (padZ (room .ids) (g .ids)) (room .outOffsets) (room .outTargets) (room .inOffsets)

@@ -20,9 +20,9 @@ abbrev pub sameValue : Bool → ℕ
 sameValue true = 1
 sameValue false = 0
 
--- a size, a count or a step limit is its own number
-abbrev pub itself : ℕ → ℕ
-itself k = k
+-- a size, a count or a step limit as its own number
+abbrev pub readingValue : ℕ → ℕ
+readingValue k = k
 
 -- the answer, and what stands in the two areas
 pub record BookTold : Type 0 where

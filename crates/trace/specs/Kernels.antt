@@ -9,9 +9,9 @@ use Rattle.cdlp.specs.Promise as Cdlp
 use Rattle.lcc.specs.Promise as Lcc
 use Rattle.trace.specs.Code.{coded, nothing}
 
--- a graph's "stated counts"
-abbrev pub sized : ℕ → ℕ → Size
-sized vertices arcs = record { vertices = vertices; arcs = arcs }
+-- a graph's "stated counts" as its size
+abbrev pub statedSize : ℕ → ℕ → Size
+statedSize vertices arcs = record { vertices = vertices; arcs = arcs }
 
 -- BFS: the answer, and what stands in the result and working areas
 pub record BfsTold : Type 0 where

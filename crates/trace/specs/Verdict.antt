@@ -8,10 +8,10 @@ use Rattle.matching.specs.Verdict.{Verdict}
 use Rattle.verdicts.specs.Call.{Outcome}
 use Rattle.trace.specs.Code.{placed}
 
--- number, file and line, of a verdict as of a refusal
-abbrev pub threeOf : Said Verdict → Refusal
-threeOf (gives v) = at (v .number) (v .file) (v .line)
-threeOf (refuses r) = r
+-- a verdict's three numbers as those of a refusal, or a refusal as it is
+abbrev pub asRefusal : Said Verdict → Refusal
+asRefusal (gives v) = at (v .number) (v .file) (v .line)
+asRefusal (refuses r) = r
 
 -- the answer, and what stands in the five areas
 pub record JudgeTold : Type 0 where
@@ -29,4 +29,4 @@ judgeTold answer result claimed first second third =
 
 -- what a verdict tells by its outcome: its three numbers, or a refusal's, as one, and the areas as they stand
 unfoldable pub judgeTells : Outcome → JudgeTold
-judgeTells o = judgeTold (placed (threeOf (o .said))) (o .result) (o .claimed) (o .first) (o .second) (o .third)
+judgeTells o = judgeTold (placed (asRefusal (o .said))) (o .result) (o .claimed) (o .first) (o .second) (o .third)

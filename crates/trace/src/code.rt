@@ -15,9 +15,9 @@ ghost use Rattle.book.specs.Says.{saysOpened, saysJoined, saysHeaded, saysCompa
 ghost use Rattle.trace.specs.Code.{placed, coded, hostCode, wide, narrow, Small, Readable, nothing};
 ghost use Rattle.load.specs.Load as Load;
 ghost use Rattle.matching.specs.Verdict as Verdict;
-ghost use Rattle.trace.specs.Verdict.{threeOf};
+ghost use Rattle.trace.specs.Verdict.{asRefusal};
 ghost use Rattle.trace.specs.Load.{loadValue};
-ghost use Rattle.trace.specs.Book.{joinValue, headValue, sameValue, itself};
+ghost use Rattle.trace.specs.Book.{joinValue, headValue, sameValue, readingValue};
 
 const NUMBER: u64 = 1000000000000000;
 
@@ -29,6 +29,7 @@ const INCOMPLETE: usize = 20;
 
 const MISMATCH: usize = 21;
 
+// A refusal as one number.
 pub(crate) fn refusal_code(r: Refusal) -> u64
     requires { ⌜ Small wide r ⌝ }
     ensures { λ k. ⌜ k ≡ placed r ⌝ }
@@ -36,7 +37,7 @@ pub(crate) fn refusal_code(r: Refusal) -> u64
     r.number as u64 * NUMBER + r.file as u64 * FILE + r.line as u64
 }
 
-// The same where lines have less room.
+// The host call's number of a verdict or refusal, in which lines have less room.
 pub(crate) fn host_code(r: Refusal) -> u64
     requires { ⌜ Small narrow r ⌝ }
     ensures { λ k. ⌜ k ≡ hostCode r ⌝ }
@@ -44,9 +45,9 @@ pub(crate) fn host_code(r: Refusal) -> u64
     r.number as u64 * 1000000 + r.file as u64 * 100000 + r.line as u64
 }
 
-// The three numbers of a verdict or of a refusal.
-pub(crate) fn three_of(a: Judged) -> Refusal
-    ensures { λ r. ⌜ r ≡ threeOf (Verdict.says a) ⌝ }
+// A verdict's three numbers as those of a refusal, or a refusal as it is.
+pub(crate) fn as_refusal(a: Judged) -> Refusal
+    ensures { λ r. ⌜ r ≡ asRefusal (Verdict.says a) ⌝ }
 {
     match a {
         Judged::Match => Refusal::at(MATCH, CLAIM_FILE, 0),
@@ -56,6 +57,7 @@ pub(crate) fn three_of(a: Judged) -> Refusal
     }
 }
 
+// What opening a book says, as one number: 0 where it is ready.
 pub(crate) fn opened_code(a: Opened) -> u64
     requires { ⌜ Readable wide (saysOpened a) nothing ⌝ }
     ensures { λ k. ⌜ k ≡ coded (saysOpened a) nothing ⌝ }
@@ -66,6 +68,7 @@ pub(crate) fn opened_code(a: Opened) -> u64
     }
 }
 
+// What a join says, as one number: 1 where it merged two groups, 0 where it found one.
 pub(crate) fn joined_code(a: Joined) -> u64
     requires { ⌜ Readable wide (saysJoined a) joinValue ⌝ }
     ensures { λ k. ⌜ k ≡ coded (saysJoined a) joinValue ⌝ }
@@ -77,6 +80,7 @@ pub(crate) fn joined_code(a: Joined) -> u64
     }
 }
 
+// What a head says, as one number: the head and, in the last two digits, the moves.
 pub(crate) fn headed_code(a: Headed) -> u64
     requires { ⌜ Readable wide (saysHeaded a) headValue ⌝ }
     ensures { λ k. ⌜ k ≡ coded (saysHeaded a) headValue ⌝ }
@@ -87,6 +91,7 @@ pub(crate) fn headed_code(a: Headed) -> u64
     }
 }
 
+// What a comparison says, as one number: 1 where two vertices are in one group.
 pub(crate) fn compared_code(a: Compared) -> u64
     requires { ⌜ Readable wide (saysCompared a) sameValue ⌝ }
     ensures { λ k. ⌜ k ≡ coded (saysCompared a) sameValue ⌝ }
@@ -98,9 +103,10 @@ pub(crate) fn compared_code(a: Compared) -> u64
     }
 }
 
+// What a size, a count or a step limit says, as one number.
 pub(crate) fn reading_code(a: Reading) -> u64
-    requires { ⌜ Readable wide (saysReading a) itself ⌝ }
-    ensures { λ k. ⌜ k ≡ coded (saysReading a) itself ⌝ }
+    requires { ⌜ Readable wide (saysReading a) readingValue ⌝ }
+    ensures { λ k. ⌜ k ≡ coded (saysReading a) readingValue ⌝ }
 {
     match a {
         Reading::Value(k) => k as u64,
@@ -108,6 +114,7 @@ pub(crate) fn reading_code(a: Reading) -> u64
     }
 }
 
+// What a kernel says, as one number: 0 where its results stand in the areas.
 pub(crate) fn kernel_code(a: Answer) -> u64
     requires { ⌜ Readable wide (says a) nothing ⌝ }
     ensures { λ k. ⌜ k ≡ coded (says a) nothing ⌝ }
@@ -118,6 +125,7 @@ pub(crate) fn kernel_code(a: Answer) -> u64
     }
 }
 
+// What a load says, as one number: vertices and, in the last seven digits, arcs.
 pub(crate) fn load_code(a: Loaded) -> u64
     requires { ⌜ Readable wide (Load.says a) loadValue ⌝ }
     ensures { λ k. ⌜ k ≡ coded (Load.says a) loadValue ⌝ }

@@ -11,8 +11,9 @@ ghost use Rattle.bfs.specs.Call.{bfsCall};
 ghost use Rattle.wcc.specs.Promise.{wccCall};
 ghost use Rattle.cdlp.specs.Promise.{cdlpCall};
 ghost use Rattle.lcc.specs.Promise.{lccCall};
-ghost use Rattle.trace.specs.Kernels.{sized, bfsTold, bfsTells, wccTold, wccTells, cdlpTold, cdlpTells, lccTold, lccTells};
+ghost use Rattle.trace.specs.Kernels.{statedSize, bfsTold, bfsTells, wccTold, wccTells, cdlpTold, cdlpTells, lccTold, lccTells};
 
+// BFS from a root: depths in `depth`.
 #[no_mangle]
 pub extern "C" fn trace_bfs(
     vertices: usize,
@@ -26,7 +27,12 @@ pub extern "C" fn trace_bfs(
     depth: &mut [i64],
     queue: &mut [usize],
 ) -> u64
-    ensures { λ r. ⌜ bfsTold r (now (depth .exit)) (now (queue .exit)) ≡ bfsTells (bfsCall (lent (sized vertices arcs) (now (ids .entry)) (now («out_offsets» .entry)) (now («out_targets» .entry)) (now («in_offsets» .entry)) (now («in_sources» .entry))) root (now (depth .entry)) (now (queue .entry))) ⌝ }
+    ensures { λ r. ⌜
+        bfsTold r (now (depth .exit)) (now (queue .exit))
+        ≡ bfsTells (bfsCall
+        (lent (statedSize vertices arcs) (now (ids .entry)) (now («out_offsets» .entry)) (now («out_targets» .entry))
+        (now («in_offsets» .entry)) (now («in_sources» .entry)))
+        root (now (depth .entry)) (now (queue .entry))) ⌝ }
 {
     let size = Size { vertices, arcs };
     kernel_code(bfs(
@@ -42,6 +48,7 @@ pub extern "C" fn trace_bfs(
     ))
 }
 
+// WCC: the components' labels in `result`.
 #[no_mangle]
 pub extern "C" fn trace_wcc(
     vertices: usize,
@@ -55,7 +62,12 @@ pub extern "C" fn trace_wcc(
     parents: &mut [usize],
     sizes: &mut [usize],
 ) -> u64
-    ensures { λ r. ⌜ wccTold r (now (result .exit)) (now (parents .exit)) (now (sizes .exit)) ≡ wccTells (wccCall (lent (sized vertices arcs) (now (ids .entry)) (now («out_offsets» .entry)) (now («out_targets» .entry)) (now («in_offsets» .entry)) (now («in_sources» .entry))) (now (result .entry)) (now (parents .entry)) (now (sizes .entry))) ⌝ }
+    ensures { λ r. ⌜
+        wccTold r (now (result .exit)) (now (parents .exit)) (now (sizes .exit))
+        ≡ wccTells (wccCall
+        (lent (statedSize vertices arcs) (now (ids .entry)) (now («out_offsets» .entry)) (now («out_targets» .entry))
+        (now («in_offsets» .entry)) (now («in_sources» .entry)))
+        (now (result .entry)) (now (parents .entry)) (now (sizes .entry))) ⌝ }
 {
     let size = Size { vertices, arcs };
     kernel_code(wcc(
@@ -71,6 +83,7 @@ pub extern "C" fn trace_wcc(
     ))
 }
 
+// CDLP of so many iterations: labels in `result`.
 #[no_mangle]
 pub extern "C" fn trace_cdlp(
     vertices: usize,
@@ -86,7 +99,12 @@ pub extern "C" fn trace_cdlp(
     next: &mut [usize],
     counts: &mut [usize],
 ) -> u64
-    ensures { λ r. ⌜ cdlpTold r (now (result .exit)) (now (labels .exit)) (now (next .exit)) (now (counts .exit)) ≡ cdlpTells (cdlpCall (lent (sized vertices arcs) (now (ids .entry)) (now («out_offsets» .entry)) (now («out_targets» .entry)) (now («in_offsets» .entry)) (now («in_sources» .entry))) iterations (now (result .entry)) (now (labels .entry)) (now (next .entry)) (now (counts .entry))) ⌝ }
+    ensures { λ r. ⌜
+        cdlpTold r (now (result .exit)) (now (labels .exit)) (now (next .exit)) (now (counts .exit))
+        ≡ cdlpTells (cdlpCall
+        (lent (statedSize vertices arcs) (now (ids .entry)) (now («out_offsets» .entry)) (now («out_targets» .entry))
+        (now («in_offsets» .entry)) (now («in_sources» .entry)))
+        iterations (now (result .entry)) (now (labels .entry)) (now (next .entry)) (now (counts .entry))) ⌝ }
 {
     let size = Size { vertices, arcs };
     kernel_code(cdlp(
@@ -104,6 +122,7 @@ pub extern "C" fn trace_cdlp(
     ))
 }
 
+// LCC: coefficients in `numerators` and `denominators`.
 #[no_mangle]
 pub extern "C" fn trace_lcc(
     vertices: usize,
@@ -117,7 +136,12 @@ pub extern "C" fn trace_lcc(
     denominators: &mut [usize],
     work: &mut [usize],
 ) -> u64
-    ensures { λ r. ⌜ lccTold r (now (numerators .exit)) (now (denominators .exit)) (now (work .exit)) ≡ lccTells (lccCall (lent (sized vertices arcs) (now (ids .entry)) (now («out_offsets» .entry)) (now («out_targets» .entry)) (now («in_offsets» .entry)) (now («in_sources» .entry))) (now (numerators .entry)) (now (denominators .entry)) (now (work .entry))) ⌝ }
+    ensures { λ r. ⌜
+        lccTold r (now (numerators .exit)) (now (denominators .exit)) (now (work .exit))
+        ≡ lccTells (lccCall
+        (lent (statedSize vertices arcs) (now (ids .entry)) (now («out_offsets» .entry)) (now («out_targets» .entry))
+        (now («in_offsets» .entry)) (now («in_sources» .entry)))
+        (now (numerators .entry)) (now (denominators .entry)) (now (work .entry))) ⌝ }
 {
     let size = Size { vertices, arcs };
     kernel_code(lcc(

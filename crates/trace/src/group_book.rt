@@ -15,11 +15,13 @@ ghost use mathlib.Core.Path.{_≡_};
 ghost use Rattle.book.specs.Rules.{openBook, joinBook, headOf, sameGroup, groupSize, groupCount, stepLimit};
 ghost use Rattle.book.specs.Two.{areas, two, twoBook};
 ghost use Rattle.trace.specs.Code.{coded, nothing};
-ghost use Rattle.trace.specs.Book.{joinValue, headValue, sameValue, itself, bookTold, bookTells};
+ghost use Rattle.trace.specs.Book.{joinValue, headValue, sameValue, readingValue, bookTold, bookTells};
 
 #[no_mangle]
 pub extern "C" fn trace_book_open(parents: &mut [usize], sizes: &mut [usize]) -> u64
-    ensures { λ r. ⌜ bookTold r (now (parents .exit)) (now (sizes .exit)) ≡ bookTells nothing (openBook twoBook (areas (now (parents .entry)) (now (sizes .entry)))) ⌝ }
+    ensures { λ r. ⌜
+        bookTold r (now (parents .exit)) (now (sizes .exit))
+        ≡ bookTells nothing (openBook twoBook (areas (now (parents .entry)) (now (sizes .entry)))) ⌝ }
 {
     opened_code(open_book(parents, sizes))
 }
@@ -31,7 +33,9 @@ pub extern "C" fn trace_book_join(
     u: usize,
     v: usize,
 ) -> u64
-    ensures { λ r. ⌜ bookTold r (now (parents .exit)) (now (sizes .exit)) ≡ bookTells joinValue (joinBook twoBook (areas (now (parents .entry)) (now (sizes .entry))) u v) ⌝ }
+    ensures { λ r. ⌜
+        bookTold r (now (parents .exit)) (now (sizes .exit))
+        ≡ bookTells joinValue (joinBook twoBook (areas (now (parents .entry)) (now (sizes .entry))) u v) ⌝ }
 {
     joined_code(join(parents, sizes, u, v))
 }
@@ -52,21 +56,21 @@ pub extern "C" fn trace_book_same(parents: &[usize], sizes: &[usize], u: usize, 
 
 #[no_mangle]
 pub extern "C" fn trace_book_size(parents: &[usize], sizes: &[usize], v: usize) -> u64
-    ensures { λ r. ⌜ r ≡ coded (groupSize (two (now (parents .entry)) (now (sizes .entry))) v) itself ⌝ }
+    ensures { λ r. ⌜ r ≡ coded (groupSize (two (now (parents .entry)) (now (sizes .entry))) v) readingValue ⌝ }
 {
     reading_code(group_size(parents, sizes, v))
 }
 
 #[no_mangle]
 pub extern "C" fn trace_book_count(parents: &[usize], sizes: &[usize]) -> u64
-    ensures { λ r. ⌜ r ≡ coded (groupCount (two (now (parents .entry)) (now (sizes .entry)))) itself ⌝ }
+    ensures { λ r. ⌜ r ≡ coded (groupCount (two (now (parents .entry)) (now (sizes .entry)))) readingValue ⌝ }
 {
     reading_code(group_count(parents, sizes))
 }
 
 #[no_mangle]
 pub extern "C" fn trace_book_limit(parents: &[usize], sizes: &[usize], v: usize) -> u64
-    ensures { λ r. ⌜ r ≡ coded (stepLimit (two (now (parents .entry)) (now (sizes .entry))) v) itself ⌝ }
+    ensures { λ r. ⌜ r ≡ coded (stepLimit (two (now (parents .entry)) (now (sizes .entry))) v) readingValue ⌝ }
 {
     reading_code(step_limit(parents, sizes, v))
 }

@@ -1,7 +1,7 @@
 // Verdicts: on a graph that the host lends, and on the bytes of three files.
+use crate::code::as_refusal;
 use crate::code::host_code;
 use crate::code::refusal_code;
-use crate::code::three_of;
 use basis::Refusal;
 use basis::limits::DESK_EDGES;
 use basis::limits::DESK_VERTICES;
@@ -16,13 +16,15 @@ ghost use mathlib.Core.Path.{_≡_};
 ghost use Rattle.graph.specs.Sound.{lent};
 ghost use Rattle.verdicts.specs.Call.{mostLines, verdictCall};
 ghost use Rattle.trace.specs.Code.{hostCode};
-ghost use Rattle.trace.specs.Kernels.{sized};
-ghost use Rattle.trace.specs.Verdict.{threeOf, judgeTold, judgeTells};
+ghost use Rattle.trace.specs.Kernels.{statedSize};
+ghost use Rattle.trace.specs.Verdict.{asRefusal, judgeTold, judgeTells};
 ghost use Rattle.trace.specs.Host.{isKnown, hostVerdict};
 ghost use Rattle.trace.specs.Steps.{deskJudged};
 
-const DESK_LINES: usize = 1024;
+// How many lines a claim may have at desk limits.
+const DESK_LINES: usize = DESK_VERTICES;
 
+// The verdict on a graph that the host lends, at library limits.
 #[no_mangle]
 pub extern "C" fn trace_judge(
     vertices: usize,
@@ -41,7 +43,13 @@ pub extern "C" fn trace_judge(
     second: &mut [usize],
     third: &mut [usize],
 ) -> u64
-    ensures { λ r. ⌜ judgeTold r (now (result .exit)) (now (claimed .exit)) (now (first .exit)) (now (second .exit)) (now (third .exit)) ≡ judgeTells (verdictCall mostLines (lent (sized vertices arcs) (now (ids .entry)) (now («out_offsets» .entry)) (now («out_targets» .entry)) (now («in_offsets» .entry)) (now («in_sources» .entry))) kernel parameter (now (claim .entry)) (now (result .entry)) (now (claimed .entry)) (now (first .entry)) (now (second .entry)) (now (third .entry))) ⌝ }
+    ensures { λ r. ⌜
+        judgeTold r (now (result .exit)) (now (claimed .exit)) (now (first .exit)) (now (second .exit)) (now (third .exit))
+        ≡ judgeTells (verdictCall mostLines
+        (lent (statedSize vertices arcs) (now (ids .entry)) (now («out_offsets» .entry)) (now («out_targets» .entry))
+        (now («in_offsets» .entry)) (now («in_sources» .entry)))
+        kernel parameter (now (claim .entry))
+        (now (result .entry)) (now (claimed .entry)) (now (first .entry)) (now (second .entry)) (now (third .entry))) ⌝ }
 {
     let size = Size { vertices, arcs };
     let judged = verdict(
@@ -60,7 +68,7 @@ pub extern "C" fn trace_judge(
         second,
         third,
     );
-    refusal_code(three_of(judged))
+    refusal_code(as_refusal(judged))
 }
 
 // Whether 01 numbers this mode and this kernel.
@@ -88,13 +96,18 @@ fn judge_loaded(
     parameter: i64,
     claim: &[u8],
 ) -> u64
-    ensures { λ r. ⌜ r ≡ hostCode (threeOf (deskJudged (lent size (now (ids .entry)) (now («out_offsets» .entry)) (now («out_targets» .entry)) (now («in_offsets» .entry)) (now («in_sources» .entry))) kernel parameter (now (claim .entry)))) ⌝ }
+    ensures { λ r. ⌜
+        r
+        ≡ hostCode (asRefusal (deskJudged
+        (lent size (now (ids .entry)) (now («out_offsets» .entry)) (now («out_targets» .entry))
+        (now («in_offsets» .entry)) (now («in_sources» .entry)))
+        kernel parameter (now (claim .entry)))) ⌝ }
 {
-    let mut result = [0i64; 1024];
-    let mut claimed = [0i64; 1024];
-    let mut first = [0usize; 1024];
-    let mut second = [0usize; 1024];
-    let mut third = [0usize; 1024];
+    let mut result = [0i64; DESK_VERTICES];
+    let mut claimed = [0i64; DESK_VERTICES];
+    let mut first = [0usize; DESK_VERTICES];
+    let mut second = [0usize; DESK_VERTICES];
+    let mut third = [0usize; DESK_VERTICES];
     let judged = verdict_within(
         DESK_LINES,
         size,
@@ -112,7 +125,7 @@ fn judge_loaded(
         &mut second,
         &mut third,
     );
-    host_code(three_of(judged))
+    host_code(as_refusal(judged))
 }
 
 // The verdict on the bytes of three files, at desk limits.
@@ -134,11 +147,11 @@ pub extern "C" fn trace_verdict(
         vertices: DESK_VERTICES,
         edges: DESK_EDGES,
     };
-    let mut ids = [0i64; 1024];
-    let mut out_offsets = [0usize; 1025];
-    let mut out_targets = [0usize; 4096];
-    let mut in_offsets = [0usize; 1025];
-    let mut in_sources = [0usize; 4096];
+    let mut ids = [0i64; DESK_VERTICES];
+    let mut out_offsets = [0usize; DESK_VERTICES + 1];
+    let mut out_targets = [0usize; 2 * DESK_EDGES];
+    let mut in_offsets = [0usize; DESK_VERTICES + 1];
+    let mut in_sources = [0usize; 2 * DESK_EDGES];
     let loaded = load_within(
         limits,
         mode as usize,

@@ -17,7 +17,13 @@ pub extern "C" fn trace_load(
     in_offsets: &mut [usize],
     in_sources: &mut [usize],
 ) -> u64
-    ensures { λ r. ⌜ loadTold r (now (ids .exit)) (now («out_offsets» .exit)) (now («out_targets» .exit)) (now («in_offsets» .exit)) (now («in_sources» .exit)) ≡ loadTells (loadCall library mode (roomOf (length (now (ids .entry))) (length (now («out_offsets» .entry))) (length (now («out_targets» .entry))) (length (now («in_offsets» .entry))) (length (now («in_sources» .entry)))) (now (vertices .entry)) (now (edges .entry))) ⌝ }
+    ensures { λ r. ⌜
+        loadTold r (now (ids .exit)) (now («out_offsets» .exit)) (now («out_targets» .exit)) (now («in_offsets» .exit))
+        (now («in_sources» .exit))
+        ≡ loadTells (loadCall library mode
+        (roomOf (length (now (ids .entry))) (length (now («out_offsets» .entry))) (length (now («out_targets» .entry)))
+        (length (now («in_offsets» .entry))) (length (now («in_sources» .entry))))
+        (now (vertices .entry)) (now (edges .entry))) ⌝ }
 {
     load_code(load(
         mode as usize,

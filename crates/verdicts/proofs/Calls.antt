@@ -17,7 +17,7 @@ use Rattle.graph.specs.Sound.{Graph, soundGraph}
 use Rattle.matching.specs.Verdict.{Verdict}
 use Rattle.verdicts.specs.Reference.{Reference, bfsReference, wccReference, cdlpReference, lccReference}
 use Rattle.verdicts.specs.Call.{Outcome, outcome, roomFor, verdictSays, leftBy, callOn, unknownCall, verdictCall}
-use Rattle.verdicts.specs.Steps.{Roomy, Numbers, numbers, numbersCall, Terms, terms, termsCall}
+use Rattle.verdicts.specs.Steps.{Roomy, Numbers, numbers, numbersVerdict, Terms, terms, termsVerdict}
 
 -- ---- room in areas of five lengths
 module _ (n a b c d e : ℕ) where
@@ -58,10 +58,10 @@ leaves-none (refuses r) z size = refl
 
 module _ (k : Reference) (g : Graph) (R C : List ℤ) (F S T : List ℕ) {room : Bool} (p : room ≡ roomFor (g .vertices) R C F S T)
     {x : Said Verdict} {R′ C′ : List ℤ} {F′ S′ T′ : List ℕ} where
-  numbers-call : k .numerators ≡ [] → k .denominators ≡ [] → numbers x R′ C′ ≡ numbersCall k (soundGraph g) room R C → F′ ≡ cleared F
+  numbers-call : k .numerators ≡ [] → k .denominators ≡ [] → numbers x R′ C′ ≡ numbersVerdict k (soundGraph g) room R C → F′ ≡ cleared F
       → S′ ≡ cleared S → T′ ≡ cleared T
       → outcome x R′ C′ F′ S′ T′ ≡ callOn k g R C F S T
-  unfolding numbersCall callOn leftBy
+  unfolding numbersVerdict callOn leftBy
   numbers-call u w h f s t =
       let y = verdictSays k (soundGraph g) room in
       rw (← p)
@@ -69,9 +69,9 @@ module _ (k : Reference) (g : Graph) (R C : List ℤ) (F S T : List ℕ) {room :
       (f ∙ leaves-none y 0 (length F) ∙ ap (leaves y 0 (length F)) (sym u))
       (s ∙ leaves-none y 0 (length S) ∙ ap (leaves y 0 (length S)) (sym w)) t)
 
-  terms-call : k .values ≡ [] → terms x F′ S′ ≡ termsCall k (soundGraph g) room F S → R′ ≡ clearedZ R → C′ ≡ clearedZ C → T′ ≡ cleared T
+  terms-call : k .values ≡ [] → terms x F′ S′ ≡ termsVerdict k (soundGraph g) room F S → R′ ≡ clearedZ R → C′ ≡ clearedZ C → T′ ≡ cleared T
       → outcome x R′ C′ F′ S′ T′ ≡ callOn k g R C F S T
-  unfolding termsCall callOn leftBy
+  unfolding termsVerdict callOn leftBy
   terms-call u h r c t =
       let y = verdictSays k (soundGraph g) room in
       rw (← p)
@@ -92,7 +92,7 @@ module _ (most : ℕ) (g : Graph) (kernel : ℕ) (parameter : ℤ) (s : List ℕ
       && (leb (g .vertices) (length F) && (leb (g .vertices) (length S) && leb (g .vertices) (length T))))))
       {x : Said Verdict} {R′ C′ : List ℤ} {F′ S′ T′ : List ℕ} where
     pub verdict-bfs : {parameter′ : ℤ} → parameter′ ≡ parameter → kernel ≡ 1
-        → numbers x R′ C′ ≡ numbersCall (bfsReference most g s parameter′) (soundGraph g) room R C → F′ ≡ cleared F → S′ ≡ cleared S
+        → numbers x R′ C′ ≡ numbersVerdict (bfsReference most g s parameter′) (soundGraph g) room R C → F′ ≡ cleared F → S′ ≡ cleared S
         → T′ ≡ cleared T
         → outcome x R′ C′ F′ S′ T′ ≡ verdictCall most g kernel parameter s R C F S T
     unfolding verdictCall roomFor
@@ -100,7 +100,7 @@ module _ (most : ℕ) (g : Graph) (kernel : ℕ) (parameter : ℤ) (s : List ℕ
         numbers-call (bfsReference most g s parameter′) g R C F S T p refl refl h a b c
         ∙ rw (e, q)
 
-    pub verdict-wcc : (kernel ≡ 1 → ⊥) → kernel ≡ 2 → numbers x R′ C′ ≡ numbersCall (wccReference most g s) (soundGraph g) room R C
+    pub verdict-wcc : (kernel ≡ 1 → ⊥) → kernel ≡ 2 → numbers x R′ C′ ≡ numbersVerdict (wccReference most g s) (soundGraph g) room R C
         → (F′ ≡ cleared F) × (S′ ≡ cleared S) → T′ ≡ cleared T → outcome x R′ C′ F′ S′ T′ ≡ verdictCall most g kernel parameter s R C F S T
     unfolding verdictCall roomFor
     verdict-wcc i e h a c =
@@ -108,7 +108,7 @@ module _ (most : ℕ) (g : Graph) (kernel : ℕ) (parameter : ℤ) (s : List ℕ
         ∙ rw e
 
     pub verdict-cdlp : {parameter′ : ℤ} → parameter′ ≡ parameter → (kernel ≡ 1 → ⊥) → (kernel ≡ 2 → ⊥) → kernel ≡ 3
-        → numbers x R′ C′ ≡ numbersCall (cdlpReference most g s parameter′) (soundGraph g) room R C
+        → numbers x R′ C′ ≡ numbersVerdict (cdlpReference most g s parameter′) (soundGraph g) room R C
         → (F′ ≡ cleared F) × (S′ ≡ cleared S) × (T′ ≡ cleared T)
         → outcome x R′ C′ F′ S′ T′ ≡ verdictCall most g kernel parameter s R C F S T
     unfolding verdictCall roomFor
@@ -117,7 +117,7 @@ module _ (most : ℕ) (g : Graph) (kernel : ℕ) (parameter : ℤ) (s : List ℕ
         ∙ rw (e, q)
 
     pub verdict-lcc : (kernel ≡ 1 → ⊥) → (kernel ≡ 2 → ⊥) → (kernel ≡ 3 → ⊥) → kernel ≡ 4
-        → terms x F′ S′ ≡ termsCall (lccReference most g s) (soundGraph g) room F S
+        → terms x F′ S′ ≡ termsVerdict (lccReference most g s) (soundGraph g) room F S
         → R′ ≡ clearedZ R → C′ ≡ clearedZ C → T′ ≡ cleared T → outcome x R′ C′ F′ S′ T′ ≡ verdictCall most g kernel parameter s R C F S T
     unfolding verdictCall roomFor
     verdict-lcc i j l e h a b c =

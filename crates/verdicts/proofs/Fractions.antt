@@ -19,14 +19,14 @@ use Rattle.lcc.specs.Lcc.{numerator, denominator, numerators, denominators}
 use Rattle.lcc.specs.Promise as lcc
 use Rattle.lcc.proofs.Meaning.{coefficient-meaning}
 use Rattle.text.specs.declared.decimal.Decimal.{Decimal}
-use Rattle.matching.specs.Claim.{coefficientLines, valuesOf, idsOf}
+use Rattle.matching.specs.Claim.{coefficientLines, claimedOf, idsOf}
 use Rattle.matching.specs.Verdict.{Verdict, Fraction, firstLine, near, farLine, incompleteLine, verdictOf, judgedBy}
-use Rattle.matching.specs.Calls.{nearWithin, farWithin, fractionAt, fractions}
+use Rattle.matching.specs.Calls.{nearWithin, farWithin, fractionIn, fractions}
 use Rattle.verdicts.specs.Reference.{coefficientAt, coefficients, lccReference}
 use Rattle.verdicts.specs.Call.{verdictSays}
-use Rattle.verdicts.specs.Steps.{Known, Roomy, Terms, termsSays, termsOn, termsCall}
+use Rattle.verdicts.specs.Steps.{Known, Roomy, Terms, termsSays, termsOn, termsVerdict}
 use Rattle.verdicts.proofs.Settling.{both-terms}
-use Rattle.verdicts.proofs.Running.{Ran, ran-fine, ran-known, ran-roomy, ran-front, ran-kept, then-same, says-rooms}
+use Rattle.verdicts.proofs.Running.{Ran, ran-fine, ran-known, ran-roomy, ran-front, ran-leaves, then-same, says-rooms}
 
 -- ---- two tests that agree on one list's members find the same line
 first-same : {A B : Type 0} (p q : A → B → Bool) (z : A) (k : ℕ) (xs : List A) (ys : List B)
@@ -41,7 +41,7 @@ first-same p q z k (x ∷ xs) (y ∷ ys) h =
 judged-same : {A : Type 0} (ids : List ℤ) (f g : List A → ℕ) (x : Said (List (ℤ × A))) → ((l : List A) → f l ≡ g l)
     → judgedBy ids f x ≡ judgedBy ids g x
 unfolding judgedBy
-judged-same ids f g (gives l) h = ap (λ (m : ℕ). gives (verdictOf (incompleteLine ids (idsOf l)) m)) (h (valuesOf l))
+judged-same ids f g (gives l) h = ap (λ (m : ℕ). gives (verdictOf (incompleteLine ids (idsOf l)) m)) (h (claimedOf l))
 judged-same ids f g (refuses r) h = refl
 
 -- ---- a sound graph's coefficients have terms of 32 bits
@@ -63,7 +63,7 @@ module _ (g : Graph) (sound : soundGraph g ≡ true) where
 fractions-are : (g : Graph) (F S : List ℕ) → take (g .vertices) F ≡ numerators g → take (g .vertices) S ≡ denominators g
     → fractions (g .vertices) F S ≡ coefficients g
 fractions-are g F S p q =
-    column-is (fractionAt F S) (0, 0) (coefficients g) (g .vertices) (column-length (coefficientAt g) 0 (g .vertices))
+    column-is (fractionIn F S) (0, 0) (coefficients g) (g .vertices) (column-length (coefficientAt g) 0 (g .vertices))
     (λ i h. column-at (coefficientAt g) (g .vertices) i (0, 0) h
     ∙ ap₂ (λ (a b : ℕ). (a, b))
     (sym (column-at (numerator (g .vertices) (outward g) (inward g)) (g .vertices) i 0 h) ∙ ap (λ l. getD l i 0) (sym p)
@@ -133,9 +133,9 @@ module _ (g : Graph) (F S W : List ℕ) {a : Said (Unit {0})} {F′ S′ W′ : 
         (le-leb (g .vertices) (length W) (i t))))
 
     pub lcc-verdict : {x : Terms} → x ≡ termsOn a room most (g .vertices) (g .ids) s F′ S′
-        → x ≡ termsCall (lccReference most g s) (soundGraph g) room F S
-    unfolding termsOn termsCall termsSays
+        → x ≡ termsVerdict (lccReference most g s) (soundGraph g) room F S
+    unfolding termsOn termsVerdict termsSays
     lcc-verdict p =
         let x = check room noRoom (judgedBy (take (g .vertices) (g .ids)) (farWithin (fractions (g .vertices) F′ S′))
         (coefficientLines most s)) in
-        p ∙ both-terms says-same (ran-kept upper-ran x says-same) (ran-kept lower-ran x says-same)
+        p ∙ both-terms says-same (ran-leaves upper-ran x says-same) (ran-leaves lower-ran x says-same)

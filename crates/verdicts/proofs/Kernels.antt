@@ -26,7 +26,7 @@ use Rattle.cdlp.specs.Promise as cdlp
 use Rattle.cdlp.proofs.Runs.{cdlp-length}
 use Rattle.matching.specs.declared.numbers.Rule.the-variants.{Exact, Equivalence}
 use Rattle.verdicts.specs.Reference.{bfsReference, wccReference, cdlpReference}
-use Rattle.verdicts.specs.Steps.{Known, Roomy, Numbers, numbersOn, numbersCall}
+use Rattle.verdicts.specs.Steps.{Known, Roomy, Numbers, numbersOn, numbersVerdict}
 use Rattle.verdicts.proofs.Running.{Ran, ran-known, ran-roomy, numbers-verdict}
 
 -- ---- BFS
@@ -62,7 +62,7 @@ module _ (g : Graph) (root : ℤ) {root′ : ℤ} (p : root′ ≡ root) (R : Li
 
   pub bfs-verdict : {room : Bool} → Roomy room (g .vertices) (length R) → Roomy room (g .vertices) (length F)
       → (most : ℕ) (s : List ℕ) (C : List ℤ) {x : Numbers} → x ≡ numbersOn a room Exact most (g .vertices) (g .ids) s R′ C
-      → x ≡ numbersCall (bfsReference most g s root) (soundGraph g) room R C
+      → x ≡ numbersVerdict (bfsReference most g s root) (soundGraph g) room R C
   bfs-verdict f h most s =
       numbers-verdict (bfsReference most g s root) (g .ids) R bfs-ran
       (λ t. and-both (le-leb (g .vertices) (length R) (f t)) (le-leb (g .vertices) (length F) (h t)))
@@ -102,7 +102,7 @@ module _ (g : Graph) (R : List ℤ) (P S : List ℕ) {a : Said (Unit {0})} {R′
   pub wcc-verdict : {room : Bool} → Roomy room (g .vertices) (length R) → Roomy room (g .vertices) (length P)
       → Roomy room (g .vertices) (length S)
       → (most : ℕ) (s : List ℕ) (C : List ℤ) {x : Numbers} → x ≡ numbersOn a room Equivalence most (g .vertices) (g .ids) s R′ C
-      → x ≡ numbersCall (wccReference most g s) (soundGraph g) room R C
+      → x ≡ numbersVerdict (wccReference most g s) (soundGraph g) room R C
   unfolding wcc.roomFor
   wcc-verdict f h i most s =
       numbers-verdict (wccReference most g s) (g .ids) R wcc-ran
@@ -142,7 +142,7 @@ module _ (g : Graph) (z : ℤ) {z′ : ℤ} (p : z′ ≡ z) (R : List ℤ) (L N
   pub cdlp-verdict : {room : Bool} → Roomy room (g .vertices) (length R)
       → Roomy room (g .vertices) (length L) × Roomy room (g .vertices) (length N) × Roomy room (g .vertices) (length C)
       → (most : ℕ) (s : List ℕ) (D : List ℤ) {x : Numbers} → x ≡ numbersOn a room Exact most (g .vertices) (g .ids) s R′ D
-      → x ≡ numbersCall (cdlpReference most g s z) (soundGraph g) room R D
+      → x ≡ numbersVerdict (cdlpReference most g s z) (soundGraph g) room R D
   unfolding cdlp.roomFor
   cdlp-verdict f h most s =
       numbers-verdict (cdlpReference most g s z) (g .ids) R cdlp-ran

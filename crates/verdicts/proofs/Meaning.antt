@@ -21,12 +21,12 @@ use Rattle.wcc.proofs.Meaning.{wcc-length, labels-same}
 use Rattle.cdlp.specs.Promise.{goodRounds}
 use Rattle.cdlp.specs.Rounds.{cdlpOf}
 use Rattle.cdlp.proofs.Runs.{cdlp-length}
-use Rattle.matching.specs.Claim.{idsOf, valuesOf}
+use Rattle.matching.specs.Claim.{idsOf, claimedOf}
 use Rattle.matching.specs.Verdict.{near}
 use Rattle.matching.specs.Good.{Alike, Differs, Disagrees, EqualWhere, GoodClaim, Judges}
 use Rattle.matching.proofs.Meaning.{accepted, map-length}
 use Rattle.matching.proofs.Claims.{exact-judged, equivalence-judged, epsilon-judged}
-use Rattle.matching.proofs.Listing.{Line, claimText, linesOf, listed, AllFit, AllSpelled, exact-own, equivalence-own, epsilon-own}
+use Rattle.matching.proofs.Listing.{WrittenLine, claimText, pairsOf, listed, AllFit, AllSpelled, exact-own, equivalence-own, epsilon-own}
 use Rattle.verdicts.specs.Reference.{Reference, coefficients, bfsReference, wccReference, cdlpReference, lccReference}
 use Rattle.verdicts.specs.Call.{roomFor, verdictSays, leftBy, callOn, unknownCall, verdictCall}
 use Rattle.verdicts.proofs.Kernels.{bfs-length}
@@ -129,7 +129,7 @@ module _ (most : ℕ) (g : Graph) (sound : Sound g) (few : g .vertices ≤ most)
       ∙ exact-own most (names g) names-few fits values (names-length g sound ∙ sym (cdlp-length g sound (natAbs iterations)))
       (cdlp-fits g fits (natAbs iterations))
 
-  -- under any renaming that keeps labels apart and in range, as that of no label (`wcc-fits`)
+  -- under any renaming that keeps labels apart and in range
   pub wcc-own : (f : ℤ → ℤ) → ((x y : ℤ) → f x ≡ f y → x ≡ y) → AllFit (map f (wccOf g))
       → verdictSays (wccReference most g (claimText (listed (names g) (map f (wccOf g))))) true true ≡ accepted
   wcc-own f apart fit =
@@ -139,8 +139,9 @@ module _ (most : ℕ) (g : Graph) (sound : Sound g) (few : g .vertices ≤ most)
       (wcc-length g sound ∙ sym (names-length g sound)) refl
 
   -- with any decimals, in any spelling, that are close to the coefficients
-  pub lcc-own : (any : Decimal) (l : List (Line Decimal)) → AllSpelled decimalOf l → length l ≤ most → idsOf (linesOf l) ≡ names g
-      → Alike near (0, 1) any (coefficients g) (valuesOf (linesOf l)) → verdictSays (lccReference most g (claimText l)) true true ≡ accepted
+  pub lcc-own : (any : Decimal) (l : List (WrittenLine Decimal)) → AllSpelled decimalOf l → length l ≤ most → idsOf (pairsOf l) ≡ names g
+      → Alike near (0, 1) any (coefficients g) (claimedOf (pairsOf l))
+      → verdictSays (lccReference most g (claimText l)) true true ≡ accepted
   lcc-own any l h f e a =
       says-judged (lccReference most g (claimText l)) refl ∙ epsilon-own most (names g) names-few fits any (coefficients g) l h f e a
 

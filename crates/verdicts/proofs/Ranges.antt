@@ -9,6 +9,7 @@ use lib.Signed.{ltZ}
 use lib.ListN.{getD}
 use mir.Syntax.{w64}
 use mir.Val.{SFits}
+use Rattle.basis.specs.Limits.{mostVertices}
 use Rattle.basis.specs.Area.{column}
 use Rattle.basis.specs.Order.{sameZ}
 use Rattle.graph.specs.declared.find.Found.{Found}
@@ -34,7 +35,7 @@ fit-column f h s zero = tt
 fit-column f h s (suc n) = (h s, fit-column f h (suc s) n)
 
 -- ---- BFS
-least-fits : (p : ℕ → Bool) (n k : ℕ) → k + n ≤ 65536 → SFits w64 (leastFrom p n k)
+least-fits : (p : ℕ → Bool) (n k : ℕ) → k + n ≤ mostVertices → SFits w64 (leastFrom p n k)
 unfolding leastFrom
 least-fits p zero k h = fit-small 9223372036854775807 (omega arith)
 least-fits p (suc n) k h = by (p k) (least-fits p n (suc k) (omega arith))
@@ -43,7 +44,7 @@ least-fits p (suc n) k h = by (p k) (least-fits p n (suc k) (omega arith))
     by true r = fit-small k (omega arith)
     by false r = r
 
-pub bfs-fits : (g : Graph) → g .vertices ≤ 65536 → (place : Found) → AllFit (depthsFrom g place)
+pub bfs-fits : (g : Graph) → g .vertices ≤ mostVertices → (place : Found) → AllFit (depthsFrom g place)
 unfolding depthOf
 bfs-fits g h (At root) =
     fit-column (depthOf (g .vertices) (outward g) root) (λ v. least-fits _ (g .vertices) 0 (omega arith)) 0 (g .vertices)

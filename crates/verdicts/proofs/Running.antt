@@ -17,7 +17,7 @@ use Rattle.matching.specs.Claim.{numberLines}
 use Rattle.matching.specs.Verdict.{Verdict, mismatchLine, judgedBy}
 use Rattle.verdicts.specs.Reference.{Reference}
 use Rattle.verdicts.specs.Call.{thenSays, verdictSays}
-use Rattle.verdicts.specs.Steps.{kept, Known, Roomy, Numbers, numbersSays, numbersOn, numbersCall}
+use Rattle.verdicts.specs.Steps.{unlessRefused, Known, Roomy, Numbers, numbersSays, numbersOn, numbersVerdict}
 use Rattle.verdicts.proofs.Settling.{both-numbers}
 
 -- ---- what a kernel says
@@ -59,11 +59,11 @@ module _ {A : Type 0} (z : A) (size : ℕ) (l : List A) where
   leaves-front (refuses r) n e h = refused-given e
 
   -- the claim's verdict or refusal, on top of it
-  kept-leaves : (a : Said (Unit {0})) (x : Said Verdict) → (a ≡ gives tt → length l ≤ size)
-      → kept (thenSays a x) z (leaves a z size l) ≡ leaves (thenSays a x) z size l
-  kept-leaves (gives tt) (gives v) h = refl
-  kept-leaves (gives tt) (refuses r) h = ap (λ (k : ℕ). replicate k z) (pad-length z size l (h refl))
-  kept-leaves (refuses r) x h = ap (λ (k : ℕ). replicate k z) (length-replicate size z)
+  area-leaves : (a : Said (Unit {0})) (x : Said Verdict) → (a ≡ gives tt → length l ≤ size)
+      → unlessRefused (thenSays a x) z (leaves a z size l) ≡ leaves (thenSays a x) z size l
+  area-leaves (gives tt) (gives v) h = refl
+  area-leaves (gives tt) (refuses r) h = ap (λ (k : ℕ). replicate k z) (pad-length z size l (h refl))
+  area-leaves (refuses r) x h = ap (λ (k : ℕ). replicate k z) (length-replicate size z)
 
 -- ---- a kernel of n vertices, after its run on a result area of so many places
 pub record Ran {A : Type 0} (z : A) (given : Bool) (number : ℕ) (values : List A) (n count : ℕ) (sound own : Bool) (size : ℕ)
@@ -98,9 +98,10 @@ module _ {A : Type 0} {z : A} {given : Bool} {number : ℕ} {values : List A} {n
   pub ran-front : answer ≡ gives tt → take n left ≡ values
   ran-front e = ap (take n) (h .leaving) ∙ leaves-front z size values answer n e (lengths e)
 
-  pub ran-kept : (x : Said Verdict) {y : Said Verdict} → thenSays answer x ≡ y → kept (thenSays answer x) z left ≡ leaves y z size values
-  ran-kept x e =
-      ap (kept (thenSays answer x) z) (h .leaving) ∙ kept-leaves z size values answer x fits
+  pub ran-leaves : (x : Said Verdict) {y : Said Verdict} → thenSays answer x ≡ y
+      → unlessRefused (thenSays answer x) z left ≡ leaves y z size values
+  ran-leaves x e =
+      ap (unlessRefused (thenSays answer x) z) (h .leaving) ∙ area-leaves z size values answer x fits
       ∙ ap (λ (w : Said Verdict). leaves w z size values) e
 
 -- ---- the verdict on numbers
@@ -115,8 +116,8 @@ module _ (k : Reference) {n : ℕ} (ids : List ℤ) {sound own : Bool} (R : List
       (λ e. ap (λ (l : List ℤ). check room noRoom (judgedBy (take n ids) (mismatchLine rule l) (numberLines most s))) (ran-front h e))
       ∙ rw (h .said, ← q) (says-rooms sound (k .given) (k .number) own room (k .judged) r)
 
-  pub numbers-verdict : (C : List ℤ) {x : Numbers} → x ≡ numbersOn answer room rule most n ids s R′ C → x ≡ numbersCall k sound room R C
-  unfolding numbersOn numbersCall numbersSays
+  pub numbers-verdict : (C : List ℤ) {x : Numbers} → x ≡ numbersOn answer room rule most n ids s R′ C → x ≡ numbersVerdict k sound room R C
+  unfolding numbersOn numbersVerdict numbersSays
   numbers-verdict C p =
       p ∙ both-numbers says-same
-      (ran-kept h (check room noRoom (judgedBy (take n ids) (mismatchLine rule (take n R′)) (numberLines most s))) says-same) refl
+      (ran-leaves h (check room noRoom (judgedBy (take n ids) (mismatchLine rule (take n R′)) (numberLines most s))) says-same) refl

@@ -19,24 +19,24 @@ use Rattle.matching.specs.declared.numbers.Rule.{Rule}
 use Rattle.matching.specs.Claim.{numberLines, coefficientLines}
 use Rattle.matching.specs.Verdict.{Verdict, says, mismatchLine, judgedBy}
 use Rattle.matching.specs.Calls as calls
-use Rattle.verdicts.specs.Steps.{isRefused, kept, Known, Roomy, Numbers, numbers}
+use Rattle.verdicts.specs.Steps.{isRefused, unlessRefused, Known, Roomy, Numbers, numbers}
 use Rattle.verdicts.specs.Steps.{numbersSays, numbersOn, Terms, terms, termsSays, termsOn}
 
 -- ---- an area after a verdict, and after a refusal, by the test t
 module _ {A : Type 0} (x : Said Verdict) (z : A) (l : List A) {t : Bool} (e : t ≡ isRefused x) where
-  stays : (y : Said Verdict) → isRefused y ≡ false → l ≡ kept y z l
+  stays : (y : Said Verdict) → isRefused y ≡ false → l ≡ unlessRefused y z l
   stays (gives v) h = refl
   stays (refuses r) h = clash refl h
 
-  goes : (y : Said Verdict) → isRefused y ≡ true → replicate (length l) z ≡ kept y z l
+  goes : (y : Said Verdict) → isRefused y ≡ true → replicate (length l) z ≡ unlessRefused y z l
   goes (gives v) h = clash h refl
   goes (refuses r) h = refl
 
-  pub kept-stays : not t ≡ true → l ≡ kept x z l
-  kept-stays h = stays x (failed t (isRefused x) e h)
+  pub area-stays : not t ≡ true → l ≡ unlessRefused x z l
+  area-stays h = stays x (failed t (isRefused x) e h)
 
-  pub kept-goes : not t ≡ false → {left : List A} → left ≡ replicate (length l) z → left ≡ kept x z l
-  kept-goes h q = q ∙ goes x (held t (isRefused x) e h)
+  pub area-goes : not t ≡ false → {left : List A} → left ≡ replicate (length l) z → left ≡ unlessRefused x z l
+  area-goes h q = q ∙ goes x (held t (isRefused x) e h)
 
 pub both-numbers : {x y : Said Verdict} {a b c d : List ℤ} → x ≡ y → a ≡ b → c ≡ d → numbers x a c ≡ numbers y b d
 both-numbers p q r = cc
@@ -65,7 +65,7 @@ module _ (answer : Answer) (room : Bool) (rule : Rule) (most n : ℕ) (ids : Lis
     module _ (known : Known (answers answer) n (length ids)) where
       pub numbers-done : not room ≡ false → Roomy room n (length R) × Roomy room n (length C)
           → (j : Judged) (C′ : List ℤ) → calls.outcome (says j) C′ ≡ calls.numbersCall rule most (take n ids) R s C
-          → (i : Judged) (R′ : List ℤ) → (i ≡ j) × (R′ ≡ kept (says j) (pos 0) R)
+          → (i : Judged) (R′ : List ℤ) → (i ≡ j) × (R′ ≡ unlessRefused (says j) (pos 0) R)
           → numbers (says i) R′ C′ ≡ numbersOn (answers answer) room rule most n ids s R C
       unfolding numbersOn numbersSays calls.numbersCall
       numbers-done h roomy j C′ q i R′ p =
@@ -74,7 +74,7 @@ module _ (answer : Answer) (room : Bool) (rule : Rule) (most n : ℕ) (ids : Lis
           let f : says j ≡ judgedBy (take n ids) (mismatchLine rule (take n R)) (numberLines most s) =
           ap (λ (o : calls.Outcome). o .said) q
           ∙ rw (l, le-leb n (length R) (roomy .0 t), le-leb n (length C) (roomy .1 t)) in
-          rw (e, t) (both-numbers (ap says (p .0) ∙ f) (p .1 ∙ ap (λ (x : Said Verdict). kept x (pos 0) R) f)
+          rw (e, t) (both-numbers (ap says (p .0) ∙ f) (p .1 ∙ ap (λ (x : Said Verdict). unlessRefused x (pos 0) R) f)
           (ap (λ (o : calls.Outcome). o .claimed) q))
 
 -- ---- a claim of coefficients
@@ -93,7 +93,7 @@ module _ (answer : Answer) (room : Bool) (most n : ℕ) (ids : List ℤ) (s F S 
     module _ (known : Known (answers answer) n (length ids)) where
       pub terms-done : not room ≡ false → Roomy room n (length F) × Roomy room n (length S)
           → (j : Judged) → says j ≡ calls.coefficientsSays most (take n ids) F S s
-          → {x : Terms} → x ≡ terms (says j) (kept (says j) 0 F) (kept (says j) 0 S)
+          → {x : Terms} → x ≡ terms (says j) (unlessRefused (says j) 0 F) (unlessRefused (says j) 0 S)
           → x ≡ termsOn (answers answer) room most n ids s F S
       unfolding termsOn termsSays calls.coefficientsSays
       terms-done h roomy j q p =
@@ -101,4 +101,4 @@ module _ (answer : Answer) (room : Bool) (most n : ℕ) (ids : List ℤ) (s F S 
           let l = length-take-le n ids (known-ids answer n (length ids) e known) in
           let f : says j ≡ judgedBy (take n ids) (calls.farWithin (calls.fractions n F S)) (coefficientLines most s) =
           q ∙ rw (l, le-leb n (length F) (roomy .0 t), le-leb n (length S) (roomy .1 t)) in
-          rw (e, t) (p ∙ both-terms f (ap (λ (x : Said Verdict). kept x 0 F) f) (ap (λ (x : Said Verdict). kept x 0 S) f))
+          rw (e, t) (p ∙ both-terms f (ap (λ (x : Said Verdict). unlessRefused x 0 F) f) (ap (λ (x : Said Verdict). unlessRefused x 0 S) f))

@@ -27,7 +27,8 @@ pub record Outcome : Type 0 where
 
 -- the same, by its fields in order
 abbrev pub outcome : Said Verdict → List ℤ → List ℤ → List ℕ → List ℕ → List ℕ → Outcome
-outcome said R C F S T = record { said = said; result = R; claimed = C; first = F; second = S; third = T }
+outcome said result claimed first second third =
+    record { said = said; result = result; claimed = claimed; first = first; second = second; third = third }
 
 -- "as its kernel does, then the claim": what is said next where a kernel, which has no values, is not refused
 abbrev pub thenSays : Said (Unit {0}) → Said Verdict → Said Verdict
@@ -35,30 +36,39 @@ thenSays answer next = onward answer (λ done. next)
 
 -- "each result or working area needs n places"
 unfoldable pub roomFor : ℕ → List ℤ → List ℤ → List ℕ → List ℕ → List ℕ → Bool
-roomFor n R C F S T =
-    leb n (length R) && (leb n (length C) && (leb n (length F) && (leb n (length S) && leb n (length T))))
+roomFor n result claimed first second third =
+    leb n (length result) && (leb n (length claimed) && (leb n (length first) && (leb n (length second) && leb n (length third))))
 
 -- "as its kernel does, then the claim", for a graph that is sound or not and areas that have room or not
 unfoldable pub verdictSays : Reference → Bool → Bool → Said Verdict
 verdictSays k sound room = thenSays (kernelSays sound (k .given) (k .number) room) (k .judged)
 
--- "After success, any verdict included, places beyond the ones used are zero, and working areas are zero throughout"; all are zero after a refusal
+-- "After success, any verdict included, places beyond the ones used are zero, and working areas are zero throughout"; all are zero after
+-- a refusal
 unfoldable pub leftBy : Reference → Said Verdict → List ℤ → List ℤ → List ℕ → List ℕ → List ℕ → Outcome
-leftBy k said R C F S T =
-    outcome said (leaves said (pos 0) (length R) (k .values)) (clearedZ C) (leaves said 0 (length F) (k .numerators)) (leaves said 0 (length S) (k .denominators)) (cleared T)
+leftBy k said result claimed first second third =
+    outcome said
+    (leaves said (pos 0) (length result) (k .values))
+    (clearedZ claimed)
+    (leaves said 0 (length first) (k .numerators))
+    (leaves said 0 (length second) (k .denominators))
+    (cleared third)
 
 -- the call for a known kernel: what is said of the graph, the areas and the claim, and what that leaves in the areas
 unfoldable pub callOn : Reference → Graph → List ℤ → List ℤ → List ℕ → List ℕ → List ℕ → Outcome
-callOn k g R C F S T = leftBy k (verdictSays k (soundGraph g) (roomFor (g .vertices) R C F S T)) R C F S T
+callOn k g result claimed first second third =
+    leftBy k (verdictSays k (soundGraph g) (roomFor (g .vertices) result claimed first second third)) result claimed first second third
 
 -- "a mode or kernel number is unknown": refusal 12, and zero in all five areas
 unfoldable pub unknownCall : List ℤ → List ℤ → List ℕ → List ℕ → List ℕ → Outcome
-unknownCall R C F S T = outcome (refuses (plain unknownNumber)) (clearedZ R) (clearedZ C) (cleared F) (cleared S) (cleared T)
+unknownCall result claimed first second third =
+    outcome (refuses (plain unknownNumber)) (clearedZ result) (clearedZ claimed) (cleared first) (cleared second) (cleared third)
 
 -- "A verdict checks 12, then as its kernel does, then the claim."
 unfoldable pub verdictCall : ℕ → Graph → ℕ → ℤ → List ℕ → List ℤ → List ℤ → List ℕ → List ℕ → List ℕ → Outcome
-verdictCall most g kernel parameter s R C F S T =
-    cond (eqb kernel bfsNumber) (callOn (bfsReference most g s parameter) g R C F S T)
-    (cond (eqb kernel wccNumber) (callOn (wccReference most g s) g R C F S T)
-    (cond (eqb kernel cdlpNumber) (callOn (cdlpReference most g s parameter) g R C F S T)
-    (cond (eqb kernel lccNumber) (callOn (lccReference most g s) g R C F S T) (unknownCall R C F S T))))
+verdictCall most g kernel parameter s result claimed first second third =
+    cond (eqb kernel bfsNumber) (callOn (bfsReference most g s parameter) g result claimed first second third)
+    (cond (eqb kernel wccNumber) (callOn (wccReference most g s) g result claimed first second third)
+    (cond (eqb kernel cdlpNumber) (callOn (cdlpReference most g s parameter) g result claimed first second third)
+    (cond (eqb kernel lccNumber) (callOn (lccReference most g s) g result claimed first second third)
+    (unknownCall result claimed first second third))))

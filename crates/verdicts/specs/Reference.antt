@@ -1,4 +1,4 @@
--- 01 "Claims and verdicts" and 000, 2.4: what each kernel brings to a verdict, its reference output and the rule by which a claim matches it.
+-- 01 "Claims and verdicts" and 000, 2.4: what each kernel brings to a verdict, its reference output and the rule by which a claim matches.
 use Prim.Native.Nat.{ℕ}
 use mathlib.Core.Bool.{Bool, true}
 use mathlib.Core.List.{List, []}

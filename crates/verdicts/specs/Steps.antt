@@ -7,32 +7,33 @@ use lib.IntN.{ℤ, pos}
 use lib.ListN.{length, take, replicate}
 use Rattle.basis.specs.Refusal.{Said, gives, refuses, noRoom, check}
 use Rattle.basis.specs.Area.{leaves, clearedZ}
+use Rattle.graph.specs.Sound.{Graph, soundGraph}
 use Rattle.matching.specs.declared.numbers.Rule.{Rule}
 use Rattle.matching.specs.Claim.{numberLines, coefficientLines}
 use Rattle.matching.specs.Verdict.{Verdict, mismatchLine, judgedBy}
 use Rattle.matching.specs.Calls.{fractions, farWithin}
-use Rattle.verdicts.specs.Reference.{Reference}
+use Rattle.verdicts.specs.Reference.{Reference, bfsReference, wccReference, cdlpReference, lccReference}
 use Rattle.verdicts.specs.Call.{thenSays, verdictSays}
 
 -- an area as it stands, or zero after a refusal
-abbrev pub kept : {A : Type 0} → Said Verdict → A → List A → List A
-kept (gives v) z l = l
-kept (refuses r) z l = replicate (length l) z
+abbrev pub unlessRefused : {A : Type 0} → Said Verdict → A → List A → List A
+unlessRefused (gives v) z l = l
+unlessRefused (refuses r) z l = replicate (length l) z
 
 -- a refusal was said, no verdict
 abbrev pub isRefused : Said Verdict → Bool
 isRefused (gives v) = false
 isRefused (refuses r) = true
 
--- a graph that a kernel did not refuse has its identifiers
+-- where a kernel did not refuse, its n vertices have identifiers among so many
 abbrev pub Known : Said (Unit {0}) → ℕ → ℕ → Type 0
 Known answer n size = answer ≡ gives tt → n ≤ size
 
--- where there is room in all areas, there is in this one
+-- where there is room in all areas, there are n places in this one, of such a size
 abbrev pub Roomy : Bool → ℕ → ℕ → Type 0
 Roomy room n size = room ≡ true → n ≤ size
 
--- what was said, and the result area and the working area for the claimed numbers
+-- what was said of a claim of numbers, the result area and the working area for the claimed numbers
 pub record Numbers : Type 0 where
   pub said : Said Verdict
   pub result : List ℤ
@@ -40,24 +41,37 @@ pub record Numbers : Type 0 where
 
 -- the same, by its fields in order
 abbrev pub numbers : Said Verdict → List ℤ → List ℤ → Numbers
-numbers said R C = record { said = said; result = R; claimed = C }
+numbers said result claimed = record { said = said; result = result; claimed = claimed }
 
--- a claim of numbers on the results of a kernel that said so much, if there is room in all areas
+-- what is said of a claim of numbers by the results of a kernel that answered so, if there is room in all areas
 unfoldable pub numbersSays : Said (Unit {0}) → Bool → Rule → ℕ → List ℤ → List ℤ → List ℕ → Said Verdict
 numbersSays answer room rule most ids reference s =
     thenSays answer (check room noRoom (judgedBy ids (mismatchLine rule reference) (numberLines most s)))
 
--- the same on the first n identifiers and results; the result area stays, or is zero after a refusal, and the working area is zero
+-- the same by the first n identifiers and results; the result area stays, or is zero after a refusal, and the working area is zero
 unfoldable pub numbersOn : Said (Unit {0}) → Bool → Rule → ℕ → ℕ → List ℤ → List ℕ → List ℤ → List ℤ → Numbers
-numbersOn answer room rule most n ids s R C =
-    let said = numbersSays answer room rule most (take n ids) (take n R) s in
-    numbers said (kept said (pos 0) R) (clearedZ C)
+numbersOn answer room rule most n ids s result claimed =
+    let said = numbersSays answer room rule most (take n ids) (take n result) s in
+    numbers said (unlessRefused said (pos 0) result) (clearedZ claimed)
 
--- a kernel's verdict on a claim of numbers
-unfoldable pub numbersCall : Reference → Bool → Bool → List ℤ → List ℤ → Numbers
-numbersCall k sound room R C =
+-- a kernel's verdict on a claim of numbers: what is said, its values in the result area, and zero in the working area
+unfoldable pub numbersVerdict : Reference → Bool → Bool → List ℤ → List ℤ → Numbers
+numbersVerdict k sound room result claimed =
     let said = verdictSays k sound room in
-    numbers said (leaves said (pos 0) (length R) (k .values)) (clearedZ C)
+    numbers said (leaves said (pos 0) (length result) (k .values)) (clearedZ claimed)
+
+-- that of BFS from a root on a lent graph, with room in all areas or not
+abbrev pub bfsVerdict : Bool → ℕ → Graph → ℤ → List ℕ → List ℤ → List ℤ → Numbers
+bfsVerdict room most g root s result claimed = numbersVerdict (bfsReference most g s root) (soundGraph g) room result claimed
+
+-- that of WCC
+abbrev pub wccVerdict : Bool → ℕ → Graph → List ℕ → List ℤ → List ℤ → Numbers
+wccVerdict room most g s result claimed = numbersVerdict (wccReference most g s) (soundGraph g) room result claimed
+
+-- that of CDLP after so many iterations
+abbrev pub cdlpVerdict : Bool → ℕ → Graph → ℤ → List ℕ → List ℤ → List ℤ → Numbers
+cdlpVerdict room most g iterations s result claimed =
+    numbersVerdict (cdlpReference most g s iterations) (soundGraph g) room result claimed
 
 -- what was said of a claim of coefficients, and their two result areas
 pub record Terms : Type 0 where
@@ -67,21 +81,25 @@ pub record Terms : Type 0 where
 
 -- the same, by its fields in order
 abbrev pub terms : Said Verdict → List ℕ → List ℕ → Terms
-terms said F S = record { said = said; first = F; second = S }
+terms said first second = record { said = said; first = first; second = second }
 
--- a claim of coefficients on the first n fractions in a kernel's two result areas, if there is room in all areas
+-- what is said of a claim of coefficients by the first n fractions in a kernel's two result areas, if there is room in all areas
 unfoldable pub termsSays : Said (Unit {0}) → Bool → ℕ → ℕ → List ℤ → List ℕ → List ℕ → List ℕ → Said Verdict
-termsSays answer room most n ids s F S =
-    thenSays answer (check room noRoom (judgedBy (take n ids) (farWithin (fractions n F S)) (coefficientLines most s)))
+termsSays answer room most n ids s first second =
+    thenSays answer (check room noRoom (judgedBy (take n ids) (farWithin (fractions n first second)) (coefficientLines most s)))
 
--- the same with the two areas, which are kept or, after a refusal, zero
+-- the same with the two areas, which stay or, after a refusal, are zero
 unfoldable pub termsOn : Said (Unit {0}) → Bool → ℕ → ℕ → List ℤ → List ℕ → List ℕ → List ℕ → Terms
-termsOn answer room most n ids s F S =
-    let said = termsSays answer room most n ids s F S in
-    terms said (kept said 0 F) (kept said 0 S)
+termsOn answer room most n ids s first second =
+    let said = termsSays answer room most n ids s first second in
+    terms said (unlessRefused said 0 first) (unlessRefused said 0 second)
 
 -- a kernel's verdict on a claim of coefficients: what is said, and its numerators and denominators in the two areas
-unfoldable pub termsCall : Reference → Bool → Bool → List ℕ → List ℕ → Terms
-termsCall k sound room F S =
+unfoldable pub termsVerdict : Reference → Bool → Bool → List ℕ → List ℕ → Terms
+termsVerdict k sound room first second =
     let said = verdictSays k sound room in
-    terms said (leaves said 0 (length F) (k .numerators)) (leaves said 0 (length S) (k .denominators))
+    terms said (leaves said 0 (length first) (k .numerators)) (leaves said 0 (length second) (k .denominators))
+
+-- that of LCC on a lent graph, with room in all areas or not
+abbrev pub lccVerdict : Bool → ℕ → Graph → List ℕ → List ℕ → List ℕ → Terms
+lccVerdict room most g s first second = termsVerdict (lccReference most g s) (soundGraph g) room first second

@@ -15,8 +15,9 @@ ghost use Rattle.basis.specs.Refusal.{refuses};
 ghost use Rattle.basis.specs.Area.{clearedZ};
 ghost use Rattle.kernels.specs.Answer.{says as answers};
 ghost use Rattle.matching.specs.Verdict.{says};
-ghost use Rattle.verdicts.specs.Steps.{isRefused, kept, numbers, numbersOn, terms, termsOn, Known, Roomy};
+ghost use Rattle.verdicts.specs.Steps.{isRefused, unlessRefused, numbers, numbersOn, terms, termsOn, Known, Roomy};
 
+// A refusal was said, no verdict.
 fn is_refused(judged: Judged) -> bool
     ensures { λ r. ⌜ r ≡ isRefused (says judged) ⌝ }
 {
@@ -30,7 +31,7 @@ fn is_refused(judged: Judged) -> bool
 
 // The results stay after a verdict and go after a refusal.
 fn settle_numbers(judged: Judged, result: &mut [i64]) -> Judged
-    ensures { λ r. ⌜ (r ≡ judged) × (now (result .exit) ≡ kept (says judged) (pos 0) (now (result .entry))) ⌝ }
+    ensures { λ r. ⌜ (r ≡ judged) × (now (result .exit) ≡ unlessRefused (says judged) (pos 0) (now (result .entry))) ⌝ }
 {
     if !is_refused(judged) {
         return judged;
@@ -41,7 +42,11 @@ fn settle_numbers(judged: Judged, result: &mut [i64]) -> Judged
 
 // The same of a coefficient's two areas.
 fn settle_terms(judged: Judged, first: &mut [usize], second: &mut [usize]) -> Judged
-    ensures { λ r. ⌜ terms (says r) (now (first .exit)) (now (second .exit)) ≡ terms (says judged) (kept (says judged) 0 (now (first .entry))) (kept (says judged) 0 (now (second .entry))) ⌝ }
+    ensures { λ r. ⌜
+        terms (says r) (now (first .exit)) (now (second .exit))
+        ≡ terms (says judged)
+        (unlessRefused (says judged) 0 (now (first .entry)))
+        (unlessRefused (says judged) 0 (now (second .entry))) ⌝ }
 {
     if !is_refused(judged) {
         return judged;
@@ -53,7 +58,9 @@ fn settle_terms(judged: Judged, first: &mut [usize], second: &mut [usize]) -> Ju
 
 // A refusal before the claim is read: its working area is not cleared yet.
 fn refuse_numbers(r: Refusal, result: &mut [i64], claimed: &mut [i64]) -> Judged
-    ensures { λ j. ⌜ numbers (says j) (now (result .exit)) (now (claimed .exit)) ≡ numbers (refuses r) (clearedZ (now (result .entry))) (clearedZ (now (claimed .entry))) ⌝ }
+    ensures { λ j. ⌜
+        numbers (says j) (now (result .exit)) (now (claimed .exit))
+        ≡ numbers (refuses r) (clearedZ (now (result .entry))) (clearedZ (now (claimed .entry))) ⌝ }
 {
     clear_signed(result);
     clear_signed(claimed);
@@ -74,7 +81,10 @@ pub(crate) fn numbers_on(
 ) -> Judged
     requires { ⌜ Known (answers answer) n (length (now ids)) ⌝ }
     requires { ⌜ (Roomy room n (length (now result))) × (Roomy room n (length (now claimed))) ⌝ }
-    ensures { λ r. ⌜ numbers (says r) (now (result .exit)) (now (claimed .exit)) ≡ numbersOn (answers answer) room rule most n (now (ids .entry)) (now (claim .entry)) (now (result .entry)) (now (claimed .entry)) ⌝ }
+    ensures { λ r. ⌜
+        numbers (says r) (now (result .exit)) (now (claimed .exit))
+        ≡ numbersOn (answers answer) room rule most n
+        (now (ids .entry)) (now (claim .entry)) (now (result .entry)) (now (claimed .entry)) ⌝ }
 {
     match answer {
         Answer::Refused(r) => refuse_numbers(r, result, claimed),
@@ -88,7 +98,7 @@ pub(crate) fn numbers_on(
     }
 }
 
-// A claim of coefficients on a kernel's two result areas.
+// A claim of coefficients on a kernel's two result areas; `room` says whether all areas have room.
 pub(crate) fn terms_on(
     answer: Answer,
     room: bool,
@@ -101,7 +111,10 @@ pub(crate) fn terms_on(
 ) -> Judged
     requires { ⌜ Known (answers answer) n (length (now ids)) ⌝ }
     requires { ⌜ (Roomy room n (length (now first))) × (Roomy room n (length (now second))) ⌝ }
-    ensures { λ r. ⌜ terms (says r) (now (first .exit)) (now (second .exit)) ≡ termsOn (answers answer) room most n (now (ids .entry)) (now (claim .entry)) (now (first .entry)) (now (second .entry)) ⌝ }
+    ensures { λ r. ⌜
+        terms (says r) (now (first .exit)) (now (second .exit))
+        ≡ termsOn (answers answer) room most n
+        (now (ids .entry)) (now (claim .entry)) (now (first .entry)) (now (second .entry)) ⌝ }
 {
     match answer {
         Answer::Refused(r) => settle_terms(Judged::Refused(r), first, second),

@@ -11,11 +11,11 @@ use wcc::wcc;
 ghost use mathlib.Core.Path.{_≡_};
 ghost use lib.ListN.{length};
 ghost use Rattle.basis.specs.Area.{cleared};
-ghost use Rattle.graph.specs.Sound.{lent, soundGraph};
+ghost use Rattle.graph.specs.Sound.{lent};
 ghost use Rattle.matching.specs.Verdict.{says};
-ghost use Rattle.verdicts.specs.Reference.{bfsReference, wccReference, cdlpReference, lccReference};
-ghost use Rattle.verdicts.specs.Steps.{numbers, numbersCall, terms, termsCall, Roomy};
+ghost use Rattle.verdicts.specs.Steps.{Roomy, numbers, bfsVerdict, wccVerdict, cdlpVerdict, terms, lccVerdict};
 
+// BFS: exact match; its queue is zero afterwards.
 pub(crate) fn on_bfs(
     room: bool,
     most: usize,
@@ -33,7 +33,12 @@ pub(crate) fn on_bfs(
 ) -> Judged
     requires { ⌜ (Roomy room (size .vertices) (length (now result))) × (Roomy room (size .vertices) (length (now claimed))) ⌝ }
     requires { ⌜ Roomy room (size .vertices) (length (now queue)) ⌝ }
-    ensures { λ r. ⌜ numbers (says r) (now (result .exit)) (now (claimed .exit)) ≡ numbersCall (bfsReference most (lent size (now (ids .entry)) (now («out_offsets» .entry)) (now («out_targets» .entry)) (now («in_offsets» .entry)) (now («in_sources» .entry))) (now (claim .entry)) root) (soundGraph (lent size (now (ids .entry)) (now («out_offsets» .entry)) (now («out_targets» .entry)) (now («in_offsets» .entry)) (now («in_sources» .entry)))) room (now (result .entry)) (now (claimed .entry)) ⌝ }
+    ensures { λ r. ⌜
+        numbers (says r) (now (result .exit)) (now (claimed .exit))
+        ≡ bfsVerdict room most
+        (lent size (now (ids .entry)) (now («out_offsets» .entry)) (now («out_targets» .entry))
+        (now («in_offsets» .entry)) (now («in_sources» .entry)))
+        root (now (claim .entry)) (now (result .entry)) (now (claimed .entry)) ⌝ }
     ensures { λ r. ⌜ now (queue .exit) ≡ cleared (now (queue .entry)) ⌝ }
 {
     let answer = bfs(
@@ -60,6 +65,7 @@ pub(crate) fn on_bfs(
     )
 }
 
+// WCC: equivalence match; the two areas of its book are zero afterwards.
 pub(crate) fn on_wcc(
     room: bool,
     most: usize,
@@ -77,7 +83,12 @@ pub(crate) fn on_wcc(
 ) -> Judged
     requires { ⌜ (Roomy room (size .vertices) (length (now result))) × (Roomy room (size .vertices) (length (now claimed))) ⌝ }
     requires { ⌜ (Roomy room (size .vertices) (length (now parents))) × (Roomy room (size .vertices) (length (now sizes))) ⌝ }
-    ensures { λ r. ⌜ numbers (says r) (now (result .exit)) (now (claimed .exit)) ≡ numbersCall (wccReference most (lent size (now (ids .entry)) (now («out_offsets» .entry)) (now («out_targets» .entry)) (now («in_offsets» .entry)) (now («in_sources» .entry))) (now (claim .entry))) (soundGraph (lent size (now (ids .entry)) (now («out_offsets» .entry)) (now («out_targets» .entry)) (now («in_offsets» .entry)) (now («in_sources» .entry)))) room (now (result .entry)) (now (claimed .entry)) ⌝ }
+    ensures { λ r. ⌜
+        numbers (says r) (now (result .exit)) (now (claimed .exit))
+        ≡ wccVerdict room most
+        (lent size (now (ids .entry)) (now («out_offsets» .entry)) (now («out_targets» .entry))
+        (now («in_offsets» .entry)) (now («in_sources» .entry)))
+        (now (claim .entry)) (now (result .entry)) (now (claimed .entry)) ⌝ }
     ensures { λ r. ⌜ (now (parents .exit) ≡ cleared (now (parents .entry))) × (now (sizes .exit) ≡ cleared (now (sizes .entry))) ⌝ }
 {
     let answer = wcc(
@@ -104,6 +115,7 @@ pub(crate) fn on_wcc(
     )
 }
 
+// CDLP: exact match; its three working areas are zero afterwards.
 pub(crate) fn on_cdlp(
     room: bool,
     most: usize,
@@ -122,9 +134,20 @@ pub(crate) fn on_cdlp(
     counts: &mut [usize],
 ) -> Judged
     requires { ⌜ (Roomy room (size .vertices) (length (now result))) × (Roomy room (size .vertices) (length (now claimed))) ⌝ }
-    requires { ⌜ (Roomy room (size .vertices) (length (now labels))) × (Roomy room (size .vertices) (length (now next))) × (Roomy room (size .vertices) (length (now counts))) ⌝ }
-    ensures { λ r. ⌜ numbers (says r) (now (result .exit)) (now (claimed .exit)) ≡ numbersCall (cdlpReference most (lent size (now (ids .entry)) (now («out_offsets» .entry)) (now («out_targets» .entry)) (now («in_offsets» .entry)) (now («in_sources» .entry))) (now (claim .entry)) iterations) (soundGraph (lent size (now (ids .entry)) (now («out_offsets» .entry)) (now («out_targets» .entry)) (now («in_offsets» .entry)) (now («in_sources» .entry)))) room (now (result .entry)) (now (claimed .entry)) ⌝ }
-    ensures { λ r. ⌜ (now (labels .exit) ≡ cleared (now (labels .entry))) × (now (next .exit) ≡ cleared (now (next .entry))) × (now (counts .exit) ≡ cleared (now (counts .entry))) ⌝ }
+    requires { ⌜
+        (Roomy room (size .vertices) (length (now labels)))
+        × (Roomy room (size .vertices) (length (now next)))
+        × (Roomy room (size .vertices) (length (now counts))) ⌝ }
+    ensures { λ r. ⌜
+        numbers (says r) (now (result .exit)) (now (claimed .exit))
+        ≡ cdlpVerdict room most
+        (lent size (now (ids .entry)) (now («out_offsets» .entry)) (now («out_targets» .entry))
+        (now («in_offsets» .entry)) (now («in_sources» .entry)))
+        iterations (now (claim .entry)) (now (result .entry)) (now (claimed .entry)) ⌝ }
+    ensures { λ r. ⌜
+        (now (labels .exit) ≡ cleared (now (labels .entry)))
+        × (now (next .exit) ≡ cleared (now (next .entry)))
+        × (now (counts .exit) ≡ cleared (now (counts .entry))) ⌝ }
 {
     let answer = cdlp(
         size,
@@ -152,6 +175,7 @@ pub(crate) fn on_cdlp(
     )
 }
 
+// LCC: epsilon match; its working area is zero afterwards.
 pub(crate) fn on_lcc(
     room: bool,
     most: usize,
@@ -168,7 +192,12 @@ pub(crate) fn on_lcc(
 ) -> Judged
     requires { ⌜ (Roomy room (size .vertices) (length (now numerators))) × (Roomy room (size .vertices) (length (now denominators))) ⌝ }
     requires { ⌜ Roomy room (size .vertices) (length (now work)) ⌝ }
-    ensures { λ r. ⌜ terms (says r) (now (numerators .exit)) (now (denominators .exit)) ≡ termsCall (lccReference most (lent size (now (ids .entry)) (now («out_offsets» .entry)) (now («out_targets» .entry)) (now («in_offsets» .entry)) (now («in_sources» .entry))) (now (claim .entry))) (soundGraph (lent size (now (ids .entry)) (now («out_offsets» .entry)) (now («out_targets» .entry)) (now («in_offsets» .entry)) (now («in_sources» .entry)))) room (now (numerators .entry)) (now (denominators .entry)) ⌝ }
+    ensures { λ r. ⌜
+        terms (says r) (now (numerators .exit)) (now (denominators .exit))
+        ≡ lccVerdict room most
+        (lent size (now (ids .entry)) (now («out_offsets» .entry)) (now («out_targets» .entry))
+        (now («in_offsets» .entry)) (now («in_sources» .entry)))
+        (now (claim .entry)) (now (numerators .entry)) (now (denominators .entry)) ⌝ }
     ensures { λ r. ⌜ now (work .exit) ≡ cleared (now (work .entry)) ⌝ }
 {
     let answer = lcc(

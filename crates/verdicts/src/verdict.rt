@@ -39,6 +39,7 @@ fn has_room(
     n <= lesser(result, lesser(claimed, work))
 }
 
+// The refusal of an unknown kernel number: all areas are zero.
 fn refuse_unknown(
     result: &mut [i64],
     claimed: &mut [i64],
@@ -46,7 +47,10 @@ fn refuse_unknown(
     second: &mut [usize],
     third: &mut [usize],
 ) -> Judged
-    ensures { λ r. ⌜ outcome (says r) (now (result .exit)) (now (claimed .exit)) (now (first .exit)) (now (second .exit)) (now (third .exit)) ≡ unknownCall (now (result .entry)) (now (claimed .entry)) (now (first .entry)) (now (second .entry)) (now (third .entry)) ⌝ }
+    ensures { λ r. ⌜
+        outcome (says r) (now (result .exit)) (now (claimed .exit)) (now (first .exit)) (now (second .exit)) (now (third .exit))
+        ≡ unknownCall
+        (now (result .entry)) (now (claimed .entry)) (now (first .entry)) (now (second .entry)) (now (third .entry)) ⌝ }
 {
     clear_signed(result);
     clear_signed(claimed);
@@ -56,7 +60,8 @@ fn refuse_unknown(
     Judged::Refused(Refusal::plain(UNKNOWN_NUMBER))
 }
 
-// The verdict on a claim of at most so many lines. BFS, WCC and CDLP leave their values in `result`, LCC its fractions in `first` and `second`.
+// The verdict on a claim of at most so many lines. BFS, WCC and CDLP leave their values in `result`, LCC its fractions in `first` and
+// `second`.
 pub fn verdict_within(
     most: usize,
     size: Size,
@@ -74,7 +79,13 @@ pub fn verdict_within(
     second: &mut [usize],
     third: &mut [usize],
 ) -> Judged
-    ensures { λ r. ⌜ outcome (says r) (now (result .exit)) (now (claimed .exit)) (now (first .exit)) (now (second .exit)) (now (third .exit)) ≡ verdictCall most (lent size (now (ids .entry)) (now («out_offsets» .entry)) (now («out_targets» .entry)) (now («in_offsets» .entry)) (now («in_sources» .entry))) kernel parameter (now (claim .entry)) (now (result .entry)) (now (claimed .entry)) (now (first .entry)) (now (second .entry)) (now (third .entry)) ⌝ }
+    ensures { λ r. ⌜
+        outcome (says r) (now (result .exit)) (now (claimed .exit)) (now (first .exit)) (now (second .exit)) (now (third .exit))
+        ≡ verdictCall most
+        (lent size (now (ids .entry)) (now («out_offsets» .entry)) (now («out_targets» .entry))
+        (now («in_offsets» .entry)) (now («in_sources» .entry)))
+        kernel parameter (now (claim .entry))
+        (now (result .entry)) (now (claimed .entry)) (now (first .entry)) (now (second .entry)) (now (third .entry)) ⌝ }
 {
     let room = has_room(
         size.vertices,
@@ -178,7 +189,13 @@ pub fn verdict(
     second: &mut [usize],
     third: &mut [usize],
 ) -> Judged
-    ensures { λ r. ⌜ outcome (says r) (now (result .exit)) (now (claimed .exit)) (now (first .exit)) (now (second .exit)) (now (third .exit)) ≡ verdictCall mostLines (lent size (now (ids .entry)) (now («out_offsets» .entry)) (now («out_targets» .entry)) (now («in_offsets» .entry)) (now («in_sources» .entry))) kernel parameter (now (claim .entry)) (now (result .entry)) (now (claimed .entry)) (now (first .entry)) (now (second .entry)) (now (third .entry)) ⌝ }
+    ensures { λ r. ⌜
+        outcome (says r) (now (result .exit)) (now (claimed .exit)) (now (first .exit)) (now (second .exit)) (now (third .exit))
+        ≡ verdictCall mostLines
+        (lent size (now (ids .entry)) (now («out_offsets» .entry)) (now («out_targets» .entry))
+        (now («in_offsets» .entry)) (now («in_sources» .entry)))
+        kernel parameter (now (claim .entry))
+        (now (result .entry)) (now (claimed .entry)) (now (first .entry)) (now (second .entry)) (now (third .entry)) ⌝ }
 {
     verdict_within(
         MOST_LINES,

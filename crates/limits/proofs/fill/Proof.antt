@@ -1,9 +1,10 @@
-use Prim.Native.Nat.{ℕ, _≤_, _-_}
+use Prim.Native.Nat.{ℕ, _+_, _-_, _≤_}
 use mathlib.Core.Path.{_≡_, refl, ap, _∙_}
 use mathlib.Core.List.{List}
 use native.Mathlib.Omega.{arith}
 use borrow.Author.Needs.{needs}
 use lib.ListN.{length}
+use Rattle.basis.specs.Limits.{mostVertices}
 use Rattle.write.specs.Put.{Written, written, putAt}
 use Rattle.write.proofs.Puts.{put-length}
 use Rattle.limits.proofs.fill.Statement.{statement}
@@ -16,10 +17,10 @@ kept o o′ o″ at p q n s t e v w =
     ap (λ (x : Written). length (x .area)) w ∙ put-length o′ p t ∙ ap (λ (x : Written). length (x .area)) v ∙ put-length o at s ∙ e
 
 abbrev Inv-loop : tie.InvT-loop
-Inv-loop text₀ at₀ line₀ text at line = (line ≤ 65537) × (length text ≡ length text₀)
+Inv-loop text₀ at₀ line₀ text at line = (line ≤ mostVertices + 1) × (length text ≡ length text₀)
 
 abbrev μ-loop : tie.MeasureT-loop
-μ-loop text₀ at₀ line₀ text at line = 65537 - line
+μ-loop text₀ at₀ line₀ text at line = mostVertices + 1 - line
 
 loop-holds : tie.Need-loop-holds Inv-loop μ-loop
 loop-holds c = (omega arith, refl)

@@ -21,8 +21,8 @@ cast-up c = search needs
 cast-down : tie.Need-cast-down
 cast-down c = search needs
 
-between-requires : tie.Need-between-requires
-between-requires c κs = search needs
+enclosed-requires : tie.Need-enclosed-requires
+enclosed-requires c κs = search needs
 
 sub-scaled-up : tie.Need-sub-scaled-up
 sub-scaled-up c = search needs
@@ -30,8 +30,8 @@ sub-scaled-up c = search needs
 scaled-up-requires : tie.Need-scaled-up-requires
 scaled-up-requires c κs = search needs
 
-between-requires-2 : tie.Need-between-requires-2
-between-requires-2 c κs = search needs
+enclosed-requires-2 : tie.Need-enclosed-requires-2
+enclosed-requires-2 c κs = search needs
 
 returns-2 : tie.Need-returns-2
 returns-2 c = search close-lower
@@ -49,9 +49,9 @@ close-spec =
     mul-high
     cast-up
     cast-down
-    between-requires
+    enclosed-requires
     sub-scaled-up
     scaled-up-requires
-    between-requires-2
+    enclosed-requires-2
     returns-2
     returns-3)

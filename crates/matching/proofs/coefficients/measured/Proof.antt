@@ -12,20 +12,20 @@ add-result c = search needs
 returns-2 : tie.Need-returns-2
 returns-2 c = search step-surplus
 
-mul-near : tie.Need-mul-near
-mul-near c = search needs
+mul-near-within : tie.Need-mul-near-within
+mul-near-within c = search needs
 
-shared-slice-read-near : tie.Need-shared-slice-read-near
-shared-slice-read-near c = search needs
+shared-slice-read-near-within : tie.Need-shared-slice-read-near-within
+shared-slice-read-near-within c = search needs
 
-mul-near-2 : tie.Need-mul-near-2
-mul-near-2 c = search needs
+mul-near-within-2 : tie.Need-mul-near-within-2
+mul-near-within-2 c = search needs
 
-shared-slice-read-near-2 : tie.Need-shared-slice-read-near-2
-shared-slice-read-near-2 c = search needs
+shared-slice-read-near-within-2 : tie.Need-shared-slice-read-near-within-2
+shared-slice-read-near-within-2 c = search needs
 
-near-requires : tie.Need-near-requires
-near-requires c κs = search needs
+near-within-requires : tie.Need-near-within-requires
+near-within-requires c κs = search needs
 
 returns-3 : tie.Need-returns-3
 returns-3 c = search step-passes
@@ -43,11 +43,11 @@ measured-spec =
     returns
     add-result
     returns-2
-    mul-near
-    shared-slice-read-near
-    mul-near-2
-    shared-slice-read-near-2
-    near-requires
+    mul-near-within
+    shared-slice-read-near-within
+    mul-near-within-2
+    shared-slice-read-near-within-2
+    near-within-requires
     returns-3
     add-result-2
     returns-4)

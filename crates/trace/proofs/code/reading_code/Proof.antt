@@ -1,7 +1,7 @@
 use Rattle.trace.proofs.Codes.{coded-refused}
 use mathlib.Core.Path.{ap}
 use Rattle.book.specs.Says.{saysReading}
-use Rattle.trace.specs.Book.{itself}
+use Rattle.trace.specs.Book.{readingValue}
 use borrow.Author.Needs.{needs}
 use Rattle.trace.proofs.code.reading_code.Statement.{statement}
 use Rattle.trace.proofs.code.reading_code.Tie as tie
@@ -19,7 +19,7 @@ returns : tie.Need-returns
 returns c = search needs
 
 returns-2 : tie.Need-returns-2
-returns-2 c = coded-refused itself _ _ _ (ap saysReading (c .before .before .a2 .given .1)) (c .refusal-code .ensures)
+returns-2 c = coded-refused readingValue _ _ _ (ap saysReading (c .before .before .a2 .given .1)) (c .refusal-code .ensures)
 
 pub reading-code-spec : {M : Type 1} → statement M
 reading-code-spec =

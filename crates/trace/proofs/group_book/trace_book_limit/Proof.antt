@@ -1,4 +1,4 @@
-use Rattle.trace.specs.Book.{itself}
+use Rattle.trace.specs.Book.{readingValue}
 use Rattle.trace.proofs.Codes.{readable-by, coded-by}
 use Rattle.trace.proofs.Books.{limit-readable}
 use borrow.Author.Needs.{needs}
@@ -12,7 +12,7 @@ reading-code-requires : tie.Need-reading-code-requires
 reading-code-requires c κs = readable-by (c .step-limit .ensures) (limit-readable _ _ _)
 
 returns : tie.Need-returns
-returns c = coded-by itself _ _ _ (c .before .step-limit .ensures) (c .reading-code .ensures)
+returns c = coded-by readingValue _ _ _ (c .before .step-limit .ensures) (c .reading-code .ensures)
 
 pub trace-book-limit-spec : {M : Type 1} → statement M
 trace-book-limit-spec = tie.close (tie.spec step-limit-requires reading-code-requires returns)

@@ -22,8 +22,8 @@ slice-aggregate-verdict-within-5 c = search needs
 verdict-within-requires : tie.Need-verdict-within-requires
 verdict-within-requires c κs = search needs
 
-three-of-requires : tie.Need-three-of-requires
-three-of-requires c κs = search needs
+as-refusal-requires : tie.Need-as-refusal-requires
+as-refusal-requires c κs = search needs
 
 host-code-requires : tie.Need-host-code-requires
 host-code-requires c κs = search desk-small
@@ -41,6 +41,6 @@ judge-loaded-spec =
     slice-aggregate-verdict-within-4
     slice-aggregate-verdict-within-5
     verdict-within-requires
-    three-of-requires
+    as-refusal-requires
     host-code-requires
     returns)

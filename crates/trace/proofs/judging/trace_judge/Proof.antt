@@ -7,8 +7,8 @@ use Rattle.trace.proofs.judging.trace_judge.Tie as tie
 verdict-requires : tie.Need-verdict-requires
 verdict-requires c κs = search needs
 
-three-of-requires : tie.Need-three-of-requires
-three-of-requires c κs = search needs
+as-refusal-requires : tie.Need-as-refusal-requires
+as-refusal-requires c κs = search needs
 
 refusal-code-requires : tie.Need-refusal-code-requires
 refusal-code-requires c κs = search judge-small
@@ -36,7 +36,7 @@ trace-judge-spec =
     tie.close
     (tie.spec
     verdict-requires
-    three-of-requires
+    as-refusal-requires
     refusal-code-requires
     same-length
     same-length-2

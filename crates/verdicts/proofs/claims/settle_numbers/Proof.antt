@@ -1,4 +1,4 @@
-use Rattle.verdicts.proofs.Settling.{kept-stays, kept-goes}
+use Rattle.verdicts.proofs.Settling.{area-stays, area-goes}
 use mathlib.Core.Path.{refl}
 use borrow.Author.Needs.{needs}
 use Rattle.verdicts.proofs.claims.settle_numbers.Statement.{statement}
@@ -8,7 +8,7 @@ is-refused-requires : tie.Need-is-refused-requires
 is-refused-requires c κs = search needs
 
 returns : tie.Need-returns
-returns c = (refl, search kept-stays)
+returns c = (refl, search area-stays)
 
 clear-signed-requires : tie.Need-clear-signed-requires
 clear-signed-requires c κs = search needs
@@ -17,7 +17,7 @@ same-length : tie.Need-same-length
 same-length c = search needs
 
 returns-2 : tie.Need-returns-2
-returns-2 c = (refl, search kept-goes)
+returns-2 c = (refl, search area-goes)
 
 pub settle-numbers-spec : {M : Type 1} → statement M
 settle-numbers-spec =

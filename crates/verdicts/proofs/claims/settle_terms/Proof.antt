@@ -1,4 +1,4 @@
-use Rattle.verdicts.proofs.Settling.{both-terms, kept-stays, kept-goes}
+use Rattle.verdicts.proofs.Settling.{both-terms, area-stays, area-goes}
 use borrow.Author.Needs.{needs}
 use Rattle.verdicts.proofs.claims.settle_terms.Statement.{statement}
 use Rattle.verdicts.proofs.claims.settle_terms.Tie as tie
@@ -7,7 +7,7 @@ is-refused-requires : tie.Need-is-refused-requires
 is-refused-requires c κs = search needs
 
 returns : tie.Need-returns
-returns c = search (both-terms, kept-stays)
+returns c = search (both-terms, area-stays)
 
 clear-requires : tie.Need-clear-requires
 clear-requires c κs = search needs
@@ -22,7 +22,7 @@ same-length-2 : tie.Need-same-length-2
 same-length-2 c = search needs
 
 returns-2 : tie.Need-returns-2
-returns-2 c = search (both-terms, kept-goes)
+returns-2 c = search (both-terms, area-goes)
 
 pub settle-terms-spec : {M : Type 1} → statement M
 settle-terms-spec =

@@ -2,8 +2,8 @@ use borrow.Author.Needs.{needs}
 use borrow.Author.Tests.{lt-leb, le-leb}
 use Prim.Native.Nat.{_*_, _^_, _≤_, _<_}
 use Rattle.matching.proofs.Closeness.{greater-yes, greater-no, less-yes, less-no}
-use Rattle.matching.proofs.close.between.Statement.{statement}
-use Rattle.matching.proofs.close.between.Tie as tie
+use Rattle.matching.proofs.close.enclosed.Statement.{statement}
+use Rattle.matching.proofs.close.enclosed.Tie as tie
 
 order-scaled-requires : tie.Need-order-scaled-requires
 order-scaled-requires c κs = search needs
@@ -44,8 +44,8 @@ returns-3 c =
     (c .before .is-less .ensures) (c .if2 .left) in
     simp (le-leb _ _ g, le-leb _ _ h)
 
-pub between-spec : {M : Type 1} → statement M
-between-spec =
+pub enclosed-spec : {M : Type 1} → statement M
+enclosed-spec =
     tie.close
     (tie.spec
     order-scaled-requires

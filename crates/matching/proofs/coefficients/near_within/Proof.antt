@@ -1,7 +1,7 @@
 use Rattle.matching.proofs.DecimalLines.{near-above, near-below, near-within}
 use borrow.Author.Needs.{needs}
-use Rattle.matching.proofs.coefficients.near.Statement.{statement}
-use Rattle.matching.proofs.coefficients.near.Tie as tie
+use Rattle.matching.proofs.coefficients.near_within.Statement.{statement}
+use Rattle.matching.proofs.coefficients.near_within.Tie as tie
 
 returns : tie.Need-returns
 returns c = search near-above
@@ -21,5 +21,5 @@ close-requires c κs = search needs
 returns-3 : tie.Need-returns-3
 returns-3 c = search near-within
 
-pub near-spec : {M : Type 1} → statement M
-near-spec = tie.close (tie.spec returns returns-2 cast-close cast-close-2 close-requires returns-3)
+pub near-within-spec : {M : Type 1} → statement M
+near-within-spec = tie.close (tie.spec returns returns-2 cast-close cast-close-2 close-requires returns-3)

@@ -1,9 +1,9 @@
 use mathlib.Core.Path.{sym, ap, _∙_}
 use Rattle.matching.specs.Verdict.{says}
-use Rattle.trace.specs.Verdict.{threeOf}
+use Rattle.trace.specs.Verdict.{asRefusal}
 use borrow.Author.Needs.{needs}
-use Rattle.trace.proofs.code.three_of.Statement.{statement}
-use Rattle.trace.proofs.code.three_of.Tie as tie
+use Rattle.trace.proofs.code.as_refusal.Statement.{statement}
+use Rattle.trace.proofs.code.as_refusal.Tie as tie
 
 enum-told : tie.Need-enum-told
 enum-told c = search needs
@@ -27,19 +27,19 @@ enum-known-a-3 : tie.Need-enum-known-a-3
 enum-known-a-3 c = search needs
 
 returns : tie.Need-returns
-returns c = c .at .ensures ∙ sym (ap (λ x. threeOf (says x)) (c .before .enum-told .given .1))
+returns c = c .at .ensures ∙ sym (ap (λ x. asRefusal (says x)) (c .before .enum-told .given .1))
 
 returns-2 : tie.Need-returns-2
-returns-2 c = c .at2 .ensures ∙ sym (ap (λ x. threeOf (says x)) (c .before .before .a .given .1))
+returns-2 c = c .at2 .ensures ∙ sym (ap (λ x. asRefusal (says x)) (c .before .before .a .given .1))
 
 returns-3 : tie.Need-returns-3
-returns-3 c = c .at3 .ensures ∙ sym (ap (λ x. threeOf (says x)) (c .before .before .a2 .given .1))
+returns-3 c = c .at3 .ensures ∙ sym (ap (λ x. asRefusal (says x)) (c .before .before .a2 .given .1))
 
 returns-4 : tie.Need-returns-4
 returns-4 c = search needs
 
-pub three-of-spec : {M : Type 1} → statement M
-three-of-spec =
+pub as-refusal-spec : {M : Type 1} → statement M
+as-refusal-spec =
     tie.close
     (tie.spec
     enum-told
