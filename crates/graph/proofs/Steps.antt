@@ -90,11 +90,11 @@ next-above x (y ∷ l) =
     (same-test (leb (x + 1) y) (ltb x y) (λ h. lt-ltb x y (let e = leb-true (x + 1) y h in omega arith))
     (λ h. le-leb (x + 1) y (let e = ltb-true x y h in omega arith)))
 
-and-swap : (a b c d : Bool) → ((a && b) && (c && d)) ≡ ((a && c) && (b && d))
-and-swap true true c d = refl
-and-swap true false true d = refl
-and-swap true false false d = refl
-and-swap false b c d = refl
+and-cross : (a b c d : Bool) → ((a && b) && (c && d)) ≡ ((a && c) && (b && d))
+and-cross true true c d = refl
+and-cross true false true d = refl
+and-cross true false false d = refl
+and-cross false b c d = refl
 
 fitting-is : (n v least : ℕ) (l : List ℕ) → fitting n v least l ≡ (startsAt least l && each (other n v) l)
 unfolding each
@@ -102,7 +102,7 @@ fitting-is n v least [] = refl
 fitting-is n v least (x ∷ l) =
     ap (λ (t : Bool). (leb least x && other n v x) && t)
     (fitting-is n v (x + 1) l ∙ ap (λ (t : Bool). t && each (other n v) l) (next-above x l))
-    ∙ and-swap (leb least x) (other n v x) (aboveBy ltb x l) (each (other n v) l)
+    ∙ and-cross (leb least x) (other n v x) (aboveBy ltb x l) (each (other n v) l)
 
 pub part-begin : (n v : ℕ) (l : List ℕ) → fitting n v 0 (drop 0 l) ≡ soundPart n v l
 part-begin n v [] = fitting-is n v 0 []

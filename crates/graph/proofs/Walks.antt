@@ -23,7 +23,7 @@ use Rattle.basis.proofs.Orders.{rising-lt, risingBy-of}
 use Rattle.basis.proofs.Areas.{copied-length, copied-at}
 use Rattle.graph.specs.Part.{partOf}
 use Rattle.graph.specs.Sound.{soundPart, other, soundParts, mirrored, bothWays, Side}
-use Rattle.graph.specs.Walk.{Ways, Checked, checked, isNext, stepped, walked, atEnds}
+use Rattle.graph.specs.Walk.{Ways, Checked, checked, isNext, arcsWalked, allWalked, atEnds}
 use Rattle.graph.proofs.Sounds.{side-of, offset-most, part-slice, part-rises}
 use Rattle.graph.proofs.Sounds.{part-others, other-below, mirrored-at, mirrored-of}
 
@@ -367,82 +367,83 @@ module _ {n : ℕ} {out : ℕ → List ℕ} {off src : List ℕ} (s : Ways n out
 
 -- ---- the walk as the code makes it
 module _ (src : List ℕ) (u : ℕ) (l : List ℕ) (i : ℕ) (cursors : List ℕ) where
-  stepped-end : length l ≤ i → stepped src u (drop i l) cursors ≡ checked true cursors
-  unfolding stepped
-  stepped-end h = rw (drop-of-length-le l {i = i} h)
+  arcs-walked-end : length l ≤ i → arcsWalked src u (drop i l) cursors ≡ checked true cursors
+  unfolding arcsWalked
+  arcs-walked-end h = rw (drop-of-length-le l {i = i} h)
 
   module _ (h : i < length l) where
-    stepped-on : isNext src u cursors (getD l i 0) ≡ true
-        → stepped src u (drop i l) cursors ≡ stepped src u (drop (i + 1) l) (set cursors (getD l i 0) (getD cursors (getD l i 0) 0 + 1))
-    unfolding stepped
-    stepped-on e = rw (drop-cons l i 0 h, stepped, e, add-one i)
+    arcs-walked-on : isNext src u cursors (getD l i 0) ≡ true
+        → arcsWalked src u (drop i l) cursors ≡ arcsWalked src u (drop (i + 1) l)
+        (set cursors (getD l i 0) (getD cursors (getD l i 0) 0 + 1))
+    unfolding arcsWalked
+    arcs-walked-on e = rw (drop-cons l i 0 h, arcsWalked, e, add-one i)
 
-    stepped-off : isNext src u cursors (getD l i 0) ≡ false → stepped src u (drop i l) cursors ≡ checked false cursors
-    unfolding stepped
-    stepped-off e = rw (drop-cons l i 0 h, stepped, e)
+    arcs-walked-off : isNext src u cursors (getD l i 0) ≡ false → arcsWalked src u (drop i l) cursors ≡ checked false cursors
+    unfolding arcsWalked
+    arcs-walked-off e = rw (drop-cons l i 0 h, arcsWalked, e)
 
     -- at u's arc i, by the code's tests
-    module _ (whole : Checked) (k : stepped src u (drop i l) cursors ≡ whole) where
+    module _ (whole : Checked) (k : arcsWalked src u (drop i l) cursors ≡ whole) where
       pub step-far : length src ≤ getD cursors (getD l i 0) 0 → checked false cursors ≡ whole
-      step-far a = sym (stepped-off (rw (le-ltb (getD cursors (getD l i 0) 0) (length src) a))) ∙ k
+      step-far a = sym (arcs-walked-off (rw (le-ltb (getD cursors (getD l i 0) 0) (length src) a))) ∙ k
 
       pub step-differs : (getD src (getD cursors (getD l i 0) 0) 0 ≡ u → ⊥) → checked false cursors ≡ whole
       step-differs d =
-          sym (stepped-off (and-off (ltb (getD cursors (getD l i 0) 0) (length src)) (eqb (getD src (getD cursors (getD l i 0) 0) 0) u)
+          sym (arcs-walked-off (and-off (ltb (getD cursors (getD l i 0) 0) (length src)) (eqb (getD src (getD cursors (getD l i 0) 0) 0) u)
           (ne-eqb (getD src (getD cursors (getD l i 0) 0) 0) u d))) ∙ k
 
       pub step-more : getD cursors (getD l i 0) 0 < length src → getD src (getD cursors (getD l i 0) 0) 0 ≡ u
-          → stepped src u (drop (i + 1) l) (set cursors (getD l i 0) (getD cursors (getD l i 0) 0 + 1)) ≡ whole
+          → arcsWalked src u (drop (i + 1) l) (set cursors (getD l i 0) (getD cursors (getD l i 0) 0 + 1)) ≡ whole
       step-more a b =
-          sym (stepped-on (and-both (lt-ltb (getD cursors (getD l i 0) 0) (length src) a)
+          sym (arcs-walked-on (and-both (lt-ltb (getD cursors (getD l i 0) 0) (length src) a)
           (eq-eqb (getD src (getD cursors (getD l i 0) 0) 0) u b))) ∙ k
 
-  pub step-end : (whole : Checked) → stepped src u (drop i l) cursors ≡ whole → length l ≤ i → checked true cursors ≡ whole
-  step-end whole k h = sym (stepped-end h) ∙ k
+  pub step-end : (whole : Checked) → arcsWalked src u (drop i l) cursors ≡ whole → length l ≤ i → checked true cursors ≡ whole
+  step-end whole k h = sym (arcs-walked-end h) ∙ k
 
 -- ---- the arcs of every vertex
 module _ (src : List ℕ) (out : ℕ → List ℕ) (cursors : List ℕ) where
-  walked-on : (u : ℕ) → walked src out u cursors .sound ≡ true
-      → walked src out (suc u) cursors ≡ stepped src u (out u) (walked src out u cursors .cursors)
-  unfolding walked
-  walked-on u h = rw h
+  all-walked-on : (u : ℕ) → allWalked src out u cursors .sound ≡ true
+      → allWalked src out (suc u) cursors ≡ arcsWalked src u (out u) (allWalked src out u cursors .cursors)
+  unfolding allWalked
+  all-walked-on u h = rw h
 
-  walked-off : (u : ℕ) → walked src out u cursors .sound ≡ false → walked src out (suc u) cursors ≡ walked src out u cursors
-  unfolding walked
-  walked-off u h = rw h
+  all-walked-off : (u : ℕ) → allWalked src out u cursors .sound ≡ false → allWalked src out (suc u) cursors ≡ allWalked src out u cursors
+  unfolding allWalked
+  all-walked-off u h = rw h
 
-  pub walked-none : walked src out 0 cursors ≡ checked true cursors
-  unfolding walked
-  walked-none = refl
+  pub all-walked-none : allWalked src out 0 cursors ≡ checked true cursors
+  unfolding allWalked
+  all-walked-none = refl
 
   -- where it broke off, it stays
-  broken : (u k : ℕ) → walked src out u cursors .sound ≡ false → walked src out (u + k) cursors ≡ walked src out u cursors
-  broken u zero h = ap (λ (j : ℕ). walked src out j cursors) (add-zero u)
+  broken : (u k : ℕ) → allWalked src out u cursors .sound ≡ false → allWalked src out (u + k) cursors ≡ allWalked src out u cursors
+  broken u zero h = ap (λ (j : ℕ). allWalked src out j cursors) (add-zero u)
   broken u (suc k) h =
       let e = broken u k h in
-      ap (λ (j : ℕ). walked src out j cursors) (add-suc u k) ∙ walked-off (u + k) (ap (λ (x : Checked). x .sound) e ∙ h) ∙ e
+      ap (λ (j : ℕ). allWalked src out j cursors) (add-suc u k) ∙ all-walked-off (u + k) (ap (λ (x : Checked). x .sound) e ∙ h) ∙ e
 
   -- l is u's part
-  module _ (u : ℕ) (here : List ℕ) (k : walked src out u cursors ≡ checked true here) (l : List ℕ) (q : l ≡ out u) (t : Bool)
+  module _ (u : ℕ) (here : List ℕ) (k : allWalked src out u cursors ≡ checked true here) (l : List ℕ) (q : l ≡ out u) (t : Bool)
       (after : List ℕ)
-      (e : checked t after ≡ stepped src u l here) where
-    stepped-to : walked src out (u + 1) cursors ≡ checked t after
-    stepped-to =
-        rw add-one (walked-on u (ap (λ (x : Checked). x .sound) k)
-        ∙ ap₂ (λ (p : List ℕ) (x : Checked). stepped src u p (x .cursors)) (sym q) k ∙ sym e)
+      (e : checked t after ≡ arcsWalked src u l here) where
+    arcs-walked-to : allWalked src out (u + 1) cursors ≡ checked t after
+    arcs-walked-to =
+        rw add-one (all-walked-on u (ap (λ (x : Checked). x .sound) k)
+        ∙ ap₂ (λ (p : List ℕ) (x : Checked). arcsWalked src u p (x .cursors)) (sym q) k ∙ sym e)
 
-    pub walked-more : not t ≡ false → walked src out (u + 1) cursors ≡ checked true after
-    walked-more h = stepped-to ∙ ap (λ (s : Bool). checked s after) (not-false t h)
+    pub all-walked-more : not t ≡ false → allWalked src out (u + 1) cursors ≡ checked true after
+    all-walked-more h = arcs-walked-to ∙ ap (λ (s : Bool). checked s after) (not-false t h)
 
-    pub walked-stop : (n : ℕ) → u < n → not t ≡ true → checked false after ≡ walked src out n cursors
-    walked-stop n g h =
-        let s = stepped-to ∙ ap (λ (s : Bool). checked s after) (not-true t h) in
+    pub all-walked-stop : (n : ℕ) → u < n → not t ≡ true → checked false after ≡ allWalked src out n cursors
+    all-walked-stop n g h =
+        let s = arcs-walked-to ∙ ap (λ (s : Bool). checked s after) (not-true t h) in
         let z : (u + 1) + (n - (u + 1)) ≡ n = omega arith in
-        sym (ap (λ (j : ℕ). walked src out j cursors) (sym z) ∙ broken (u + 1) (n - (u + 1)) (ap (λ (x : Checked). x .sound) s) ∙ s)
+        sym (ap (λ (j : ℕ). allWalked src out j cursors) (sym z) ∙ broken (u + 1) (n - (u + 1)) (ap (λ (x : Checked). x .sound) s) ∙ s)
 
-  pub walked-all : (u n : ℕ) (here : List ℕ) → n ≤ u → u ≤ n → walked src out u cursors ≡ checked true here
-      → checked true here ≡ walked src out n cursors
-  walked-all u n here a b k = let e : u ≡ n = omega arith in sym k ∙ ap (λ (j : ℕ). walked src out j cursors) e
+  pub all-walked-end : (u n : ℕ) (here : List ℕ) → n ≤ u → u ≤ n → allWalked src out u cursors ≡ checked true here
+      → checked true here ≡ allWalked src out n cursors
+  all-walked-end u n here a b k = let e : u ≡ n = omega arith in sym k ∙ ap (λ (j : ℕ). allWalked src out j cursors) e
 
 -- a target has a cursor
 pub target-low : (d cursors l : List ℕ) (i : ℕ) → allBelow (length d) l ≡ true → length cursors ≡ length d → i < length l
@@ -461,33 +462,34 @@ targets-low n off tgt u l d cursors s h q r e =
 -- ---- what the walk says
 module _ {n : ℕ} {out : ℕ → List ℕ} {off src : List ℕ} (s : Ways n out off src) where
   told-step : (u : ℕ) → u < n → (left i : ℕ) → i + left ≡ length (out u) → (cursors : List ℕ) → Cursors n out off src u i cursors
-      → Told n out off src (u + 1) (stepped src u (drop i (out u)) cursors)
+      → Told n out off src (u + 1) (arcsWalked src u (drop i (out u)) cursors)
   told-step u lu zero i e cursors k =
-      rw (stepped-end src u (out u) i cursors (omega arith))
+      rw (arcs-walked-end src u (out u) i cursors (omega arith))
       (record { came = λ _. walk-on s u i cursors (omega arith) k; broke = λ h. clash refl h })
   told-step u lu (suc left) i e cursors k =
       let li : i < length (out u) = omega arith in
       let w = getD (out u) i 0 in
-      bool-cases (isNext src u cursors (getD (out u) i 0)) (Told n out off src (u + 1) (stepped src u (drop i (out u)) cursors))
-      (λ h. rw (stepped-on src u (out u) i cursors li h) (told-step u lu left (i + 1) (omega arith) (set cursors w (getD cursors w 0 + 1))
+      bool-cases (isNext src u cursors (getD (out u) i 0)) (Told n out off src (u + 1) (arcsWalked src u (drop i (out u)) cursors))
+      (λ h. rw (arcs-walked-on src u (out u) i cursors li h)
+      (told-step u lu left (i + 1) (omega arith) (set cursors w (getD cursors w 0 + 1))
       (walk-more s u i lu li cursors k (ltb-true (getD cursors w 0) (length src)
       (and-first (ltb (getD cursors w 0) (length src)) (eqb (getD src (getD cursors w 0) 0) u) h))
       (eqb-true (getD src (getD cursors w 0) 0) u (and-second (ltb (getD cursors w 0) (length src)) (eqb (getD src (getD cursors w 0) 0) u)
       h)))))
-      (λ h. rw (stepped-off src u (out u) i cursors li h) (record {
+      (λ h. rw (arcs-walked-off src u (out u) i cursors li h) (record {
         came = λ f. clash f refl;
         broke = λ _. walk-breaks s u i lu li cursors k
             (λ a b. clash (and-both (lt-ltb (getD cursors w 0) (length src) a) (eq-eqb (getD src (getD cursors w 0) 0) u b)) h);
       }))
 
-  told-walk : (cursors : List ℕ) → Cursors n out off src 0 0 cursors → (u : ℕ) → u ≤ n → Told n out off src u (walked src out u cursors)
-  told-walk cursors k zero h = rw (walked-none src out cursors) (record { came = λ _. k; broke = λ h. clash refl h })
+  told-walk : (cursors : List ℕ) → Cursors n out off src 0 0 cursors → (u : ℕ) → u ≤ n → Told n out off src u (allWalked src out u cursors)
+  told-walk cursors k zero h = rw (all-walked-none src out cursors) (record { came = λ _. k; broke = λ h. clash refl h })
   told-walk cursors k (suc u) h =
       let b = told-walk cursors k u (omega arith) in
-      bool-cases (walked src out u cursors .sound) (Told n out off src (suc u) (walked src out (suc u) cursors))
-      (λ t. rw (walked-on src out cursors u t, ← add-one u)
-      (told-step u (omega arith) (length (out u)) 0 (omega arith) (walked src out u cursors .cursors) (b .came t)))
-      (λ f. rw (walked-off src out cursors u f) (record { came = λ t. clash t f; broke = λ _. b .broke f }))
+      bool-cases (allWalked src out u cursors .sound) (Told n out off src (suc u) (allWalked src out (suc u) cursors))
+      (λ t. rw (all-walked-on src out cursors u t, ← add-one u)
+      (told-step u (omega arith) (length (out u)) 0 (omega arith) (allWalked src out u cursors .cursors) (b .came t)))
+      (λ f. rw (all-walked-off src out cursors u f) (record { came = λ t. clash t f; broke = λ _. b .broke f }))
 
 module _ {n : ℕ} {out : ℕ → List ℕ} {off src : List ℕ} (s : Ways n out off src) where
   pub ways-room : n < length off
@@ -495,7 +497,7 @@ module _ {n : ℕ} {out : ℕ → List ℕ} {off src : List ℕ} (s : Ways n out
 
   -- d is what stood in the area, b and a stand there before and after the walk
   module _ (d b : List ℕ) (room : n ≤ length d) (q : b ≡ copied n off d) (t : Bool) (a : List ℕ)
-      (e : checked t a ≡ walked src out n b) where
+      (e : checked t a ≡ allWalked src out n b) where
     told : Told n out off src n (checked t a)
     told =
         rw e (told-walk s b (walk-none s b (let x = ap length q ∙ copied-length n off d in omega arith)

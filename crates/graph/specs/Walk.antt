@@ -29,16 +29,16 @@ abbrev pub isNext : List ℕ → ℕ → List ℕ → ℕ → Bool
 isNext src u cursors w = ltb (getD cursors w 0) (length src) && eqb (getD src (getD cursors w 0) 0) u
 
 -- the arcs from u to a list's members, in order: u stands at the target's cursor, which moves on by one, or the walk breaks off
-unfoldable pub stepped : List ℕ → ℕ → List ℕ → List ℕ → Checked
-stepped src u [] cursors = checked true cursors
-stepped src u (w ∷ l) cursors =
-    elim (isNext src u cursors w) [ true ↦ stepped src u l (set cursors w (getD cursors w 0 + 1)) | false ↦ checked false cursors ]
+unfoldable pub arcsWalked : List ℕ → ℕ → List ℕ → List ℕ → Checked
+arcsWalked src u [] cursors = checked true cursors
+arcsWalked src u (w ∷ l) cursors =
+    elim (isNext src u cursors w) [ true ↦ arcsWalked src u l (set cursors w (getD cursors w 0 + 1)) | false ↦ checked false cursors ]
 
 -- the arcs of the vertices below u, in order
-unfoldable pub walked : List ℕ → (ℕ → List ℕ) → ℕ → List ℕ → Checked
-walked src out zero cursors = checked true cursors
-walked src out (suc u) cursors =
-    let before = walked src out u cursors in elim (before .sound) [ true ↦ stepped src u (out u) (before .cursors) | false ↦ before ]
+unfoldable pub allWalked : List ℕ → (ℕ → List ℕ) → ℕ → List ℕ → Checked
+allWalked src out zero cursors = checked true cursors
+allWalked src out (suc u) cursors =
+    let before = allWalked src out u cursors in elim (before .sound) [ true ↦ arcsWalked src u (out u) (before .cursors) | false ↦ before ]
 
 -- every cursor stands at the end of its vertex's part
 abbrev pub atEnds : ℕ → List ℕ → List ℕ → Bool

@@ -7,7 +7,7 @@ ghost use Rattle.basis.specs.Area.{cleared};
 ghost use Rattle.basis.specs.Scan.{allBelow};
 ghost use Rattle.graph.specs.Part.{partOf};
 ghost use Rattle.graph.specs.Sound.{lent, soundParts, bothWays, soundGraph};
-ghost use Rattle.graph.specs.Walk.{Ways, stepped, walked, atEnds, checked};
+ghost use Rattle.graph.specs.Walk.{Ways, arcsWalked, allWalked, atEnds, checked};
 use crate::Size;
 use crate::part::part;
 use crate::sound::sides_sound;
@@ -21,7 +21,7 @@ fn arcs_walked(targets: &[usize], in_sources: &[usize], u: usize, cursors: &mut 
     requires { ⌜ allBelow (length (now cursors)) (now targets) ≡ true ⌝ }
     ensures { λ r. ⌜
         checked r (now (cursors .exit))
-        ≡ stepped (now («in_sources» .entry)) u (now (targets .entry)) (now (cursors .entry)) ⌝ }
+        ≡ arcsWalked (now («in_sources» .entry)) u (now (targets .entry)) (now (cursors .entry)) ⌝ }
 {
     let mut i = 0;
     while i < targets.len() {
@@ -50,7 +50,7 @@ fn all_walked(
     requires { ⌜ (soundParts n (now «out_offsets») (now «out_targets») ≡ true) × (n ≤ length (now cursors)) ⌝ }
     ensures { λ r. ⌜
         checked r (now (cursors .exit))
-        ≡ walked (now («in_sources» .entry)) (partOf n (now («out_offsets» .entry)) (now («out_targets» .entry))) n
+        ≡ allWalked (now («in_sources» .entry)) (partOf n (now («out_offsets» .entry)) (now («out_targets» .entry))) n
         (now (cursors .entry)) ⌝ }
 {
     let mut u = 0;

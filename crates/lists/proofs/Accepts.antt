@@ -23,7 +23,7 @@ use Rattle.lists.specs.Files.{vertexTest, identifiers, abovePair, isAbov
 use Rattle.lists.specs.Good.{GoodVertices, GoodEdges}
 
 -- ---- identifiers that were accepted rise
-pub test-rises : (y z : ℤ) → vertexTest (after y) z ≡ 0 → ltZ y z ≡ true
+test-rises : (y z : ℤ) → vertexTest (after y) z ≡ 0 → ltZ y z ≡ true
 test-rises y z h = go (ltZ y z) refl h
   where
     go : (t : Bool) → ltZ y z ≡ t → _≡_ {A = ℕ} (cond t 0 4) 0 → ltZ y z ≡ true
@@ -34,7 +34,7 @@ above-after : (y : ℤ) (l : List ℤ) → Passes vertexTest (after y) l → abo
 above-after y [] p = refl
 above-after y (z ∷ l) p = and-both (test-rises y z (p .0)) (above-after z l (p .1))
 
-pub ids-rise : (l : List ℤ) → Passes vertexTest first l → risingZ l ≡ true
+ids-rise : (l : List ℤ) → Passes vertexTest first l → risingZ l ≡ true
 ids-rise [] p = refl
 ids-rise (z ∷ l) p = above-after z l (p .1)
 
@@ -82,7 +82,7 @@ test-passed undirected ids before e h =
     go false false true true false a b c d f h = absurd (let z : ⊥ = omega arith in z)
     go false false true true true a b c d f h = record { apart = a; smaller = b; above = c; from = d; to = f }
 
-pub passed-test : (undirected : Bool) (ids : List ℤ) (before : Before (ℤ × ℤ)) (e : ℤ × ℤ) → Tested undirected ids before e
+passed-test : (undirected : Bool) (ids : List ℤ) (before : Before (ℤ × ℤ)) (e : ℤ × ℤ) → Tested undirected ids before e
     → edgeTest undirected (placeIn ids) before e ≡ 0
 unfolding edgeTest
 passed-test undirected ids before e t = rw (t .apart, t .smaller, t .above, t .from, t .to)

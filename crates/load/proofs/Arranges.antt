@@ -32,7 +32,7 @@ use Rattle.lists.specs.declared.Listed.the-variants.{Lines, Refused}
 use Rattle.lists.specs.Files.{edgesOf, allNumbered}
 use Rattle.lists.specs.Calls.{listedSays, EdgesRead, edgeOutcome, countsArea, targetsArea, edgeCall}
 use Rattle.lists.proofs.Lookups.{same-edges, same-numbered, length-numbered}
-use Rattle.load.specs.Load.{arcRoom}
+use Rattle.load.specs.Load.{arcRoom, listedArcs}
 use Rattle.load.specs.Steps.{edgesRead, Arranged, arranged, arrangedBy, Storing}
 use Rattle.load.proofs.Valids.{valid-file}
 
@@ -40,6 +40,14 @@ use Rattle.load.proofs.Valids.{valid-file}
 edges-fewer : (undirected : Bool) (m : ℕ) → m ≤ arcCount undirected m
 edges-fewer true m = omega arith
 edges-fewer false m = omega arith
+
+-- "it stores two arcs": at the most
+pub arcs-few : (undirected : Bool) (ids : List ℤ) (es : List (ℤ × ℤ)) → length (listedArcs undirected ids es) ≤ length es + length es
+arcs-few undirected ids es = rw (arc-count undirected (allNumbered (placeIn ids) es), length-numbered (placeIn ids) es) (go undirected)
+  where
+    go : (b : Bool) → arcCount b (length es) ≤ length es + length es
+    go true = omega arith
+    go false = omega arith
 
 below-ends : (n : ℕ) (es : List Arc) → EndsBelow n es → Below (n + 1) es
 below-ends n [] h = tt

@@ -2,7 +2,7 @@
 -- the graph that it stores is sound, and its parts are the arcs
 -- of the edge file.
 -- Assumes nothing.
-use Prim.Native.Nat.{ℕ, _+_, _-_, _≤_, _<_}
+use Prim.Native.Nat.{ℕ, _-_, _≤_, _<_}
 use mathlib.Core.Path.{_≡_, refl, sym, ap, subst, _∙_}
 use mathlib.Core.Logic.{_↔_, _⊎_, inl, inr}
 use mathlib.Core.Bool.{Bool, true, false, _&&_, _||_}
@@ -26,21 +26,20 @@ use Rattle.basis.proofs.Orders.{signed-order, same-places}
 use Rattle.graph.specs.Arcs.{Arc, arcs}
 use Rattle.graph.specs.Find.{placeIn, isThere}
 use Rattle.graph.specs.Sound.{Graph, outward, inward, soundIds, soundGraph, Undirected}
-use Rattle.store.proofs.Fits.{arc-count}
 use Rattle.store.proofs.Order.{Valid}
 use Rattle.store.proofs.Meaning.{hasArc, storedGraph, stored-sound, stored-outward, stored-inward}
 use Rattle.lists.proofs.Accepts.{vertices-accepted, edges-accepted, vertices-refused, edges-refused}
-use Rattle.lists.proofs.Lookups.{length-numbered, there}
+use Rattle.lists.proofs.Lookups.{there}
 use Rattle.lists.specs.Good.{GoodVertices, GoodEdges, hasEdge, listsArc}
 use Rattle.load.specs.declared.Limits.{Limits}
 use Rattle.lists.specs.Files.{identifiers, vertexNumber, edgesOf, numbered, allNumbered}
 use Rattle.load.specs.Load.{Lists, Room, isUndirected, placesFor, arcRoom, withRoom, listedArcs, arcsRead}
 use Rattle.load.specs.Load.{listsRead, sizeOf, loaded, Outcome, outcomeOf, loadCall, capped}
-use Rattle.store.specs.Spread.{arcCount}
 use Rattle.load.specs.Good.{GoodLoad, RefusedLoad, unknownMode}
 use Rattle.load.specs.Good.{vertexFault, noPlaces, edgeFault, noArcs, graphLeft}
 use Rattle.load.proofs.Valids.{valid-file}
 use Rattle.load.proofs.Accepts.{load-accepted}
+use Rattle.load.proofs.Arranges.{arcs-few}
 
 -- ---- a refused load
 room-refused : {A : Type 0} (t : Bool) (x : A) (r : Refusal) → withRoom t x ≡ refuses r → (t ≡ false) × (r ≡ plain noRoom)
@@ -178,10 +177,6 @@ module _ (ids : List ℤ) (rise : risingZ ids ≡ true) (u w : ℕ) (hu : u < le
           (hasEdge es (name u) (name w)) (hasEdge es (name w) (name u)))
 
 -- ---- an accepted load
-edges-few : (undirected : Bool) (m : ℕ) → arcCount undirected m ≤ m + m
-edges-few true m = omega arith
-edges-few false m = omega arith
-
 module _ (limits : Limits) (mode : ℕ) (room : Room) (vertices edges : List ℕ) (g : Lists)
     (h : loaded limits mode room vertices edges ≡ gives g) where
   abbrev undirected : Bool
@@ -239,9 +234,7 @@ module _ (limits : Limits) (mode : ℕ) (room : Room) (vertices edges : List ℕ
   sound-within a b =
       let e = ok .goodEdges .few in
       let v = ok .goodVertices .few in
-      let c = arc-count undirected es in
-      let d = edges-few undirected (length es) in
-      let k = length-numbered (placeIn (g .ids)) (ok .list) in
+      let c = arcs-few undirected (g .ids) (ok .list) in
       ap soundGraph left-stored
       ∙ stored-sound undirected (length (g .ids)) es valid (padZ (room .ids) (g .ids)) (room .outOffsets) (room .outTargets)
       (room .inOffsets)

@@ -25,6 +25,7 @@ use Rattle.load.specs.declared.Loaded.the-variants.{Graph, Refused}
 use Rattle.load.specs.Load.{says, Lists, arcRoom, vertexRoom, withRoom, arcsRead, listsRead, loaded}
 use Rattle.load.specs.Load.{isUndirected, sizeOf, outcome, outcomeOf, loadCall, desk, deskRoom}
 use Rattle.load.specs.Good.{GoodLoad, graphLeft}
+use Rattle.load.proofs.Arranges.{arcs-few}
 use Rattle.load.proofs.Accepts.{load-accepted}
 use Rattle.load.proofs.Meaning.{load-sound}
 use Rattle.bfs.specs.Call.{depthsFrom}
@@ -36,7 +37,7 @@ use Rattle.lcc.specs.Lcc.{numerator, denominator, numerators, denominators}
 use Rattle.basis.specs.Area.{column}
 use Rattle.trace.specs.Host.{deskLines, listsSaid, graphOf, isKernel, isKnown, referenceFor, judgedAs, hostSays, hostVerdict}
 use Rattle.trace.specs.Steps.{deskJudged}
-use Rattle.trace.proofs.Loads.{arcs-few, loaded-readable}
+use Rattle.trace.proofs.Loads.{loaded-readable}
 use Rattle.trace.proofs.Codes.{mapped-readable}
 use Rattle.trace.proofs.Stored.{areaGraph, same-names, same-outward, same-inward}
 use Rattle.trace.proofs.Claims.{call-small, call-judged}

@@ -1,24 +1,18 @@
 -- What a load says fits a number. Assumes nothing.
 use mathlib.Core.Path.{_≡_, sym, ap}
-use mathlib.Core.Bool.{Bool, true, false}
 use mathlib.Core.List.{List}
-use Prim.Native.Nat.{ℕ, _+_, _≤_, _<_}
+use Prim.Native.Nat.{ℕ, _+_, _<_}
 use native.Mathlib.Omega.{arith}
 use lib.IntN.{ℤ}
 use lib.ListN.{length}
 use Rattle.basis.specs.Refusal.{Said, gives, refuses, mapped}
 use Rattle.basis.proofs.Saids.{Either, Any}
 use Rattle.graph.specs.declared.Size.{Size}
-use Rattle.graph.specs.Arcs.{arcs}
-use Rattle.graph.specs.Find.{placeIn}
-use Rattle.lists.proofs.Lookups.{length-numbered}
 use Rattle.load.specs.declared.Limits.{Limits}
-use Rattle.lists.specs.Files.{allNumbered}
 use Rattle.load.specs.Load.{Room, loaded, isUndirected, sizeOf, outcome, outcomeOf, loadCall, library}
-use Rattle.store.specs.Spread.{arcCount}
 use Rattle.load.proofs.Accepts.{load-accepted}
+use Rattle.load.proofs.Arranges.{arcs-few}
 use Rattle.load.proofs.Refused.{LoadRefusal, load-refusal}
-use Rattle.store.proofs.Fits.{arc-count}
 use Rattle.trace.specs.Code.{coded, wide, Readable}
 use Rattle.trace.specs.Load.{loadValue, loadTold, loadTells}
 use Rattle.trace.proofs.Codes.{onward-readable, readable-by, readable-given, readable-refused, readable-silent, untold}
@@ -36,15 +30,6 @@ pub loaded-readable : (room : ℕ) (limits : Limits) → limits .vertices + limi
     → Readable room (loaded limits mode r vertices edges) untold
 loaded-readable room limits few mode r vertices edges =
     refusal-readable room limits few (loaded limits mode r vertices edges) (load-refusal limits mode r vertices edges)
-
--- ---- what is given: "each edge once .. and it stores two arcs" at the most
-pub arcs-few : (undirected : Bool) (ids : List ℤ) (es : List (ℤ × ℤ))
-    → length (arcs undirected (allNumbered (placeIn ids) es)) ≤ length es + length es
-arcs-few undirected ids es = rw (arc-count undirected (allNumbered (placeIn ids) es), length-numbered (placeIn ids) es) (go undirected)
-  where
-    go : (undirected : Bool) → arcCount undirected (length es) ≤ length es + length es
-    go true = omega arith
-    go false = omega arith
 
 -- ---- the call at library limits
 module _ (mode : ℕ) (room : Room) (vertices edges : List ℕ) where

@@ -1,7 +1,7 @@
 use Prim.Native.Nat.{_-_, _≤_, _<_}
 use mathlib.Core.Path.{_≡_, refl}
 use lib.ListN.{length, getD, drop}
-use Rattle.graph.specs.Walk.{stepped}
+use Rattle.graph.specs.Walk.{arcsWalked}
 use Rattle.graph.proofs.Walks.{target-low, step-far, step-differs, step-more, step-end}
 use native.Mathlib.Omega.{arith}
 use borrow.Author.Needs.{needs}
@@ -11,7 +11,7 @@ use Rattle.graph.proofs.walk.arcs_walked.Tie as tie
 abbrev Inv-loop : tie.InvT-loop
 Inv-loop targets in-sources u cursors₀ i₀ cursors i =
     (i ≤ length targets) × (length cursors ≡ length cursors₀)
-    × (stepped in-sources u (drop i targets) cursors ≡ stepped in-sources u targets cursors₀)
+    × (arcsWalked in-sources u (drop i targets) cursors ≡ arcsWalked in-sources u targets cursors₀)
 
 abbrev μ-loop : tie.MeasureT-loop
 μ-loop targets in-sources u cursors₀ i₀ cursors i = length targets - i
