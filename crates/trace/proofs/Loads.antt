@@ -38,8 +38,7 @@ loaded-readable room limits few mode r vertices edges =
     turned-readable room limits few (loaded limits mode r vertices edges) (load-turned limits mode r vertices edges)
 
 -- ---- what is given: "each edge once .. and it stores two arcs" at the most
-pub arcs-few : (undirected : Bool) (ids : List ℤ) (es : List (ℤ × ℤ))
-    → length (arcs undirected (allNumbered (placeIn ids) es)) ≤ length es + length es
+pub arcs-few : (undirected : Bool) (ids : List ℤ) (es : List (ℤ × ℤ)) → length (arcs undirected (allNumbered (placeIn ids) es)) ≤ length es + length es
 arcs-few undirected ids es = rw (arc-count undirected (allNumbered (placeIn ids) es), length-numbered ids es) (go undirected)
   where
     go : (undirected : Bool) → arcCount undirected (length es) ≤ length es + length es
