@@ -34,8 +34,7 @@ use Rattle.cases.specs.Cases.{cases, computeds, expecteds}
 
 pub checked : computeds cases ≡ expecteds cases
 unfolding column every each mem within digitOf pastPoint wholeIsGood signedPower powerAt partsOf fractionOf decimalOf lineBy twoOf edgeTest
-    linesFrom valuesFrom arcsRead listsRead loaded outcomeOf loadCall placeFrom targetsBetween partOf
-    soundIds soundOffsets soundSide mirrored
+    linesFrom valuesFrom arcsRead listsRead loaded outcomeOf loadCall placeFrom targetsBetween partOf soundIds soundOffsets soundSide mirrored
     soundSides soundGraph kernelSays leastFrom ends ring depthOf bfsSays bfsCall beside chain firstFrom first labelOf wcc-roomFor wcc-leftBy
     wccCall times mostTimes standing mostCommon smallest smallestOr nextLabel around labelsAt nextAt oneRound rounds cdlpOf goodRounds
     cdlp-roomFor cdlp-leftBy cdlpCall commonCount euclid gcdOf lowest those neighbours arcsFrom coefficientAmong numerator denominator room

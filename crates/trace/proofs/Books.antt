@@ -10,7 +10,7 @@ use borrow.Author.Tests.{ltb-true}
 use Rattle.basis.specs.Limits.{mostVertices}
 use Rattle.basis.specs.Refusal.{Said, gives, refuses, plain, noRoom, unsound, notThere, check}
 use Rattle.book.specs.Rules.{Next, stop, to, Found, found, follow, Heads, Step, already, merge, merged, same, Done, done}
-use Rattle.book.specs.Rules.{walk, walkFrom, headOf, pair, headsOf, sameGroup, groupSize, tally, isStop, groupCount}
+use Rattle.book.specs.Rules.{mostMoves, walk, walkFrom, headOf, pair, headsOf, sameGroup, groupSize, tally, isStop, groupCount}
 use Rattle.book.specs.Rules.{largest, stepLimit, mergeable, mergeHeads, linkHeads, decide, openBook, writeBook, joinBook}
 use Rattle.book.specs.Two.{Areas, areas, nextIn, fits, two, twoBook}
 use Rattle.book.proofs.Checks.{fits-within}
@@ -40,9 +40,9 @@ checked : {A : Type 0} {value : A → ℕ} (t : Bool) (number : ℕ) {s : Said A
     → Readable wide (check t number s) value
 checked t number p q h = readable-check t number (omega arith) p q h
 
--- a head is in the area, and 16 moves reach it at most
+-- a head is in the area, and so many moves as a walk may take reach it
 module _ (next : ℕ → Next) (n : ℕ) (small : n ≤ mostVertices) where
-  walk-readable : (left moves at : ℕ) → at < n → moves + left ≤ 16 → Readable wide (walk next n left moves at) headValue
+  walk-readable : (left moves at : ℕ) → at < n → moves + left ≤ mostMoves → Readable wide (walk next n left moves at) headValue
   unfolding walk
   walk-readable zero moves at l m = go (next at)
     where
@@ -58,7 +58,7 @@ module _ (next : ℕ → Next) (n : ℕ) (small : n ≤ mostVertices) where
 
   walkFrom-readable : (v : ℕ) → ltb v n ≡ true → Readable wide (walkFrom next n v) headValue
   unfolding walkFrom
-  walkFrom-readable v l = walk-readable 16 0 v (ltb-true v n l) (omega arith)
+  walkFrom-readable v l = walk-readable mostMoves 0 v (ltb-true v n l) (omega arith)
 
   walkFrom-silent : (v : ℕ) → ltb v n ≡ true → Readable wide (walkFrom next n v) untold
   walkFrom-silent v l = readable-untold (walkFrom-readable v l) (omega arith)
@@ -114,7 +114,7 @@ module _ (ps ss : List ℕ) where
   unfolding stepLimit
   limit-readable v =
       onward-readable (groupSize (two ps ss) v) (readable-untold (size-readable v) (omega arith))
-      (λ s e. readable-given (largest 16 s) (omega (arith, largest-le 16 s)))
+      (λ s e. readable-given (largest mostMoves s) (omega (arith, largest-le mostMoves s)))
 
   pub open-readable : Readable wide (openBook twoBook (areas ps ss) .said) nothing
   unfolding openBook
