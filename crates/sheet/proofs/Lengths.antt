@@ -31,7 +31,7 @@ use Rattle.lcc.specs.Lcc.{either, neighbours, arcsFrom, coefficientAmong, numer
 use Rattle.lcc.specs.Ratio.{gcdOf, lowest}
 use Rattle.lcc.specs.Promise.{lccSays, lccCall}
 use Rattle.lcc.proofs.Commons.{count-le}
-use Rattle.lcc.proofs.Coefficients.{those-short}
+use Rattle.lcc.proofs.Fractions.{those-short}
 use Rattle.text.specs.Line.{lf, space}
 use Rattle.write.specs.Number.{countText, signedText}
 use Rattle.write.proofs.Texts.{count-long, signed-long}
