@@ -10,7 +10,8 @@ use native.Mathlib.Omega.{arith}
 use lib.IntN.{ℤ}
 use lib.ListN.{length}
 use Rattle.basis.specs.Refusal.{Said}
-use Rattle.basis.specs.Scan.{allBelow, mem}
+use Rattle.basis.specs.Closure.{itself, by, back, on}
+use Rattle.basis.specs.Scan.{Inside, mem}
 use Rattle.basis.proofs.Scans.{mem-none-of, mem-head, mem-tail, mem-cases}
 use Rattle.book.specs.Rules.{Done, done, all, openBook, joinEach}
 use Rattle.book.specs.Two.{Areas, areas, two, twoBook}
@@ -18,7 +19,7 @@ use Rattle.book.specs.Series.{Slip, slip, putEach, headIn, headAt}
 use Rattle.book.specs.Series as series
 use Rattle.book.proofs.TwoBook.{faithful-two}
 use Rattle.book.proofs.Held.{Held, two-open, held-all, held-each, held-kept, held-head}
-use Rattle.wcc.specs.Component.{Linked, itself, along, back, on, labels}
+use Rattle.wcc.specs.Component.{LinkedAmong, labels}
 use Rattle.wcc.specs.Steps.{headHere, joinArcs, marked, takenOver, Within, Exact}
 use Rattle.wcc.proofs.Passes.{Heads, labels-are}
 
@@ -27,7 +28,7 @@ slipsOf : (ℕ → List ℕ) → ℕ → List Slip
 slipsOf out zero = []
 slipsOf out (suc u) = putEach u (out u) (slipsOf out u)
 
-held-arcs : (n : ℕ) (out : ℕ → List ℕ) → ((u : ℕ) → u < n → allBelow n (out u) ≡ true) → (a : Areas) → Held twoBook n a [] → (k : ℕ) → k ≤ n
+held-arcs : (n : ℕ) (out : ℕ → List ℕ) → Inside n out → (a : Areas) → Held twoBook n a [] → (k : ℕ) → k ≤ n
     → Held twoBook n (joinArcs out k a) (slipsOf out k)
 unfolding joinArcs slipsOf
 held-arcs n out inside a H zero l = H
@@ -37,7 +38,7 @@ held-arcs n out inside a H (suc k) l =
 
 -- and in a book just opened the joins along the arcs of each vertex are all accepted:
 -- the answer that the code does not look at is no refusal
-pub arcs-accepted : (n : ℕ) (out : ℕ → List ℕ) → ((u : ℕ) → u < n → allBelow n (out u) ≡ true) → (a : Areas) → Held twoBook n a [] → (u : ℕ)
+pub arcs-accepted : (n : ℕ) (out : ℕ → List ℕ) → Inside n out → (a : Areas) → Held twoBook n a [] → (u : ℕ)
     → u < n
     → (m : ℕ) × (joinEach twoBook (joinArcs out u a) u (out u) .said ≡ all m)
 arcs-accepted n out inside a H u l =
@@ -94,15 +95,15 @@ module _ (out : ℕ → List ℕ) where
       (part-mem k (out k) (slipsOf out k) x y m)
 
   -- a chain of accepted joins is a chain of arcs, and the other way round
-  joins-linked : (n : ℕ) {u v : ℕ} → series.Linked (slipsOf out n) u v → Linked n out u v
+  joins-linked : (n : ℕ) {u v : ℕ} → series.Linked (slipsOf out n) u v → LinkedAmong n out u v
   joins-linked n (series.Linked.itself v) = itself v
-  joins-linked n (series.Linked.by u v m) = let r = slips-mem n u v m in along (r .0) (r .1)
+  joins-linked n (series.Linked.by u v m) = by (slips-mem n u v m)
   joins-linked n (series.Linked.back p) = back (joins-linked n p)
   joins-linked n (series.Linked.on p q) = on (joins-linked n p) (joins-linked n q)
 
-  linked-joins : (n : ℕ) {u v : ℕ} → Linked n out u v → series.Linked (slipsOf out n) u v
+  linked-joins : (n : ℕ) {u v : ℕ} → LinkedAmong n out u v → series.Linked (slipsOf out n) u v
   linked-joins n (itself v) = series.Linked.itself v
-  linked-joins n (along {u = u} {w = w} l a) = series.Linked.by u w (slips-new n u w l a)
+  linked-joins n (by {u = u} {v = w} a) = series.Linked.by u w (slips-new n u w (a .0) (a .1))
   linked-joins n (back p) = series.Linked.back (linked-joins n p)
   linked-joins n (on p q) = series.Linked.on (linked-joins n p) (linked-joins n q)
 

@@ -12,7 +12,10 @@ ghost use Rattle.wcc.specs.Steps.{headHere, marked, takenOver, Within, E
 fn mark(parents: &[usize], sizes: &[usize], ids: &[i64], result: &mut [i64])
     requires { ⌜ Within (length (now result)) (headHere (now parents) (now sizes)) ⌝ }
     requires { ⌜ length (now ids) ≡ length (now result) ⌝ }
-    ensures { λ _. ⌜ now (result .exit) ≡ marked (headHere (now (parents .entry)) (now (sizes .entry))) (now (ids .entry)) (length (now (result .entry))) (now (result .entry)) ⌝ }
+    ensures { λ _. ⌜
+        now (result .exit)
+        ≡ marked (headHere (now (parents .entry)) (now (sizes .entry))) (now (ids .entry)) (length (now (result .entry)))
+        (now (result .entry)) ⌝ }
 {
     let n = result.len();
     let mut i = 0;
@@ -27,7 +30,9 @@ fn mark(parents: &[usize], sizes: &[usize], ids: &[i64], result: &mut [i64])
 // Each vertex takes over its head's label.
 fn take_over(parents: &[usize], sizes: &[usize], result: &mut [i64])
     requires { ⌜ Within (length (now result)) (headHere (now parents) (now sizes)) ⌝ }
-    ensures { λ _. ⌜ now (result .exit) ≡ takenOver (headHere (now (parents .entry)) (now (sizes .entry))) (length (now (result .entry))) (now (result .entry)) ⌝ }
+    ensures { λ _. ⌜
+        now (result .exit)
+        ≡ takenOver (headHere (now (parents .entry)) (now (sizes .entry))) (length (now (result .entry))) (now (result .entry)) ⌝ }
 {
     let mut v = 0;
     while v < result.len() {
