@@ -1,7 +1,7 @@
-/* bench DESK PLAIN_DESK [quick]: the proved engine, through its host calls, beside the plain engine, on the same inputs in one run, and the two desk programs on a
-   full sheet. For each stage the best time of several repetitions of both, and their ratio; the results of both are compared. A kernel's core is its call less the
-   soundness check, which is measured as a call that is refused right behind it; so that both kernels find the caches alike, the plain one's core is a plain check and
-   the kernel less that check. */
+/* bench DESK PLAIN_DESK [quick]: the proved engine, through its host calls, beside the plain engine, on the same inputs in one run, and the
+   two desk programs on a full sheet. For each stage the best time of several repetitions of both, and their ratio; the results of both are
+   compared. A kernel's core is its call less the soundness check, which is measured as a call that is refused right behind it; so that both
+   kernels find the caches alike, the plain one's core is a plain check and the kernel less that check. */
 #define _POSIX_C_SOURCE 200809L
 #include "../hosts/c/trace.h"
 #include "plain.h"
@@ -78,11 +78,13 @@ static struct lists make(const char *name, int directed, int hubs, size_t n, siz
     }
     qsort(pairs, m, sizeof *pairs, by_value);
     for (size_t v = 0; v < n; v++)
-        l.vertex_file.length += (size_t)sprintf((char *)l.vertex_file.bytes + l.vertex_file.length, "%" PRId64 "\n", (int64_t)v * 1000003 - 1000000000);
+        l.vertex_file.length += (size_t)sprintf((char *)l.vertex_file.bytes + l.vertex_file.length, "%" PRId64 "\n",
+                                                (int64_t)v * 1000003 - 1000000000);
     for (size_t i = 0; i < m; i++) {
         if (i > 0 && pairs[i] == pairs[i - 1]) continue;
         l.edge_file.length += (size_t)sprintf((char *)l.edge_file.bytes + l.edge_file.length, "%" PRId64 " %" PRId64 "\n",
-                                              (int64_t)(pairs[i] >> 32) * 1000003 - 1000000000, (int64_t)(pairs[i] & 0xffffffff) * 1000003 - 1000000000);
+                                              (int64_t)(pairs[i] >> 32) * 1000003 - 1000000000,
+                                              (int64_t)(pairs[i] & 0xffffffff) * 1000003 - 1000000000);
         l.edges++;
     }
     free(pairs);
@@ -119,11 +121,13 @@ static void same(const void *a, const void *b, size_t bytes, const char *what) {
     }
 }
 
-#define GRAPH(g, n, m) (g).vertices, (g).arcs, (g).ids, n, (g).out_offsets, (n) + 1, (g).out_targets, m, (g).in_offsets, (n) + 1, (g).in_sources, m
+#define GRAPH(g, n, m) \
+    (g).vertices, (g).arcs, (g).ids, n, (g).out_offsets, (n) + 1, (g).out_targets, m, (g).in_offsets, (n) + 1, (g).in_sources, m
 
 static struct text claim_of(const struct graph *g, const int64_t *result) {
     struct text t = {room(g->vertices, 48), 0};
-    for (size_t v = 0; v < g->vertices; v++) t.length += (size_t)sprintf((char *)t.bytes + t.length, "%" PRId64 " %" PRId64 "\n", g->ids[v], result[v]);
+    for (size_t v = 0; v < g->vertices; v++)
+        t.length += (size_t)sprintf((char *)t.bytes + t.length, "%" PRId64 " %" PRId64 "\n", g->ids[v], result[v]);
     return t;
 }
 
@@ -149,7 +153,8 @@ static void measure(struct lists l, int with_lcc, int with_groups, int times) {
 #define TIMES(...) for (int k_ = 0; k_ < times; k_++) __VA_ARGS__
 #define FILES l.vertex_file.bytes, l.vertex_file.length, l.edge_file.bytes, l.edge_file.length
     TURNS {
-        BEST(engine, TIMES(said = trace_load((uint64_t)l.directed, FILES, g.ids, n, g.out_offsets, n + 1, g.out_targets, m, g.in_offsets, n + 1, g.in_sources, m)));
+        BEST(engine, TIMES(said = trace_load((uint64_t)l.directed, FILES, g.ids, n, g.out_offsets, n + 1, g.out_targets, m,
+                                             g.in_offsets, n + 1, g.in_sources, m)));
         BEST(plain, TIMES(plain_load(l.directed, FILES, &p)));
     }
     g.vertices = (size_t)(said / 10000000);
@@ -212,7 +217,8 @@ static void measure(struct lists l, int with_lcc, int with_groups, int times) {
     row(l.name, "cdlp 10 core", engine - sound, plain - check);
     struct text labels = claim_of(&p, right);
 
-#define JUDGE(kernel, parameter, claim) trace_judge(GRAPH(g, n, m), kernel, parameter, (claim).bytes, (claim).length, result, n, claimed, n, a, n, b, n, c, n)
+#define JUDGE(kernel, parameter, claim) \
+    trace_judge(GRAPH(g, n, m), kernel, parameter, (claim).bytes, (claim).length, result, n, claimed, n, a, n, b, n, c, n)
     uint64_t verdict = 0;
     TURNS {
         BEST(engine, TIMES(verdict |= JUDGE(1, g.ids[root], depths)));
@@ -253,7 +259,8 @@ static void measure(struct lists l, int with_lcc, int with_groups, int times) {
         row(l.name, "lcc core", engine - sound, plain - check);
         struct text fractions = {room(n, 48), 0};
         for (size_t v = 0; v < n; v++)
-            fractions.length += (size_t)sprintf((char *)fractions.bytes + fractions.length, "%" PRId64 " %.12f\n", p.ids[v], (double)x[v] / (double)y[v]);
+            fractions.length += (size_t)sprintf((char *)fractions.bytes + fractions.length, "%" PRId64 " %.12f\n", p.ids[v],
+                                                (double)x[v] / (double)y[v]);
         TURNS {
             BEST(engine, TIMES(verdict |= JUDGE(4, 0, fractions)));
             BEST(plain, TIMES({
@@ -269,8 +276,8 @@ static void measure(struct lists l, int with_lcc, int with_groups, int times) {
         printf("a verdict is not a match: %" PRIu64 "\n", verdict);
         exit(1);
     }
-    void *all[] = {l.vertex_file.bytes, l.edge_file.bytes, g.ids, g.out_offsets, g.out_targets, g.in_offsets, g.in_sources, result, right, claimed, a, b, c, x, y, depths.bytes,
-                   groups.bytes, labels.bytes};
+    void *all[] = {l.vertex_file.bytes, l.edge_file.bytes, g.ids, g.out_offsets, g.out_targets, g.in_offsets, g.in_sources, result, right,
+                   claimed, a, b, c, x, y, depths.bytes, groups.bytes, labels.bytes};
     for (size_t i = 0; i < sizeof all / sizeof *all; i++) free(all[i]);
 }
 
@@ -338,8 +345,8 @@ static void measure_desk(const char *engine_program, const char *plain_program) 
     struct lists l = make("full sheet", 1, 0, 1024, 2048);
     FILE *f = fopen(sheet, "wb");
     if (!f) exit(1);
-    fprintf(f, "directed\n%zu\n%.*s%zu\n%.*s16\n", l.vertices, (int)l.vertex_file.length, (const char *)l.vertex_file.bytes, l.edges, (int)l.edge_file.length,
-            (const char *)l.edge_file.bytes);
+    fprintf(f, "directed\n%zu\n%.*s%zu\n%.*s16\n", l.vertices, (int)l.vertex_file.length, (const char *)l.vertex_file.bytes, l.edges,
+            (int)l.edge_file.length, (const char *)l.edge_file.bytes);
     for (int i = 0; i < 4; i++) fprintf(f, "bfs %d\nwcc\ncdlp 10\nlcc\n", i * 1000003 - 1000000000);
     fclose(f);
     double engine = 0, plain = 0;

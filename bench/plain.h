@@ -1,4 +1,5 @@
-/* A plain engine of the same job, written for speed and without any check that the job does not ask for: what the proved engine is measured against. */
+/* A plain engine of the same job, written for speed and without any check that the job does not ask for: what the proved engine is measured
+   against. */
 #include <stddef.h>
 #include <stdint.h>
 
@@ -20,7 +21,8 @@ void plain_lcc(const struct graph *g, size_t *numerators, size_t *denominators, 
 /* The first line of a claim that is not as the result says, 0 where there is none. */
 size_t plain_judge(const struct graph *g, const int64_t *result, const uint8_t *claim, size_t claim_len);
 size_t plain_judge_groups(const struct graph *g, const int64_t *result, const uint8_t *claim, size_t claim_len, int64_t *claimed);
-size_t plain_judge_coefficients(const struct graph *g, const size_t *numerators, const size_t *denominators, const uint8_t *claim, size_t claim_len);
+size_t plain_judge_coefficients(const struct graph *g, const size_t *numerators, const size_t *denominators, const uint8_t *claim,
+                                size_t claim_len);
 /* Union by size, without paths made shorter, as the book keeps it. */
 void plain_open(size_t n, size_t *parents, size_t *sizes);
 int plain_join(size_t *parents, size_t *sizes, size_t u, size_t v);

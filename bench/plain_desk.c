@@ -1,4 +1,5 @@
-/* plain_desk: the desk program's job on a sheet that is well formed, by the plain engine: reads it on standard input and writes what each job prints. */
+/* plain_desk: the desk program's job on a sheet that is well formed, by the plain engine: reads it on standard input and writes what each
+   job prints. */
 #include "plain.h"
 
 #include <string.h>

@@ -12,7 +12,8 @@ BEGIN {
     vertex[4] = "the vertex is not above the one before it: vertices have to rise, and none stands twice"
     edge[2] = "an edge line is two numbers with one space between them; " number
     edge[3] = range
-    edge[4] = "the edge is not above the one before it: edges have to rise by their first number, then by their second, and none stands twice"
+    edge[4] = "the edge is not above the one before it: edges have to rise by their first number, then by their second, " \
+        "and none stands twice"
     edge[5] = "the edge joins a vertex to itself"
     edge[6] = "the sheet is undirected, and the larger number stands first"
     edge[7] = "the edge names a vertex that is not in the vertex list"

@@ -15,14 +15,14 @@ int main(void) {
     int64_t ids[PLACES], depth[PLACES];
     size_t out_offsets[PLACES + 1], out_targets[PLACES], in_offsets[PLACES + 1], in_sources[PLACES], queue[PLACES];
 
-    uint64_t loaded = trace_load(TRACE_DIRECTED, bytes(LOTS), strlen(LOTS), bytes(TRANSFERS), strlen(TRANSFERS), ids, PLACES, out_offsets, PLACES + 1, out_targets,
-                                 PLACES, in_offsets, PLACES + 1, in_sources, PLACES);
+    uint64_t loaded = trace_load(TRACE_DIRECTED, bytes(LOTS), strlen(LOTS), bytes(TRANSFERS), strlen(TRANSFERS), ids, PLACES,
+                                 out_offsets, PLACES + 1, out_targets, PLACES, in_offsets, PLACES + 1, in_sources, PLACES);
     if (TRACE_REFUSED(loaded)) return 1;
     size_t vertices = TRACE_LOADED_VERTICES(loaded), arcs = TRACE_LOADED_ARCS(loaded);
     printf("%zu lots, %zu transfers\n", vertices, arcs);
 
-    uint64_t searched = trace_bfs(vertices, arcs, ids, PLACES, out_offsets, PLACES + 1, out_targets, PLACES, in_offsets, PLACES + 1, in_sources, PLACES, 102, depth,
-                                  PLACES, queue, PLACES);
+    uint64_t searched = trace_bfs(vertices, arcs, ids, PLACES, out_offsets, PLACES + 1, out_targets, PLACES,
+                                  in_offsets, PLACES + 1, in_sources, PLACES, 102, depth, PLACES, queue, PLACES);
     if (TRACE_REFUSED(searched)) return 1;
     for (size_t v = 0; v < vertices; v++) {
         if (depth[v] == TRACE_UNREACHABLE) printf("%" PRId64 ": nothing of vat 102 got here\n", ids[v]);
@@ -30,19 +30,23 @@ int main(void) {
     }
 
     const char *larger_first = "101 201\n202 102\n";
-    uint64_t refused = trace_load(TRACE_UNDIRECTED, bytes(LOTS), strlen(LOTS), bytes(larger_first), strlen(larger_first), ids, PLACES, out_offsets, PLACES + 1,
-                                  out_targets, PLACES, in_offsets, PLACES + 1, in_sources, PLACES);
-    printf("refused %" PRIu64 " in file %" PRIu64 " at line %" PRIu64 "\n", TRACE_NUMBER(refused), TRACE_FILE(refused), TRACE_LINE(refused));
+    uint64_t refused = trace_load(TRACE_UNDIRECTED, bytes(LOTS), strlen(LOTS), bytes(larger_first), strlen(larger_first), ids, PLACES,
+                                  out_offsets, PLACES + 1, out_targets, PLACES, in_offsets, PLACES + 1, in_sources, PLACES);
+    printf("refused %" PRIu64 " in file %" PRIu64 " at line %" PRIu64 "\n", TRACE_NUMBER(refused), TRACE_FILE(refused),
+           TRACE_LINE(refused));
 
     const char *claim = "101 1\n102 1\n103 1\n201 1\n202 1\n203 1\n301 1\n302 1\n303 1\n";
-    uint64_t verdict = trace_verdict(bytes(LOTS), strlen(LOTS), bytes(TRANSFERS), strlen(TRANSFERS), bytes(claim), strlen(claim), TRACE_DIRECTED, TRACE_WCC, 0);
-    printf("the claim that all hang together: %" PRIu64 " at line %" PRIu64 "\n", TRACE_VERDICT_NUMBER(verdict), TRACE_VERDICT_LINE(verdict));
+    uint64_t verdict = trace_verdict(bytes(LOTS), strlen(LOTS), bytes(TRANSFERS), strlen(TRANSFERS), bytes(claim), strlen(claim),
+                                     TRACE_DIRECTED, TRACE_WCC, 0);
+    printf("the claim that all hang together: %" PRIu64 " at line %" PRIu64 "\n", TRACE_VERDICT_NUMBER(verdict),
+           TRACE_VERDICT_LINE(verdict));
 
     size_t parents[4], sizes[4];
     trace_book_open(parents, 4, sizes, 4);
     trace_book_join(parents, 4, sizes, 4, 0, 1);
     trace_book_join(parents, 4, sizes, 4, 2, 3);
     trace_book_join(parents, 4, sizes, 4, 1, 3);
-    printf("groups: %" PRIu64 ", vertices in that of 3: %" PRIu64 "\n", trace_book_count(parents, 4, sizes, 4), trace_book_size(parents, 4, sizes, 4, 3));
+    printf("groups: %" PRIu64 ", vertices in that of 3: %" PRIu64 "\n", trace_book_count(parents, 4, sizes, 4),
+           trace_book_size(parents, 4, sizes, 4, 3));
     return 0;
 }

@@ -1,5 +1,5 @@
-/* judge MODE KERNEL PARAMETER VERTICES EDGES CLAIM: the verdict on a claim, in words. MODE is undirected or directed, KERNEL bfs, wcc, cdlp or lcc, PARAMETER the
-   root, the number of rounds, or anything where the kernel has none; the other three are files. */
+/* judge MODE KERNEL PARAMETER VERTICES EDGES CLAIM: the verdict on a claim, in words. MODE is undirected or directed, KERNEL bfs, wcc, cdlp
+   or lcc, PARAMETER the root, the number of rounds, or anything where the kernel has none; the other three are files. */
 #include "trace.h"
 
 #include <inttypes.h>
@@ -42,7 +42,8 @@ int main(int argc, char **argv) {
         return 2;
     }
     struct file v = read_file(argv[4]), e = read_file(argv[5]), c = read_file(argv[6]);
-    uint64_t said = trace_verdict(v.bytes, v.length, e.bytes, e.length, c.bytes, c.length, word(argv[1], modes, 0), word(argv[2], kernels, 1), strtoll(argv[3], NULL, 10));
+    uint64_t said = trace_verdict(v.bytes, v.length, e.bytes, e.length, c.bytes, c.length, word(argv[1], modes, 0),
+                                  word(argv[2], kernels, 1), strtoll(argv[3], NULL, 10));
     uint64_t number = TRACE_VERDICT_NUMBER(said), line = TRACE_VERDICT_LINE(said);
     if (number == TRACE_MATCH) printf("the claim matches\n");
     else if (number == TRACE_INCOMPLETE) printf("the claim is incomplete at line %" PRIu64 "\n", line);

@@ -1,4 +1,5 @@
-//! Claims at the edges: coefficients on the line, labels permuted, merged and split, lines missing, surplus and exchanged, damaged lines of each kind.
+//! Claims at the edges: coefficients on the line, labels permuted, merged and split, lines missing, surplus and exchanged, damaged lines of
+//! each kind.
 
 use trace_engine::{given, verdict, File, Graph, Kernel, Mode, Reason, Refusal, Verdict};
 
@@ -35,13 +36,19 @@ fn main() {
     for bad in ["0.500051", "0.4999499", "0.51", "5", "0", "1e-99", "9e+99"] {
         assert_eq!(coefficients(1, bad), Ok(Mismatch(2)), "{}", bad);
     }
-    assert_eq!((coefficients(3, "0.3333"), coefficients(3, "0.3332999"), coefficients(3, "0.33336")), (Ok(Match), Ok(Mismatch(4)), Ok(Match)));
+    assert_eq!(
+        (coefficients(3, "0.3333"), coefficients(3, "0.3332999"), coefficients(3, "0.33336")),
+        (Ok(Match), Ok(Mismatch(4)), Ok(Match))
+    );
     assert_eq!(coefficients(3, "0.33337"), Ok(Mismatch(4)));
     // r = 0 matches only zero
     assert_eq!((coefficients(0, "0.0e-99"), coefficients(0, "0e+99"), coefficients(0, "1e-99")), (Ok(Match), Ok(Match), Ok(Mismatch(1))));
     // r = 1: two lots with arcs both ways between them and a third
     let triangle = |value| judged_on(Mode::Undirected, b"1\n2\n3\n", b"1 2\n1 3\n2 3\n", Kernel::Lcc, &format!("1 {}\n2 1\n3 1\n", value));
-    assert_eq!((triangle("1000000e-06"), triangle("1.0001"), triangle("1.00011"), triangle("0.9999")), (Ok(Match), Ok(Match), Ok(Mismatch(1)), Ok(Match)));
+    assert_eq!(
+        (triangle("1000000e-06"), triangle("1.0001"), triangle("1.00011"), triangle("0.9999")),
+        (Ok(Match), Ok(Match), Ok(Mismatch(1)), Ok(Match))
+    );
     // the form: 15 digits, no leading zero, no sign before, two digits behind e
     for form in ["0.50000000000000", "0.49999999999999"] {
         assert_eq!(coefficients(1, form), Ok(Match), "{}", form);

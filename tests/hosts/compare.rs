@@ -1,6 +1,6 @@
-//! compare [CASES]: the engine's host calls against the independent implementation, on random and damaged inputs from fixed seeds; every area that
-//! is lent stands between pages that may not be touched.
-//! compare sheets COUNT FOLDER: writes so many random and damaged sheets, each with what the independent implementation prints for it.
+//! compare [CASES]: the engine's host calls against the independent implementation, on random and damaged inputs from fixed seeds; every
+//! area that is lent stands between pages that may not be touched. compare sheets COUNT FOLDER: writes so many random and damaged sheets,
+//! each with what the independent implementation prints for it.
 
 mod fence;
 mod inputs;
@@ -78,7 +78,17 @@ impl Run {
         }
         let said = calls::verdict(&self.lend(&l.vertices), &self.lend(&l.edges), &self.lend(&claim), mode, kernel, parameter);
         let right = claims::host_verdict(&l.vertices, &l.edges, &claim, mode, kernel, parameter);
-        assert_eq!(said, right, "verdict {} {} {}\n{:?}\n{:?}\n{:?}", mode, kernel, parameter, text(&l.vertices), text(&l.edges), text(&claim));
+        assert_eq!(
+            said,
+            right,
+            "verdict {} {} {}\n{:?}\n{:?}\n{:?}",
+            mode,
+            kernel,
+            parameter,
+            text(&l.vertices),
+            text(&l.edges),
+            text(&claim)
+        );
     }
 
     fn load(&mut self) {
@@ -128,7 +138,8 @@ impl Run {
                 3 => drop(g.ids.pop()),
                 4 => drop(g.out_offsets.pop()),
                 k => {
-                    let area = [&mut g.out_offsets, &mut g.out_targets, &mut g.in_offsets, &mut g.in_sources].into_iter().nth(k % 4).unwrap();
+                    let area =
+                        [&mut g.out_offsets, &mut g.out_targets, &mut g.in_offsets, &mut g.in_sources].into_iter().nth(k % 4).unwrap();
                     if !area.is_empty() {
                         let i = self.dice.below(area.len());
                         area[i] = value;
@@ -143,7 +154,8 @@ impl Run {
         let g = self.lent();
         let graph = g.graph();
         let n = g.vertices.min(200);
-        let (ids, oo, ot) = (Fenced::of(&g.ids, self.at_end), Fenced::of(&g.out_offsets, self.at_end), Fenced::of(&g.out_targets, self.at_end));
+        let (ids, oo, ot) =
+            (Fenced::of(&g.ids, self.at_end), Fenced::of(&g.out_offsets, self.at_end), Fenced::of(&g.out_targets, self.at_end));
         let (io, is) = (Fenced::of(&g.in_offsets, self.at_end), Fenced::of(&g.in_sources, self.at_end));
         let size = calls::Size { vertices: g.vertices, arcs: g.arcs };
         let lent = calls::Lent { size, ids: &ids, out_offsets: &oo, out_targets: &ot, in_offsets: &io, in_sources: &is };
@@ -170,7 +182,8 @@ impl Run {
             _ => &[2, 3, 4],
         };
         let said = if judge {
-            let mut areas = calls::Areas { result: &mut result, claimed: &mut claimed, first: &mut first, second: &mut second, third: &mut third };
+            let mut areas =
+                calls::Areas { result: &mut result, claimed: &mut claimed, first: &mut first, second: &mut second, third: &mut third };
             calls::judge(&lent, kernel, parameter, &self.lend(&claim), &mut areas)
         } else {
             match kernel {
@@ -182,7 +195,9 @@ impl Run {
         };
         let ran = ran(&graph, kernel, parameter, judge, used.iter().all(|&k| rooms[k] >= g.vertices));
         let answer = ran.and_then(|done| match (judge, &graph) {
-            (true, Ok(g)) => claims::verdict(g, kernel, parameter, &claim, LIBRARY).map(|v: Verdict| (coded(v.number, 3, v.line as u64), done)),
+            (true, Ok(g)) => {
+                claims::verdict(g, kernel, parameter, &claim, LIBRARY).map(|v: Verdict| (coded(v.number, 3, v.line as u64), done))
+            }
             _ => Ok((0, done)),
         });
         let right = answer.as_ref().map_or_else(|r| refused(*r), |(code, _)| *code);
@@ -195,7 +210,8 @@ impl Run {
         if judge {
             assert_eq!(&claimed[..], &shown(None, rooms[1])[..], "{}", story);
         }
-        let fractions = |k: usize| done.as_ref().filter(|_| kernel == 4).map(|d| if k == 2 { &d.numerators[..] } else { &d.denominators[..] });
+        let fractions =
+            |k: usize| done.as_ref().filter(|_| kernel == 4).map(|d| if k == 2 { &d.numerators[..] } else { &d.denominators[..] });
         for (k, area) in [(2, &first), (3, &second), (4, &third)] {
             if used.contains(&k) {
                 let list = if k < 4 { fractions(k) } else { None };
@@ -258,7 +274,8 @@ fn ran(graph: &Result<Graph, Refusal>, kernel: u64, parameter: i64, judge: bool,
     if !room {
         return Err(plain(8));
     }
-    let (tops, bottoms) = if kernel == 4 { kernels::lcc(g).into_iter().map(|(a, b)| (a as usize, b as usize)).unzip() } else { Default::default() };
+    let (tops, bottoms) =
+        if kernel == 4 { kernels::lcc(g).into_iter().map(|(a, b)| (a as usize, b as usize)).unzip() } else { Default::default() };
     Ok(Done { numbers, numerators: tops, denominators: bottoms })
 }
 

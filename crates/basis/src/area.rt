@@ -11,7 +11,8 @@ pub fn number_at(area: &[usize], i: usize) -> usize
     if i < area.len() { area[i] } else { 0 }
 }
 
-pub fn fill(area: &mut [usize], value: usize)
+// Every place gets the value.
+fn fill(area: &mut [usize], value: usize)
     ensures { λ _. ⌜ now (area .exit) ≡ replicate (length (now (area .entry))) value ⌝ }
 {
     let mut i = 0;
@@ -21,6 +22,7 @@ pub fn fill(area: &mut [usize], value: usize)
     }
 }
 
+// The same of signed numbers.
 pub fn fill_signed(area: &mut [i64], value: i64)
     ensures { λ _. ⌜ now (area .exit) ≡ replicate (length (now (area .entry))) value ⌝ }
 {
@@ -31,12 +33,14 @@ pub fn fill_signed(area: &mut [i64], value: i64)
     }
 }
 
+// Every place is zero.
 pub fn clear(area: &mut [usize])
     ensures { λ _. ⌜ now (area .exit) ≡ cleared (now (area .entry)) ⌝ }
 {
     fill(area, 0);
 }
 
+// The same of signed numbers.
 pub fn clear_signed(area: &mut [i64])
     ensures { λ _. ⌜ now (area .exit) ≡ clearedZ (now (area .entry)) ⌝ }
 {

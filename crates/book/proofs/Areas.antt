@@ -5,6 +5,7 @@ use mathlib.Core.Bool.{Bool, true, false, not}
 use Prim.Native.Nat.{ℕ, _≤_, _<_}
 use native.Mathlib.Omega.{arith}
 use lib.ListN.{length, getD, drop, replicate}
+use Rattle.basis.specs.Limits.{mostVertices}
 use Rattle.basis.proofs.Tests.{failed, held}
 use Rattle.basis.specs.declared.refusal.Refusal.{Refusal}
 use Rattle.basis.specs.Refusal.{gives, refuses, plain, noRoom}
@@ -51,6 +52,6 @@ module _ (ps ss : List ℕ) (v : ℕ) (r : Reading) (s : ℕ) (e : saysReading r
   pub two-size-positive : 0 < s
   two-size-positive = limit-size (two ps ss) v r e s f .1
 
-  pub two-size-within : s ≤ 65536
+  pub two-size-within : s ≤ mostVertices
   unfolding two
   two-size-within = let t = limit-size (two ps ss) v r e s f in omega (arith, t .2, fits-within ps ss (t .0))

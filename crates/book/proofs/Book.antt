@@ -9,25 +9,30 @@ use native.Mathlib.Decide.{decLe, decLt, ℕ-discrete}
 use lib.Dec.{eqb}
 use lib.Pow.{pow-mono, pow-pos}
 use borrow.Author.Tests.{eq-eqb, ne-eqb}
+use Rattle.basis.specs.Limits.{mostVertices}
 use Rattle.book.specs.declared.Headed.{Headed}
 use Rattle.book.specs.declared.Pair.{Pair}
 use Rattle.book.specs.declared.Reading.{Reading}
 use Rattle.basis.specs.Refusal.{gives, refuses, plain, notThere, onward}
-use Rattle.book.specs.Rules.{stop, View, found, heads, Step, already, merge, Machine, walkFrom, headOf, pair, headsOf, sameGroup}
+use Rattle.book.specs.Rules.{mostMoves, stop, View, found, heads, Step, already, merge}
+use Rattle.book.specs.Rules.{Machine, walkFrom, headOf, pair, headsOf, sameGroup}
 use Rattle.book.specs.Rules.{groupSize, tally, isStop, groupCount, largest, stepLimit, above, mergeHeads, linkHeads, decide}
 use Rattle.basis.proofs.Tests.{clash}
-use Rattle.book.specs.Series.{Slip, slip, Linked, back, on}
+use Rattle.basis.specs.Scan.{bit}
+use Rattle.basis.specs.Closure.{Linked, back, on}
+use Rattle.basis.proofs.Closures.{linked-keeps}
+use Rattle.book.specs.Series.{Slip, slip, Accepted}
 use Rattle.book.proofs.Calls.{head-walk, heads-walks, heads-missing, heads-missing2, same-is, size-is, count-is, limit-is}
 use Rattle.book.proofs.Joins.{above-larger, above-smaller, mergeable-of, merge-above, merge-below, link-already, link-merges}
-use Rattle.book.proofs.Tally.{bit, bit-le, tally-apart, tally-le}
+use Rattle.book.proofs.Tally.{bit-le, tally-apart, tally-le}
 use Rattle.book.proofs.Faithful.{Mergeable, Faithful}
-use Rattle.book.proofs.Forest.{reach-walk, reach-head, Forest, forest-open, forest-already, forest-merged, linked-head, Whose}
+use Rattle.book.proofs.Forest.{reach-walk, reach-head, Forest, forest-open, forest-already, forest-merged, Whose}
 
 -- a book whose areas show w is well lent and keeps the invariant
 pub record Sound (n : ℕ) (w : View) (js : List Slip) (m : ℕ) : Type 0 where
   pub fit : w .fit ≡ true
   pub count : w .count ≡ n
-  pub within : n ≤ 65536
+  pub within : n ≤ mostVertices
   pub forest : Forest n (w .next) (w .size) js m
 
 -- ---- what the calls answer
@@ -48,10 +53,10 @@ module _ (n : ℕ) (w : View) (js : List Slip) (m : ℕ) (S : Sound n w js m) wh
   size-le : (v : ℕ) → v < n → w .size (S .forest .head v) ≤ w .count
   size-le v l = omega (arith, S .count, size-group v l, tally-le (λ x. eqb (S .forest .head x) (S .forest .head v)) n)
 
-  depth-le : (v : ℕ) → v < n → S .forest .depth v ≤ 16
-  depth-le v l = go (decLe (S .forest .depth v) 16)
+  depth-le : (v : ℕ) → v < n → S .forest .depth v ≤ mostMoves
+  depth-le v l = go (decLe (S .forest .depth v) mostMoves)
     where
-      go : Dec (S .forest .depth v ≤ 16) → S .forest .depth v ≤ 16
+      go : Dec (S .forest .depth v ≤ mostMoves) → S .forest .depth v ≤ mostMoves
       go (yes y) = y
       go (no d) = absurd (omega (
         arith,
@@ -66,7 +71,7 @@ module _ (n : ℕ) (w : View) (js : List Slip) (m : ℕ) (S : Sound n w js m) wh
   unfolding walkFrom
   walk-is v l =
       let e : 0 + S .forest .depth v ≡ S .forest .depth v = omega arith in
-      rw (S .count) (reach-walk (w .next) n (S .forest .depth v) 16 0 v (S .forest .head v) (S .forest .reach v l) (depth-le v l)
+      rw (S .count) (reach-walk (w .next) n (S .forest .depth v) mostMoves 0 v (S .forest .head v) (S .forest .reach v l) (depth-le v l)
       ∙ ap (λ (k : ℕ). gives (found (S .forest .head v) k)) e)
 
   pub head-answer : (v : ℕ) → v < n → headOf w v ≡ gives (found (S .forest .head v) (S .forest .depth v))
@@ -82,7 +87,7 @@ module _ (n : ℕ) (w : View) (js : List Slip) (m : ℕ) (S : Sound n w js m) wh
   size-answer v l =
       sym (size-is w v (Headed.Head (S .forest .head v) (S .forest .depth v)) (sym (head-answer v l)) _ _ refl (size-pos v l) (size-le v l))
 
-  pub limit-answer : (v : ℕ) → v < n → stepLimit w v ≡ gives (largest 16 (w .size (S .forest .head v)))
+  pub limit-answer : (v : ℕ) → v < n → stepLimit w v ≡ gives (largest mostMoves (w .size (S .forest .head v)))
   limit-answer v l = sym (limit-is w v (Reading.Value (w .size (S .forest .head v))) (sym (size-answer v l)) _ refl _ refl)
 
   pub count-answer : groupCount w ≡ gives (n - m)
@@ -90,10 +95,10 @@ module _ (n : ℕ) (w : View) (js : List Slip) (m : ℕ) (S : Sound n w js m) wh
       let e : tally (λ v. isStop (w .next v)) n ≡ n - m = omega (arith, S .forest .counted) in
       sym (count-is w true (sym (S .fit)) n (n - m) refl (omega (arith, S .count)) (omega (arith, S .count)) (sym e))
 
-  pub linked-iff : (u v : ℕ) → u < n → v < n → (S .forest .head u ≡ S .forest .head v) ↔ Linked js u v
+  pub linked-iff : (u v : ℕ) → u < n → v < n → (S .forest .head u ≡ S .forest .head v) ↔ Linked (Accepted js) u v
   linked-iff u v k l = (
     (λ e. on (S .forest .chained u k) (rw (← e) at (back (S .forest .chained v l)))),
-    (λ c. linked-head (S .forest .head) (S .forest .joined) c),
+    (λ c. linked-keeps (S .forest .head) (S .forest .joined) c),
   )
 
   -- a join that names no vertex of the book is refused

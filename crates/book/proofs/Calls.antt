@@ -15,7 +15,7 @@ use Rattle.basis.proofs.Tests.{and-first, and-second, and-both, and-off, failed
 use Rattle.book.specs.declared.Headed.{Headed}
 use Rattle.book.specs.declared.Pair.{Pair}
 use Rattle.book.specs.declared.Reading.{Reading}
-use Rattle.book.specs.Rules.{stop, View, Found, found, Heads, heads, walkFrom, headOf, pair, headsOf, oneHead}
+use Rattle.book.specs.Rules.{mostMoves, stop, View, Found, found, Heads, heads, walkFrom, headOf, pair, headsOf, oneHead}
 use Rattle.book.specs.Rules.{sameGroup, sizeAt, groupSize, tally, isStop, groupCount, largest, limitOf, stepLimit}
 use Rattle.book.specs.Two.{nextIn}
 use Rattle.book.specs.Says.{saysHeaded, saysReading}
@@ -183,7 +183,7 @@ module _ (w : View) (v : ℕ) where
     limit-refused x f = ap (λ s. onward s limitOf) (sym (ap saysReading f) ∙ e)
 
     module _ (s : ℕ) (f : r ≡ Reading.Value s) where
-      pub limit-is : (k : ℕ) → k ≡ largest 16 s → gives k ≡ stepLimit w v
+      pub limit-is : (k : ℕ) → k ≡ largest mostMoves s → gives k ≡ stepLimit w v
       unfolding stepLimit
       limit-is k a = ap gives a ∙ ap (λ s. onward s limitOf) (sym (ap saysReading f) ∙ e)
 

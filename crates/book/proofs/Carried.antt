@@ -8,8 +8,9 @@ use native.Mathlib.Decide.{decLt}
 use lib.ListN.{length, set, length-set}
 use lib.Dec.{leb}
 use borrow.Author.Tests.{le-leb, lt-leb}
+use Rattle.basis.specs.Limits.{mostVertices}
 use Rattle.basis.specs.Refusal.{gives, refuses, plain, unsound, check}
-use Rattle.book.specs.Rules.{Next, stop, to, Found, found, walk, walkFrom}
+use Rattle.book.specs.Rules.{mostMoves, Next, stop, to, Found, found, walk, walkFrom}
 use Rattle.book.specs.Two.{areas, nextIn, two}
 use Rattle.book.specs.Steps.{saysWalked, Walking}
 use Rattle.basis.proofs.Saids.{refused-given, given-one, check-on, check-off}
@@ -64,51 +65,54 @@ module _ (next next′ : ℕ → Next) (n top under : ℕ) (top-in : top < n) (t
   walk-other : (g ≡ under → ⊥) → walkFrom next′ n v ≡ gives (found g k)
   unfolding walkFrom
   walk-other d =
-      let r = walk-reach next n 16 0 v (found g k) v-in e in
-      reach-walk next′ n (r .0) 16 0 v g (reach-other next next′ n top under top-in top-head under-head apart at off (r .0) v g d (r .3))
+      let r = walk-reach next n mostMoves 0 v (found g k) v-in e in
+      reach-walk next′ n (r .0) mostMoves 0 v g (reach-other next next′ n top under top-in top-head under-head apart at off (r .0) v g d
+      (r .3))
       (r .1)
       ∙ ap (λ (x : ℕ). gives (found g x)) (sym (r .2))
 
-  walk-under : g ≡ under → walkFrom next′ n v ≡ check (leb (k + 1) 16) unsound (gives (found top (k + 1)))
+  walk-under : g ≡ under → walkFrom next′ n v ≡ check (leb (k + 1) mostMoves) unsound (gives (found top (k + 1)))
   unfolding walkFrom
-  walk-under q = go (decLt k 16)
+  walk-under q = go (decLt k mostMoves)
     where
       on : Reach next′ n v top (k + 1)
       on =
-          let r = walk-reach next n 16 0 v (found g k) v-in e in
+          let r = walk-reach next n mostMoves 0 v (found g k) v-in e in
           let i : suc (r .0) ≡ k + 1 = omega (arith, r .2) in
           subst (λ (y : ℕ). Reach next′ n v top y) i
           (reach-under next next′ n top under top-in top-head under-head apart at off (r .0) v
           (subst (λ (y : ℕ). Reach next n v y (r .0)) q (r .3)))
 
-      go : Dec (k < 16) → walk next′ n 16 0 v ≡ check (leb (k + 1) 16) unsound (gives (found top (k + 1)))
+      go : Dec (k < mostMoves) → walk next′ n mostMoves 0 v ≡ check (leb (k + 1) mostMoves) unsound (gives (found top (k + 1)))
       go (yes y) =
           let i : 0 + (k + 1) ≡ k + 1 = omega arith in
-          reach-walk next′ n (k + 1) 16 0 v top on (omega arith) ∙ ap (λ (x : ℕ). gives (found top x)) i
-          ∙ sym (check-on (leb (k + 1) 16) unsound _ (le-leb (k + 1) 16 (omega arith)))
+          reach-walk next′ n (k + 1) mostMoves 0 v top on (omega arith) ∙ ap (λ (x : ℕ). gives (found top x)) i
+          ∙ sym (check-on (leb (k + 1) mostMoves) unsound _ (le-leb (k + 1) mostMoves (omega arith)))
       go (no d) =
-          reach-late next′ n (k + 1) 16 0 v top on (omega arith)
-          ∙ sym (check-off (leb (k + 1) 16) unsound _ (lt-leb (k + 1) 16 (omega arith)))
+          reach-late next′ n (k + 1) mostMoves 0 v top on (omega arith)
+          ∙ sym (check-off (leb (k + 1) mostMoves) unsound _ (lt-leb (k + 1) mostMoves (omega arith)))
 
 -- ---- the same of two areas, of a walk in one number
-module _ (ps ss : List ℕ) (u at : ℕ) (x : Walking ps ss u at) (m : at / 65536 ≤ 16) (t d : ℕ) (k : Mergeable (two ps ss) t d 1) where
-  ended : walkFrom (nextIn ps) (length ps) u ≡ gives (found (at % 65536) (at / 65536))
+module _ (ps ss : List ℕ) (u at : ℕ) (x : Walking ps ss u at) (m : at / mostVertices ≤ mostMoves) (t d : ℕ)
+    (k : Mergeable (two ps ss) t d 1) where
+  ended : walkFrom (nextIn ps) (length ps) u ≡ gives (found (at % mostVertices) (at / mostVertices))
   ended = sym (x .walk) ∙ walked-ends at m
 
-  pub carried-other : (at % 65536 ≡ d → ⊥) → saysWalked at ≡ walkFrom (nextIn (set ps d t)) (length (set ps d t)) u
+  pub carried-other : (at % mostVertices ≡ d → ⊥) → saysWalked at ≡ walkFrom (nextIn (set ps d t)) (length (set ps d t)) u
   unfolding two
   carried-other q =
       walked-ends at m
       ∙ sym (ap (λ (n : ℕ). walkFrom (nextIn (set ps d t)) n u) (length-set ps d t)
       ∙ walk-other (nextIn ps) (nextIn (set ps d t)) (length ps) t d (k .top-in) (k .top-head) (k .under-head) (k .apart)
       (faithful-two .merged-under (areas ps ss) t d 1 k)
-      (faithful-two .merged-next (areas ps ss) t d 1 k) u (at % 65536) (at / 65536) (x .inside) ended q)
+      (faithful-two .merged-next (areas ps ss) t d 1 k) u (at % mostVertices) (at / mostVertices) (x .inside) ended q)
 
-  pub carried-under : at % 65536 ≡ d → saysWalked ((at / 65536 + 1) * 65536 + t) ≡ walkFrom (nextIn (set ps d t)) (length (set ps d t)) u
+  pub carried-under : at % mostVertices ≡ d → saysWalked ((at / mostVertices + 1) * mostVertices + t)
+      ≡ walkFrom (nextIn (set ps d t)) (length (set ps d t)) u
   unfolding two
   carried-under q =
-      walked-of t (at / 65536 + 1) (omega (arith, k .top-in, fits-within ps ss (x .lent)))
+      walked-of t (at / mostVertices + 1) (omega (arith, k .top-in, fits-within ps ss (x .lent)))
       ∙ sym (ap (λ (n : ℕ). walkFrom (nextIn (set ps d t)) n u) (length-set ps d t)
       ∙ walk-under (nextIn ps) (nextIn (set ps d t)) (length ps) t d (k .top-in) (k .top-head) (k .under-head) (k .apart)
       (faithful-two .merged-under (areas ps ss) t d 1 k)
-      (faithful-two .merged-next (areas ps ss) t d 1 k) u (at % 65536) (at / 65536) (x .inside) ended q)
+      (faithful-two .merged-next (areas ps ss) t d 1 k) u (at % mostVertices) (at / mostVertices) (x .inside) ended q)

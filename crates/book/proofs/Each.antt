@@ -10,13 +10,14 @@ use native.Mathlib.Decide.{ℕ-discrete}
 use lib.ListN.{length, getD, set, drop, drop-of-length-le}
 use lib.Dec.{eqb}
 use lib.Seq.{drop-cons, getD-set-same, getD-set-other}
+use Rattle.basis.specs.Limits.{mostVertices}
 use Rattle.basis.specs.declared.refusal.Refusal.{Refusal}
 use Rattle.basis.specs.Refusal.{Said, gives, refuses, plain, noRoom, notThere, unsound, onward, check}
 use Rattle.basis.proofs.Tests.{held}
 use Rattle.book.specs.declared.Joined.{Joined}
 use Rattle.book.specs.declared.Pair.{Pair}
 use Rattle.book.specs.declared.joining.Carried.{Carried}
-use Rattle.book.specs.Rules.{stop, to, heads, Step, already, merge, Joining, merged, same, Machine, Done, done}
+use Rattle.book.specs.Rules.{mostMoves, stop, to, heads, Step, already, merge, Joining, merged, same, Machine, Done, done}
 use Rattle.book.specs.Rules.{above, mergeable, mergeHeads, walkFrom, headsOf, linkHeads, decide, writeBook}
 use Rattle.book.specs.Rules.{joinBook, Each, all, stopped, EachDone, eachDone, counted, behind, andOn, joinEach}
 use Rattle.book.specs.Two.{Areas, areas, nextIn, fits, two, twoBook}
@@ -202,7 +203,7 @@ head-is ps v e =
 
 -- ---- the code's `join_next`
 module _ (ps ss : List ℕ) (u at : ℕ) (x : Walking ps ss u at) where
-  pub walking-within : length ps ≤ 65536
+  pub walking-within : length ps ≤ mostVertices
   walking-within = fits-within ps ss (x .lent)
 
   pub walking-lengths : length ss ≡ length ps
@@ -246,36 +247,37 @@ module _ (ps ss : List ℕ) (u at : ℕ) (x : Walking ps ss u at) where
         join-lost twoBook (areas ps ss) u w (plain notThere) (heads-missing2 (two ps ss) u w true (sym (x .lent)) _ refl (x .inside) l refl)
 
     module _ (l : w < length ps) where
-      pub next-late : 16 < at / 65536 → done (refuses (plain unsound)) (areas ps ss) ≡ joinBook twoBook (areas ps ss) u w
+      pub next-late : mostMoves < at / mostVertices → done (refuses (plain unsound)) (areas ps ss) ≡ joinBook twoBook (areas ps ss) u w
       unfolding two
       next-late m =
           join-lost twoBook (areas ps ss) u w (plain unsound)
           (heads-late (two ps ss) true (sym (x .lent)) refl u w (x .inside) l at (x .walk) _ m refl)
 
-      module _ (m : at / 65536 ≤ 16) (to : ℕ) (q : saysWalked to ≡ walkFrom (nextIn ps) (length ps) w) where
-        pub next-late2 : 16 < to / 65536 → done (refuses (plain unsound)) (areas ps ss) ≡ joinBook twoBook (areas ps ss) u w
+      module _ (m : at / mostVertices ≤ mostMoves) (to : ℕ) (q : saysWalked to ≡ walkFrom (nextIn ps) (length ps) w) where
+        pub next-late2 : mostMoves < to / mostVertices → done (refuses (plain unsound)) (areas ps ss) ≡ joinBook twoBook (areas ps ss) u w
         unfolding two
         next-late2 n =
             join-lost twoBook (areas ps ss) u w (plain unsound)
             (heads-late2 (two ps ss) true (sym (x .lent)) refl u w (x .inside) l at (x .walk) m to q _ n refl)
 
-        module _ (n : to / 65536 ≤ 16) where
-          both : saysPair (Pair.Heads (at % 65536) (to % 65536)) ≡ headsOf (two ps ss) u w
+        module _ (n : to / mostVertices ≤ mostMoves) where
+          both : saysPair (Pair.Heads (at % mostVertices) (to % mostVertices)) ≡ headsOf (two ps ss) u w
           unfolding two
           both = heads-end (two ps ss) true (sym (x .lent)) refl u w (x .inside) l at (x .walk) m to q n
 
-          pub next-first : at % 65536 < length ps
+          pub next-first : at % mostVertices < length ps
           next-first = two-first ps ss u w _ both _ _ refl
 
-          pub next-first-in : (ps₁ : List ℕ) → length ps₁ ≡ length ps → at % 65536 < length ps₁
+          pub next-first-in : (ps₁ : List ℕ) → length ps₁ ≡ length ps → at % mostVertices < length ps₁
           next-first-in ps₁ e = omega (arith, next-first)
 
-          pub next-second : to % 65536 < length ps
+          pub next-second : to % mostVertices < length ps
           next-second = two-second ps ss u w _ both _ _ refl
 
           -- what the link says is what the join says
-          module _ (ps₁ ss₁ : List ℕ) (r : Joined) (e : done (saysJoined r) (areas ps₁ ss₁) ≡ linkTwo ps ss (at % 65536) (to % 65536)) where
-            said : (s : Joined) → r ≡ s → done (saysJoined s) (areas ps₁ ss₁) ≡ linkTwo ps ss (at % 65536) (to % 65536)
+          module _ (ps₁ ss₁ : List ℕ) (r : Joined)
+              (e : done (saysJoined r) (areas ps₁ ss₁) ≡ linkTwo ps ss (at % mostVertices) (to % mostVertices)) where
+            said : (s : Joined) → r ≡ s → done (saysJoined s) (areas ps₁ ss₁) ≡ linkTwo ps ss (at % mostVertices) (to % mostVertices)
             said s f = ap (λ (y : Joined). done (saysJoined y) (areas ps₁ ss₁)) (sym f) ∙ e
 
             linked : (s : Joined) → r ≡ s → done (saysJoined s) (areas ps₁ ss₁) ≡ joinBook twoBook (areas ps ss) u w
@@ -291,19 +293,20 @@ module _ (ps ss : List ℕ) (u at : ℕ) (x : Walking ps ss u at) where
                 → done (refuses (plain unsound)) (areas ps₁ ss₁) ≡ joinBook twoBook (areas ps ss) u w
             next-refused y f =
                 ap (λ (z : Refusal). done (refuses z) (areas ps₁ ss₁))
-                (sym (link-refusal ps ss (at % 65536) (to % 65536) (areas ps₁ ss₁) y (said (Joined.Refused y) f)))
+                (sym (link-refusal ps ss (at % mostVertices) (to % mostVertices) (areas ps₁ ss₁) y (said (Joined.Refused y) f)))
                 ∙ linked (Joined.Refused y) f
 
           -- where they merge, u's head stays or goes under the other
           module _ (ps₁ ss₁ : List ℕ) (i : length ps₁ ≡ length ps) (j : length ss₁ ≡ length ss) (r : Joined) (f : r ≡ Joined.Merged)
-              (e : done (saysJoined r) (areas ps₁ ss₁) ≡ linkTwo ps ss (at % 65536) (to % 65536)) where
-            shape : (at % 65536 ≡ to % 65536 → ⊥) × Hung ps (at % 65536) (to % 65536) ps₁
-            shape = merges ps ss (at % 65536) (to % 65536) ps₁ ss₁ (ap (λ (y : Joined). done (saysJoined y) (areas ps₁ ss₁)) (sym f) ∙ e)
+              (e : done (saysJoined r) (areas ps₁ ss₁) ≡ linkTwo ps ss (at % mostVertices) (to % mostVertices)) where
+            shape : (at % mostVertices ≡ to % mostVertices → ⊥) × Hung ps (at % mostVertices) (to % mostVertices) ps₁
+            shape = merges ps ss (at % mostVertices) (to % mostVertices) ps₁ ss₁
+                (ap (λ (y : Joined). done (saysJoined y) (areas ps₁ ss₁)) (sym f) ∙ e)
 
-            first-over : Mergeable (two ps ss) (at % 65536) (to % 65536) 1
+            first-over : Mergeable (two ps ss) (at % mostVertices) (to % mostVertices) 1
             unfolding two
             first-over =
-                let b = heads-below (two ps ss) u w (at % 65536) (to % 65536) (sym both) in
+                let b = heads-below (two ps ss) u w (at % mostVertices) (to % mostVertices) (sym both) in
                 record {
                   fit = x .lent;
                   top-in = b .0;
@@ -314,7 +317,7 @@ module _ (ps ss : List ℕ) (u at : ℕ) (x : Walking ps ss u at) where
                   total-pos = omega arith;
                 }
 
-            second-over : Mergeable (two ps ss) (to % 65536) (at % 65536) 1
+            second-over : Mergeable (two ps ss) (to % mostVertices) (at % mostVertices) 1
             unfolding two
             second-over =
                 let k = first-over in
@@ -328,24 +331,29 @@ module _ (ps ss : List ℕ) (u at : ℕ) (x : Walking ps ss u at) where
                   total-pos = omega arith;
                 }
 
-            pub next-top : getD ps₁ (at % 65536) 0 ≡ at % 65536 → Walking ps₁ ss₁ u at
+            pub next-top : getD ps₁ (at % mostVertices) 0 ≡ at % mostVertices → Walking ps₁ ss₁ u at
             unfolding two
             next-top t = go (shape .1)
               where
-                go : Hung ps (at % 65536) (to % 65536) ps₁ → Walking ps₁ ss₁ u at
+                go : Hung ps (at % mostVertices) (to % mostVertices) ps₁ → Walking ps₁ ss₁ u at
                 go (inl q) =
-                    walking-again ps₁ ss₁ i j at (rw q (carried-other ps ss u at x m (at % 65536) (to % 65536) first-over (shape .0)))
+                    walking-again ps₁ ss₁ i j at (rw q
+                    (carried-other ps ss u at x m (at % mostVertices) (to % mostVertices) first-over (shape .0)))
                 go (inr q) =
-                    absurd (shape .0 (sym t ∙ ap (λ (l : List ℕ). getD l (at % 65536) 0) q
-                    ∙ getD-set-same ps (at % 65536) (to % 65536) 0 (first-over .top-in)))
+                    absurd (shape .0 (sym t ∙ ap (λ (l : List ℕ). getD l (at % mostVertices) 0) q
+                    ∙ getD-set-same ps (at % mostVertices) (to % mostVertices) 0 (first-over .top-in)))
 
-            pub next-under : (getD ps₁ (at % 65536) 0 ≡ at % 65536 → ⊥) → Walking ps₁ ss₁ u ((at / 65536 + 1) * 65536 + to % 65536)
+            pub next-under : (getD ps₁ (at % mostVertices) 0 ≡ at % mostVertices → ⊥)
+                → Walking ps₁ ss₁ u ((at / mostVertices + 1) * mostVertices + to % mostVertices)
             unfolding two
             next-under t = go (shape .1)
               where
-                go : Hung ps (at % 65536) (to % 65536) ps₁ → Walking ps₁ ss₁ u ((at / 65536 + 1) * 65536 + to % 65536)
+                go : Hung ps (at % mostVertices) (to % mostVertices) ps₁
+                    → Walking ps₁ ss₁ u ((at / mostVertices + 1) * mostVertices + to % mostVertices)
                 go (inl q) =
-                    absurd (t (ap (λ (l : List ℕ). getD l (at % 65536) 0) q
-                    ∙ getD-set-other ps (to % 65536) (at % 65536) (at % 65536) 0 (shape .0)
-                    ∙ head-is ps (at % 65536) (first-over .top-head)))
-                go (inr q) = walking-again ps₁ ss₁ i j _ (rw q (carried-under ps ss u at x m (to % 65536) (at % 65536) second-over refl))
+                    absurd (t (ap (λ (l : List ℕ). getD l (at % mostVertices) 0) q
+                    ∙ getD-set-other ps (to % mostVertices) (at % mostVertices) (at % mostVertices) 0 (shape .0)
+                    ∙ head-is ps (at % mostVertices) (first-over .top-head)))
+                go (inr q) =
+                    walking-again ps₁ ss₁ i j _ (rw q
+                    (carried-under ps ss u at x m (to % mostVertices) (at % mostVertices) second-over refl))

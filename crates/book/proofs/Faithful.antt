@@ -2,6 +2,7 @@
 use mathlib.Core.Path.{_≡_}
 use mathlib.Core.Bool.{true}
 use Prim.Native.Nat.{ℕ, _≤_, _<_}
+use Rattle.basis.specs.Limits.{mostVertices}
 use Rattle.book.specs.Rules.{stop, to, View, Machine}
 
 -- two heads that a join merges, and their groups' total
@@ -16,7 +17,7 @@ pub record Mergeable (w : View) (top under total : ℕ) : Type 0 where
 
 -- the equations
 pub record Faithful (M : Machine) : Type 0 where
-  pub fit-within : (a : M .Area) → M .view a .fit ≡ true → M .view a .count ≤ 65536
+  pub fit-within : (a : M .Area) → M .view a .fit ≡ true → M .view a .count ≤ mostVertices
   pub opened-fit : (a : M .Area) → M .view a .fit ≡ true → M .view (M .opened a) .fit ≡ true
   pub opened-count : (a : M .Area) → M .view (M .opened a) .count ≡ M .view a .count
   pub opened-next : (a : M .Area) (v : ℕ) → v < M .view a .count → M .view (M .opened a) .next v ≡ stop

@@ -11,9 +11,12 @@ use borrow.Author.Tests.{eq-eqb, ne-eqb}
 use Rattle.basis.specs.Refusal.{gives}
 use Rattle.basis.proofs.Tests.{no-case}
 use Rattle.book.specs.Rules.{Next, stop, to, found, isStop, tally, walk}
-use Rattle.book.specs.Series.{Slip, slip, Linked, itself, by, back, on}
+use Rattle.basis.specs.Scan.{bit}
+use Rattle.basis.specs.Closure.{Linked, itself, by, back, on}
+use Rattle.basis.proofs.Closures.{linked-within}
+use Rattle.book.specs.Series.{Slip, slip, Accepted}
 use Rattle.book.proofs.Walks.{walk-head, walk-move}
-use Rattle.book.proofs.Tally.{bit, tally-sum, tally-same, tally-all, tally-one}
+use Rattle.book.proofs.Tally.{tally-sum, tally-same, tally-all, tally-one}
 
 -- ---- from a vertex to its head in k moves
 
@@ -59,17 +62,9 @@ module _ (next next′ : ℕ → Next) (n top under : ℕ) (top-in : top < n) (t
 
 -- ---- chains of joins
 
-pub linked-head : {js : List Slip} (f : ℕ → ℕ) → ((x y : ℕ) → List·Memᴰ (slip x y) js → f x ≡ f y) → {u v : ℕ} → Linked js u v → f u ≡ f v
-linked-head f j (itself v) = refl
-linked-head f j (by u v m) = j u v m
-linked-head f j (back l) = sym (linked-head f j l)
-linked-head f j (on l m) = linked-head f j l ∙ linked-head f j m
-
-pub linked-more : {js : List Slip} (s : Slip) {u v : ℕ} → Linked js u v → Linked (s ∷ js) u v
-linked-more s (itself v) = itself v
-linked-more s (by u v m) = by u v (List·Memᴰ·tail m)
-linked-more s (back l) = back (linked-more s l)
-linked-more s (on l m) = on (linked-more s l) (linked-more s m)
+-- a chain of joins stays one when another join comes before them
+pub linked-more : {js : List Slip} (s : Slip) {u v : ℕ} → Linked (Accepted js) u v → Linked (Accepted (s ∷ js)) u v
+linked-more s l = linked-within (λ x y m. List·Memᴰ·tail m) l
 
 -- ---- the invariant
 
@@ -83,7 +78,7 @@ pub record Forest (n : ℕ) (next : ℕ → Next) (size : ℕ → ℕ) (js : Lis
   pub deep : (v : ℕ) → v < n → 2 ^ depth v ≤ size (head v)
   pub sized : (h : ℕ) → h < n → next h ≡ stop → size h ≡ tally (λ x. eqb (head x) h) n
   pub joined : (x y : ℕ) → List·Memᴰ (slip x y) js → head x ≡ head y
-  pub chained : (v : ℕ) → v < n → Linked js v (head v)
+  pub chained : (v : ℕ) → v < n → Linked (Accepted js) v (head v)
   pub counted : tally (λ v. isStop (next v)) n + m ≡ n
 
 -- a book that is opened
@@ -212,18 +207,18 @@ module _ (n : ℕ) (next next′ : ℕ → Next) (size size′ : ℕ → ℕ) (j
       go x y p q = rw (p, q) (simp (ne-eqb top under apart, eq-eqb under under refl))
 
   -- the old heads are linked by the new join
-  heads-linked : Linked (slip u v ∷ js) under top
+  heads-linked : Linked (Accepted (slip u v ∷ js)) under top
   heads-linked = ⊎-elim (λ w. back (go (w .0) (w .1))) (λ w. go (w .0) (w .1)) whose
     where
-      go : {g h : ℕ} → F .head u ≡ g → F .head v ≡ h → Linked (slip u v ∷ js) g h
+      go : {g h : ℕ} → F .head u ≡ g → F .head v ≡ h → Linked (Accepted (slip u v ∷ js)) g h
       go p q = rw (← p, ← q) (on (back (linked-more (slip u v) (F .chained u u-in)))
-          (on (by u v (List·Memᴰ·head refl)) (linked-more (slip u v) (F .chained v v-in))))
+          (on (by (List·Memᴰ·head refl)) (linked-more (slip u v) (F .chained v v-in))))
 
-  merged-chained : (x : ℕ) → x < n → Linked (slip u v ∷ js) x (head′ x)
+  merged-chained : (x : ℕ) → x < n → Linked (Accepted (slip u v ∷ js)) x (head′ x)
   unfolding head′
   merged-chained x l = go (ℕ-discrete (F .head x) under)
     where
-      go : Dec (F .head x ≡ under) → Linked (slip u v ∷ js) x (newHead top under (F .head x))
+      go : Dec (F .head x ≡ under) → Linked (Accepted (slip u v ∷ js)) x (newHead top under (F .head x))
       go (yes q) = simp (eq-eqb _ _ q) (on (rw q at (linked-more (slip u v) (F .chained x l))) heads-linked)
       go (no q) = simp (ne-eqb _ _ q) (linked-more (slip u v) (F .chained x l))
 

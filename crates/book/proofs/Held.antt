@@ -6,6 +6,7 @@ use mathlib.Core.List.{List, [], _∷_, _++_}
 use mathlib.Core.Bool.{true}
 use Prim.Native.Nat.{ℕ, _+_, _-_, _≤_, _<_}
 use lib.ListN.{length}
+use Rattle.basis.specs.Limits.{mostVertices}
 use Rattle.basis.specs.Refusal.{gives}
 use Rattle.basis.specs.Scan.{allBelow}
 use Rattle.book.specs.Rules.{Machine, found, Each, all, openBook, joinEach, headOf}
@@ -40,11 +41,11 @@ held-open M a f = record {
   now = unfold run after in rw (open-is M a f);
 }
 
-pub two-open : (ps ss : List ℕ) (n : ℕ) → n ≤ 65536 → length ps ≡ n → length ss ≡ n
+pub two-open : (ps ss : List ℕ) (n : ℕ) → n ≤ mostVertices → length ps ≡ n → length ss ≡ n
     → Held twoBook n (openBook twoBook (areas ps ss) .area) []
 two-open ps ss n l p s =
     let e : two ps ss .count ≡ n = unfold two in p in
-    let f : two ps ss .fit ≡ true = unfold two in fits-of ps ss (subst (λ (k : ℕ). k ≤ 65536) (sym p) l) (s ∙ sym p) in
+    let f : two ps ss .fit ≡ true = unfold two in fits-of ps ss (subst (λ (k : ℕ). k ≤ mostVertices) (sym p) l) (s ∙ sym p) in
     subst (λ (k : ℕ). Held twoBook k (openBook twoBook (areas ps ss) .area) []) e (held-open twoBook (areas ps ss) f)
 
 module _ (M : Machine) (L : Faithful M) (n : ℕ) (a : M .Area) (js : List Slip) (H : Held M n a js) where

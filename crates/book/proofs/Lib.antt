@@ -16,4 +16,3 @@ pub mod TwoBook
 pub mod Carried
 pub mod Each
 pub mod Held
-pub mod Worked

@@ -8,7 +8,8 @@ use lib.Dec.{leb}
 use lib.Pow.{pow-mono}
 use lib.Count.{leadingZeros, leading-top}
 use borrow.Author.Tests.{le-leb, lt-leb}
-use Rattle.book.specs.Rules.{largest}
+use Rattle.basis.specs.Limits.{mostVertices}
+use Rattle.book.specs.Rules.{mostMoves, largest}
 
 -- where 2 to the j is at most s and the next power is above s, `largest` finds j from any start at or above it
 pub largest-is : (k j s : ℕ) → j ≤ k → 2 ^ j ≤ s → s < 2 ^ suc j → largest k s ≡ j
@@ -27,28 +28,29 @@ largest-is (suc k) j s l h g = go (decLt k j) (λ m. largest-is k j s m h g)
         simp (lt-leb _ _ t) (ih (omega arith))
 
 -- the place of the highest digit of a size
-top-of : (s : ℕ) → 0 < s → s ≤ 65536 → (j : ℕ) × (leadingZeros 64 s + suc j ≡ 64) × (2 ^ j ≤ s) × (s < 2 ^ suc j) × (largest 16 s ≡ j)
+top-of : (s : ℕ) → 0 < s → s ≤ mostVertices → (j : ℕ) × (leadingZeros 64 s + suc j ≡ 64) × (2 ^ j ≤ s) × (s < 2 ^ suc j)
+    × (largest mostMoves s ≡ j)
 top-of s p h =
     let t = leading-top 64 s p (omega arith) in
-    (t .0, t .1, t .2, t .3, largest-is 16 (t .0) s (go (t .0) (t .2)) (t .2) (t .3))
+    (t .0, t .1, t .2, t .3, largest-is mostMoves (t .0) s (go (t .0) (t .2)) (t .2) (t .3))
   where
-    go : (j : ℕ) → 2 ^ j ≤ s → j ≤ 16
-    go j l = elim (decLe j 16) [ yes y ↦ y | no n ↦ absurd (omega (arith, pow-mono {i = 17} {j = j} (omega arith))) ]
+    go : (j : ℕ) → 2 ^ j ≤ s → j ≤ mostMoves
+    go j l = elim (decLe j mostMoves) [ yes y ↦ y | no n ↦ absurd (omega (arith, pow-mono {i = 17} {j = j} (omega arith))) ]
 
 -- the count of a size's leading zeros, as a machine word of 64 digits has them, gives the largest power
-pub largest-leading : (s : ℕ) → 0 < s → s ≤ 65536 → (leadingZeros 64 s ≤ 63) × (63 - leadingZeros 64 s ≡ largest 16 s)
+pub largest-leading : (s : ℕ) → 0 < s → s ≤ mostVertices → (leadingZeros 64 s ≤ 63) × (63 - leadingZeros 64 s ≡ largest mostMoves s)
 largest-leading s p h = let t = top-of s p h in (omega (arith, t .1), omega (arith, t .1, t .4))
 
 -- it is the largest k with 2 to the k at most the size
-pub largest-low : (s : ℕ) → 0 < s → s ≤ 65536 → 2 ^ largest 16 s ≤ s
+pub largest-low : (s : ℕ) → 0 < s → s ≤ mostVertices → 2 ^ largest mostMoves s ≤ s
 largest-low s p h = let t = top-of s p h in rw (t .4) (t .2)
 
-pub largest-high : (s : ℕ) → 0 < s → s ≤ 65536 → s < 2 ^ suc (largest 16 s)
+pub largest-high : (s : ℕ) → 0 < s → s ≤ mostVertices → s < 2 ^ suc (largest mostMoves s)
 largest-high s p h = let t = top-of s p h in rw (t .4) (t .3)
 
-pub largest-most : (s k : ℕ) → 0 < s → s ≤ 65536 → 2 ^ k ≤ s → k ≤ largest 16 s
+pub largest-most : (s k : ℕ) → 0 < s → s ≤ mostVertices → 2 ^ k ≤ s → k ≤ largest mostMoves s
 largest-most s k p h l =
-    elim (decLe k (largest 16 s)) [
+    elim (decLe k (largest mostMoves s)) [
       | yes y ↦ y
-      | no n ↦ absurd (omega (arith, largest-high s p h, pow-mono {i = suc (largest 16 s)} {j = k} (omega arith)))
+      | no n ↦ absurd (omega (arith, largest-high s p h, pow-mono {i = suc (largest mostMoves s)} {j = k} (omega arith)))
     ]

@@ -9,13 +9,15 @@ use native.Mathlib.Decide.{decLt}
 use lib.ListN.{take}
 use lib.Dec.{eqb, ltb}
 use borrow.Author.Tests.{ltb-true, eq-eqb, ne-eqb}
+use Rattle.basis.specs.Limits.{mostVertices}
+use Rattle.basis.specs.Closure.{Linked}
 use Rattle.basis.proofs.Tests.{and-first, and-second}
 use Rattle.basis.specs.declared.refusal.Refusal.{Refusal}
 use Rattle.basis.specs.Refusal.{Said, gives, refuses, plain, notThere}
 use Rattle.basis.specs.Scan.{each, allBelow}
-use Rattle.book.specs.Rules.{View, Machine, found, Step, Joining, merged, same, done, Each, all, stopped, EachDone}
+use Rattle.book.specs.Rules.{mostMoves, View, Machine, found, Step, Joining, merged, same, done, Each, all, stopped, EachDone}
 use Rattle.book.specs.Rules.{counted, behind, joinEach, walkFrom, openBook, joinBook, writeBook, decide, largest}
-use Rattle.book.specs.Series.{Call, Answer, State, state, slip, Linked, Kept, Demand3, putEach, mergesOf, after, afterJoin}
+use Rattle.book.specs.Series.{Call, Answer, State, state, slip, Accepted, Kept, Demand3, putEach, mergesOf, after, afterJoin}
 use Rattle.book.specs.Series.{afterEach, joinings, answer, run, headIn, movesIn, headAt, movesAt, members, shown}
 use Rattle.book.proofs.Walks.{walk-head}
 use Rattle.book.proofs.Powers.{largest-low, largest-high, largest-most}
@@ -179,7 +181,7 @@ module _ (M : Machine) (n : ℕ) (s : State (M .Area)) (W : Whole M n s) where
       (λ x k. ap₂ eqb (rw (W .count) at (head-is x k)) (rw (W .count) at (head-is v l)))
       ∙ sym (size-group n _ _ _ W v l))
 
-  kept-linked : (u v : ℕ) → u < n → v < n → (headAt (M .view (s .area)) u ≡ headAt (M .view (s .area)) v) ↔ Linked (s .slips) u v
+  kept-linked : (u v : ℕ) → u < n → v < n → (headAt (M .view (s .area)) u ≡ headAt (M .view (s .area)) v) ↔ Linked (Accepted (s .slips)) u v
   kept-linked u v k l = rw (head-is u k, head-is v l) (linked-iff n _ _ _ W u v k l)
 
   -- a join of two vertices of the book finds one group where their heads are equal, else it merges two
@@ -205,7 +207,7 @@ module _ (M : Machine) (n : ℕ) (s : State (M .Area)) (W : Whole M n s) where
       go (inl t) = say _ (t .0) true (eq-eqb _ _ (t .1)) refl
       go (inr t) = say _ (t .2) false (ne-eqb _ _ (apart (t .0) (t .1) (t .3 .apart) (t .4))) refl
 
-  size-range : (v : ℕ) → v < n → (0 < members (M .view (s .area)) v) × (members (M .view (s .area)) v ≤ 65536)
+  size-range : (v : ℕ) → v < n → (0 < members (M .view (s .area)) v) × (members (M .view (s .area)) v ≤ mostVertices)
   size-range v l = (
     omega (arith, members-are v l, size-pos n _ _ _ W v l),
     omega (
@@ -225,8 +227,8 @@ module _ (M : Machine) (n : ℕ) (s : State (M .Area)) (W : Whole M n s) where
   kept-limited v l =
       let r = size-range v l in
       let c = members (M .view (s .area)) v in (
-        largest 16 c,
-        ap Answer.reads (limit-answer n _ _ _ W v l ∙ ap (λ (x : ℕ). gives (largest 16 x)) (sym (members-are v l))),
+        largest mostMoves c,
+        ap Answer.reads (limit-answer n _ _ _ W v l ∙ ap (λ (x : ℕ). gives (largest mostMoves x)) (sym (members-are v l))),
         largest-low c (r .0) (r .1),
         largest-high c (r .0) (r .1),
         largest-most c (movesAt (M .view (s .area)) v) (r .0) (r .1) (rw (moves-are v l, members-are v l) (W .forest .deep v l)),
@@ -235,7 +237,7 @@ module _ (M : Machine) (n : ℕ) (s : State (M .Area)) (W : Whole M n s) where
   kept-settled : (v : ℕ) → v < n → headAt (M .view (s .area)) (headAt (M .view (s .area)) v) ≡ headAt (M .view (s .area)) v
   kept-settled v l =
       let e : walkFrom (M .view (s .area) .next) (M .view (s .area) .count) (W .forest .head v) ≡ gives (found (W .forest .head v) 0)
-      = unfold walkFrom in walk-head (M .view (s .area) .next) (M .view (s .area) .count) 16 0 (W .forest .head v)
+      = unfold walkFrom in walk-head (M .view (s .area) .next) (M .view (s .area) .count) mostMoves 0 (W .forest .head v)
       (head-in n _ _ _ W v l .1) in
       rw (head-is v l) (ap headIn e)
 

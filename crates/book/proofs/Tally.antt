@@ -6,6 +6,7 @@ use native.Mathlib.Omega.{arith}
 use native.Mathlib.Decide.{ℕ-discrete}
 use lib.Dec.{eqb}
 use borrow.Author.Tests.{eq-eqb, ne-eqb}
+use Rattle.basis.specs.Scan.{bit}
 use Rattle.book.specs.Rules.{tally}
 
 pub tally-yes : (p : ℕ → Bool) (i : ℕ) → p i ≡ true → tally p (suc i) ≡ suc (tally p i)
@@ -24,11 +25,6 @@ pub tally-le : (p : ℕ → Bool) (n : ℕ) → tally p n ≤ n
 unfolding tally
 tally-le p zero = omega arith
 tally-le p (suc n) = cond-le (p n) (tally p n) n (tally-le p n)
-
--- 1 where a test holds, else 0
-abbrev pub bit : Bool → ℕ
-bit true = 1
-bit false = 0
 
 pub bit-le : (b : Bool) → bit b ≤ 1
 bit-le true = omega arith

@@ -7,10 +7,11 @@ use native.Mathlib.Omega.{arith}
 use lib.ListN.{length, getD}
 use lib.Dec.{leb}
 use borrow.Author.Tests.{lt-leb, le-leb}
+use Rattle.basis.specs.Limits.{mostVertices}
 use Rattle.basis.specs.declared.refusal.Refusal.{Refusal}
 use Rattle.basis.specs.Refusal.{gives, refuses, plain, unsound, check}
 use Rattle.basis.proofs.Tests.{held}
-use Rattle.book.specs.Rules.{View, found, heads, walk, walkFrom, headOf, headsOf}
+use Rattle.book.specs.Rules.{mostMoves, View, found, heads, walk, walkFrom, headOf, headsOf}
 use Rattle.book.specs.Two.{nextIn, fits}
 use Rattle.book.specs.Steps.{saysWalked}
 use Rattle.basis.proofs.Saids.{check-on, check-off}
@@ -20,69 +21,73 @@ use Rattle.book.proofs.Calls.{head-walked, heads-walked}
 
 -- ---- what the number says
 module _ (a : ℕ) where
-  pub walked-late : 16 < a / 65536 → saysWalked a ≡ refuses (plain unsound)
+  pub walked-late : mostMoves < a / mostVertices → saysWalked a ≡ refuses (plain unsound)
   unfolding saysWalked
-  walked-late l = check-off (leb (a / 65536) 16) unsound _ (lt-leb (a / 65536) 16 l)
+  walked-late l = check-off (leb (a / mostVertices) mostMoves) unsound _ (lt-leb (a / mostVertices) mostMoves l)
 
-  pub walked-ends : a / 65536 ≤ 16 → saysWalked a ≡ gives (found (a % 65536) (a / 65536))
+  pub walked-ends : a / mostVertices ≤ mostMoves → saysWalked a ≡ gives (found (a % mostVertices) (a / mostVertices))
   unfolding saysWalked
-  walked-ends l = check-on (leb (a / 65536) 16) unsound _ (le-leb (a / 65536) 16 l)
+  walked-ends l = check-on (leb (a / mostVertices) mostMoves) unsound _ (le-leb (a / mostVertices) mostMoves l)
 
-pub walked-of : (at moves : ℕ) → at < 65536 → saysWalked (moves * 65536 + at) ≡ check (leb moves 16) unsound (gives (found at moves))
+pub walked-of : (at moves : ℕ) → at < mostVertices
+    → saysWalked (moves * mostVertices + at) ≡ check (leb moves mostMoves) unsound (gives (found at moves))
 unfolding saysWalked
 walked-of at moves k =
-    let p : (moves * 65536 + at) / 65536 ≡ moves = omega arith in
-    let q : (moves * 65536 + at) % 65536 ≡ at = omega arith in
-    ap₂ (λ h k. check (leb k 16) unsound (gives (found h k))) q p
+    let p : (moves * mostVertices + at) / mostVertices ≡ moves = omega arith in
+    let q : (moves * mostVertices + at) % mostVertices ≡ at = omega arith in
+    ap₂ (λ h k. check (leb k mostMoves) unsound (gives (found h k))) q p
 
 -- ---- the code's loop, where the rest of the walk from `at` is the walk from v
-module _ (ps : List ℕ) (v at moves : ℕ) (e : walkFrom (nextIn ps) (length ps) v ≡ walk (nextIn ps) (length ps) (16 - moves) moves at) where
-  pub loop-found : at < length ps → length ps ≤ 65536 → moves ≤ 16 → getD ps at 0 ≡ at
-      → saysWalked (moves * 65536 + at) ≡ walkFrom (nextIn ps) (length ps) v
+module _ (ps : List ℕ) (v at moves : ℕ) (e : walkFrom (nextIn ps) (length ps) v
+    ≡ walk (nextIn ps) (length ps) (mostMoves - moves) moves at) where
+  pub loop-found : at < length ps → length ps ≤ mostVertices → moves ≤ mostMoves → getD ps at 0 ≡ at
+      → saysWalked (moves * mostVertices + at) ≡ walkFrom (nextIn ps) (length ps) v
   loop-found l k m h =
-      walked-of at moves (omega arith) ∙ check-on (leb moves 16) unsound _ (le-leb moves 16 m)
-      ∙ sym (e ∙ walk-head (nextIn ps) (length ps) (16 - moves) moves at (next-head ps at h))
+      walked-of at moves (omega arith) ∙ check-on (leb moves mostMoves) unsound _ (le-leb moves mostMoves m)
+      ∙ sym (e ∙ walk-head (nextIn ps) (length ps) (mostMoves - moves) moves at (next-head ps at h))
 
   module _ (other : getD ps at 0 ≡ at → ⊥) where
-    pub loop-late : 16 ≤ moves → saysWalked 1114112 ≡ walkFrom (nextIn ps) (length ps) v
+    pub loop-late : mostMoves ≤ moves → saysWalked 1114112 ≡ walkFrom (nextIn ps) (length ps) v
     loop-late l =
-        let z : 16 - moves ≡ 0 = omega arith in
+        let z : mostMoves - moves ≡ 0 = omega arith in
         walked-late 1114112 (omega arith) ∙ sym (e ∙ rw z (walk-late (nextIn ps) (length ps) moves at _ (next-other ps at other)))
 
     pub loop-out : length ps ≤ getD ps at 0 → saysWalked 1114112 ≡ walkFrom (nextIn ps) (length ps) v
     loop-out l =
-        walked-late 1114112 (omega arith) ∙ sym (e ∙ walk-out (nextIn ps) (length ps) (16 - moves) moves at _ (next-other ps at other) l)
+        walked-late 1114112 (omega arith) ∙ sym (e
+        ∙ walk-out (nextIn ps) (length ps) (mostMoves - moves) moves at _ (next-other ps at other) l)
 
-    pub loop-moves : moves < 16 → getD ps at 0 < length ps
-        → walkFrom (nextIn ps) (length ps) v ≡ walk (nextIn ps) (length ps) (16 - (moves + 1)) (moves + 1) (getD ps at 0)
+    pub loop-moves : moves < mostMoves → getD ps at 0 < length ps
+        → walkFrom (nextIn ps) (length ps) v ≡ walk (nextIn ps) (length ps) (mostMoves - (moves + 1)) (moves + 1) (getD ps at 0)
     loop-moves k l =
-        let z : 16 - moves ≡ suc (16 - (moves + 1)) = omega arith in
-        e ∙ rw z (walk-move (nextIn ps) (length ps) (16 - (moves + 1)) moves at _ (next-other ps at other) l)
+        let z : mostMoves - moves ≡ suc (mostMoves - (moves + 1)) = omega arith in
+        e ∙ rw z (walk-move (nextIn ps) (length ps) (mostMoves - (moves + 1)) moves at _ (next-other ps at other) l)
 
 -- areas that are well lent have room for no head that the number cannot hold
-pub lent-within : (ps ss : List ℕ) (t : Bool) → t ≡ fits ps ss → not t ≡ false → length ps ≤ 65536
+pub lent-within : (ps ss : List ℕ) (t : Bool) → t ≡ fits ps ss → not t ≡ false → length ps ≤ mostVertices
 lent-within ps ss t e f = fits-within ps ss (held t _ e f)
 
 -- ---- the calls that walk
 module _ (w : View) (t : Bool) (e : t ≡ w .fit) (f : not t ≡ false) where
   module _ (v : ℕ) (l : v < w .count) (a : ℕ) (p : saysWalked a ≡ walkFrom (w .next) (w .count) v) where
-    pub head-late : (x : Refusal) → 16 < a / 65536 → x ≡ plain unsound → refuses x ≡ headOf w v
+    pub head-late : (x : Refusal) → mostMoves < a / mostVertices → x ≡ plain unsound → refuses x ≡ headOf w v
     head-late x m q = head-walked w v t e (refuses x) f l (ap refuses q ∙ sym (walked-late a m) ∙ p)
 
-    pub head-ends : a / 65536 ≤ 16 → gives (found (a % 65536) (a / 65536)) ≡ headOf w v
+    pub head-ends : a / mostVertices ≤ mostMoves → gives (found (a % mostVertices) (a / mostVertices)) ≡ headOf w v
     head-ends m = head-walked w v t e _ f l (sym (walked-ends a m) ∙ p)
 
   module _ (u v : ℕ) (k : u < w .count) (l : v < w .count) (a : ℕ) (p : saysWalked a ≡ walkFrom (w .next) (w .count) u) where
-    pub heads-late : (x : Refusal) → 16 < a / 65536 → x ≡ plain unsound → refuses x ≡ headsOf w u v
+    pub heads-late : (x : Refusal) → mostMoves < a / mostVertices → x ≡ plain unsound → refuses x ≡ headsOf w u v
     heads-late x m r = heads-walked w u v t e (refuses x) _ f k l (ap refuses r ∙ sym (walked-late a m) ∙ p) refl
 
-    module _ (m : a / 65536 ≤ 16) (b : ℕ) (q : saysWalked b ≡ walkFrom (w .next) (w .count) v) where
-      pub heads-late2 : (x : Refusal) → 16 < b / 65536 → x ≡ plain unsound → refuses x ≡ headsOf w u v
+    module _ (m : a / mostVertices ≤ mostMoves) (b : ℕ) (q : saysWalked b ≡ walkFrom (w .next) (w .count) v) where
+      pub heads-late2 : (x : Refusal) → mostMoves < b / mostVertices → x ≡ plain unsound → refuses x ≡ headsOf w u v
       heads-late2 x n r =
-          heads-walked w u v t e (gives (found (a % 65536) (a / 65536))) (refuses x) f k l (sym (walked-ends a m) ∙ p)
+          heads-walked w u v t e (gives (found (a % mostVertices) (a / mostVertices))) (refuses x) f k l (sym (walked-ends a m) ∙ p)
           (ap refuses r ∙ sym (walked-late b n) ∙ q)
 
-      pub heads-end : b / 65536 ≤ 16 → gives (heads (a % 65536) (b % 65536)) ≡ headsOf w u v
+      pub heads-end : b / mostVertices ≤ mostMoves → gives (heads (a % mostVertices) (b % mostVertices)) ≡ headsOf w u v
       heads-end n =
-          heads-walked w u v t e (gives (found (a % 65536) (a / 65536))) (gives (found (b % 65536) (b / 65536))) f k l
+          heads-walked w u v t e (gives (found (a % mostVertices) (a / mostVertices))) (gives (found (b % mostVertices) (b / mostVertices)))
+          f k l
           (sym (walked-ends a m) ∙ p) (sym (walked-ends b n) ∙ q)

@@ -7,7 +7,7 @@ use lib.Dec.{ltb}
 use borrow.Author.Tests.{ltb-true, lt-ltb, le-ltb, eq-eqb, ne-eqb}
 use Rattle.basis.proofs.Saids.{refused-given, check-on, check-off, check-passed}
 use Rattle.basis.specs.Refusal.{gives, refuses, plain, unsound, check}
-use Rattle.book.specs.Rules.{Next, stop, to, Found, found, walk, walkFrom}
+use Rattle.book.specs.Rules.{mostMoves, Next, stop, to, Found, found, walk, walkFrom}
 use Rattle.book.specs.Two.{nextIn}
 
 module _ (next : ℕ → Next) (n : ℕ) where
@@ -55,7 +55,7 @@ module _ (next : ℕ → Next) (n : ℕ) where
 
   pub walkFrom-in : (v : ℕ) (f : Found) → v < n → walkFrom next n v ≡ gives f → (f .head < n) × (next (f .head) ≡ stop)
   unfolding walkFrom
-  walkFrom-in v f l e = walk-in 16 0 v f l e
+  walkFrom-in v f l e = walk-in mostMoves 0 v f l e
 
 pub next-head : (ps : List ℕ) (v : ℕ) → getD ps v 0 ≡ v → nextIn ps v ≡ stop
 unfolding nextIn

@@ -1,4 +1,5 @@
--- The meaning of the group book, in reading order: what its areas show, the rules of its calls, the book of two areas, a series of calls and what holds after it.
+-- The meaning of the group book, in reading order: what its areas show, the rules of its calls, the book of two areas, a series of calls
+-- and what holds after it.
 pub mod Rules
 pub mod Two
 pub mod Says

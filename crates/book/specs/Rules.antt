@@ -11,7 +11,8 @@ pub data Next : Type 0 where
   stop : Next
   to : ℕ → Next
 
--- what a book's areas show: whether they are well lent, how many vertices they have, where a walk goes from each, and the size that stands at a head
+-- what a book's areas show: whether they are well lent, how many vertices they have, where a walk goes from each, and the size that stands
+-- at a head
 pub record View : Type 0 where
   pub fit : Bool
   pub count : ℕ
@@ -34,14 +35,18 @@ abbrev pub follow : Next → Said Found → (ℕ → Said Found) → Said Found
 follow stop here on = here
 follow (to p) here on = on p
 
+-- "doesn't end in 16 steps": the moves that a walk may take
+abbrev pub mostMoves : ℕ
+mostMoves = 16
+
 -- "a walk the call needs leaves the area or doesn't end in 16 steps": from `at` in an area of n, `left` moves allowed and `moves` made
 unfoldable pub walk : (ℕ → Next) → ℕ → ℕ → ℕ → ℕ → Said Found
 walk next n zero moves at = follow (next at) (gives (found at moves)) (λ p. refuses (plain unsound))
 walk next n (suc left) moves at = follow (next at) (gives (found at moves)) (λ p. check (ltb p n) unsound (walk next n left (moves + 1) p))
 
--- the walk from v, of at most 16 moves
+-- the walk from v, of at most so many moves
 unfoldable pub walkFrom : (ℕ → Next) → ℕ → ℕ → Said Found
-walkFrom next n v = walk next n 16 0 v
+walkFrom next n v = walk next n mostMoves 0 v
 
 -- ---- calls that read; "Checks: 8, then 10, then 9"
 
@@ -107,9 +112,9 @@ unfoldable pub largest : ℕ → ℕ → ℕ
 largest zero s = 0
 largest (suc k) s = cond (leb (2 ^ suc k) s) (suc k) (largest k s)
 
--- no size that is given passes 65,536, which is 2 to the 16
+-- no size that is given passes 65,536, which is 2 to the 16: the limit is no more than the moves that a walk may take
 abbrev pub limitOf : ℕ → Said ℕ
-limitOf s = gives (largest 16 s)
+limitOf s = gives (largest mostMoves s)
 
 -- "the step limit, which is the largest k with 2 to the k at most the group's size"
 unfoldable pub stepLimit : View → ℕ → Said ℕ
@@ -127,7 +132,8 @@ pub data Step : Type 0 where
 unfoldable pub above : ℕ → ℕ → ℕ → ℕ → Bool
 above a b g h = cond (ltb b a) true (cond (ltb a b) false (ltb g h))
 
--- refused "when a join that would merge finds a head size of 0 or a sum above the length": else groups of a and b vertices may merge in a book of n
+-- refused "when a join that would merge finds a head size of 0 or a sum above the length": else groups of a and b vertices may merge in a
+-- book of n
 unfoldable pub mergeable : ℕ → ℕ → ℕ → Bool
 mergeable n a b = ltb 0 a && ltb 0 b && leb (a + b) n
 
@@ -138,8 +144,10 @@ mergeHeads a b g h = cond (above a b g h) (merge g h (a + b)) (merge h g (a + b)
 -- "if equal, nothing changes and it is accepted"
 unfoldable pub linkHeads : View → Heads → Said Step
 linkHeads w p =
+    let a = w .size (p .first) in
+    let b = w .size (p .second) in
     cond (eqb (p .first) (p .second)) (gives already)
-    (check (mergeable (w .count) (w .size (p .first)) (w .size (p .second))) unsound (gives (mergeHeads (w .size (p .first)) (w .size (p .second)) (p .first) (p .second))))
+    (check (mergeable (w .count) a b) unsound (gives (mergeHeads a b (p .first) (p .second))))
 
 -- "A join finds both heads": what it does then, or why it is refused
 unfoldable pub decide : View → ℕ → ℕ → Said Step
@@ -184,8 +192,8 @@ joinBook M a u v = writeBook M (decide (M .view a) u v) a
 
 -- ---- joining one vertex with each of a list
 
--- what such a series of joins says: all were accepted, and how many merged two groups; or how many were accepted before the first that was refused,
--- how many of those merged two groups, and its refusal
+-- what such a series of joins says: all were accepted, and how many merged two groups; or how many were accepted before the first that was
+-- refused, how many of those merged two groups, and its refusal
 pub data Each : Type 0 where
   all : ℕ → Each
   stopped : ℕ → ℕ → Refusal → Each

@@ -7,8 +7,11 @@ use Prim.Native.Nat.{ℕ, suc, _+_, _-_, _^_, _≤_, _<_}
 use lib.ListN.{length, take}
 use lib.Dec.{eqb}
 use Rattle.basis.specs.Refusal.{Said, gives, refuses}
+use Rattle.basis.specs.Limits.{mostVertices}
 use Rattle.basis.specs.Scan.{allBelow}
-use Rattle.book.specs.Rules.{View, Machine, Found, found, Joining, merged, same, Each, all, stopped, tally, walkFrom, openBook, joinBook, joinEach, headOf, sameGroup, groupSize, groupCount, stepLimit}
+use Rattle.basis.specs.Closure.{Linked}
+use Rattle.book.specs.Rules.{View, Machine, Found, found, Joining, merged, same, Each, all, stopped, tally, walkFrom, openBook}
+use Rattle.book.specs.Rules.{joinBook, joinEach, headOf, sameGroup, groupSize, groupCount, stepLimit}
 use Rattle.book.specs.Two.{Areas, twoBook}
 
 -- a call of the book
@@ -114,12 +117,9 @@ unfoldable pub joinings : ℕ → List ℕ → List Call
 joinings u [] = []
 joinings u (w ∷ ws) = joining u w ∷ joinings u ws
 
--- "a chain of joins accepted in that series links them"
-pub data Linked (js : List Slip) : ℕ → ℕ → Type 0 where
-  itself : (v : ℕ) → Linked js v v
-  by : (u v : ℕ) → List·Memᴰ (slip u v) js → Linked js u v
-  back : {u v : ℕ} → Linked js u v → Linked js v u
-  on : {u v w : ℕ} → Linked js u v → Linked js v w → Linked js u w
+-- "joins accepted in that series": the join of u and v is among these
+abbrev pub Accepted : List Slip → ℕ → ℕ → Type 0
+Accepted js u v = List·Memᴰ (slip u v) js
 
 -- the head of a vertex and the moves to it, as its walk from parent to parent finds them
 abbrev pub headIn : Said Found → ℕ
@@ -156,14 +156,19 @@ pub record Kept (M : Machine) (n : ℕ) (s : State (M .Area)) : Type 0 where
   pub fit : shown M s .fit ≡ true
   pub count : shown M s .count ≡ n
   -- "refuses no join of its vertices": a join of two of them finds one group where their heads are equal, and merges two where they differ
-  pub accepted : (u v : ℕ) → u < n → v < n → answer M s (joining u v) ≡ joins (gives (cond (eqb (headAt (shown M s) u) (headAt (shown M s) v)) same merged))
-  -- nor any of the joins of a vertex with each of a list: it says that all were accepted, and how many merged; they do what they do by a call each
+  pub accepted : (u v : ℕ) → u < n → v < n
+      → answer M s (joining u v) ≡ joins (gives (cond (eqb (headAt (shown M s) u) (headAt (shown M s) v)) same merged))
+  -- nor any of the joins of a vertex with each of a list: it says that all were accepted, and how many merged; they do what they do by a
+  -- call each
   pub allAccepted : (u : ℕ) (ws : List ℕ) → u < n → allBelow n ws ≡ true
-      → (answer M s (joiningEach u ws) ≡ joinsEach (all (run M s (joinings u ws) .merges - s .merges))) × (after M s (joiningEach u ws) ≡ run M s (joinings u ws))
-  -- "After any series of calls since its latest opening, refused ones included, two vertices have the same head exactly when a chain of joins accepted in that series links them."
-  pub linked : (u v : ℕ) → u < n → v < n → (headAt (shown M s) u ≡ headAt (shown M s) v) ↔ Linked (s .slips) u v
+      → (answer M s (joiningEach u ws) ≡ joinsEach (all (run M s (joinings u ws) .merges - s .merges)))
+      × (after M s (joiningEach u ws) ≡ run M s (joinings u ws))
+  -- "After any series of calls since its latest opening, refused ones included, two vertices have the same head exactly when"
+  -- "a chain of joins accepted in that series links them."
+  pub linked : (u v : ℕ) → u < n → v < n → (headAt (shown M s) u ≡ headAt (shown M s) v) ↔ Linked (Accepted (s .slips)) u v
   -- and the same-group call says so
-  pub compared : (u v : ℕ) → u < n → v < n → answer M s (comparing u v) ≡ compares (gives (eqb (headAt (shown M s) u) (headAt (shown M s) v)))
+  pub compared : (u v : ℕ) → u < n → v < n
+      → answer M s (comparing u v) ≡ compares (gives (eqb (headAt (shown M s) u) (headAt (shown M s) v)))
   -- "the same head": the head call gives it, with the moves of the walk to it
   pub headed : (v : ℕ) → v < n → answer M s (heading v) ≡ heads (gives (found (headAt (shown M s) v) (movesAt (shown M s) v)))
   -- a head is a vertex of the book, and its own head
@@ -171,19 +176,22 @@ pub record Kept (M : Machine) (n : ℕ) (s : State (M .Area)) : Type 0 where
   pub settled : (v : ℕ) → v < n → headAt (shown M s) (headAt (shown M s) v) ≡ headAt (shown M s) v
   -- "the group's size": the size call gives the number of vertices with that head
   pub sized : (v : ℕ) → v < n → answer M s (sizing v) ≡ reads (gives (members (shown M s) v))
-  -- "The walk from a vertex to its head takes at most k steps, where k is the largest whole number with 2 to the k no more than the group's size.":
-  -- k is what the step limit call gives
+  -- "The walk from a vertex to its head takes at most k steps, where k is the largest whole number with 2 to the k no more than"
+  -- "the group's size.": k is what the step limit call gives
   pub limited : (v : ℕ) → v < n
-      → (k : ℕ) × (answer M s (limiting v) ≡ reads (gives k)) × (2 ^ k ≤ members (shown M s) v) × (members (shown M s) v < 2 ^ suc k) × (movesAt (shown M s) v ≤ k)
+      → (k : ℕ) × (answer M s (limiting v) ≡ reads (gives k))
+      × (2 ^ k ≤ members (shown M s) v) × (members (shown M s) v < 2 ^ suc k) × (movesAt (shown M s) v ≤ k)
   -- "The group count is the vertices opened less the series' joins that merged two groups."
   pub counted : (answer M s counting ≡ reads (gives (n - s .merges))) × (s .merges ≤ n)
 
 -- Demand 3, for every form of book: areas that are well lent, of any content and in any state before;
--- "any series of calls since its latest opening, refused ones included": an opening and every list of calls after it, further openings among them.
+-- "any series of calls since its latest opening, refused ones included": an opening and every list of calls after it, further openings
+-- among them.
 abbrev pub Demand3 : Machine → Type 0
-Demand3 M = (s : State (M .Area)) → M .view (s .area) .fit ≡ true → (cs : List Call) → Kept M (M .view (s .area) .count) (run M s (opening ∷ cs))
+Demand3 M = (s : State (M .Area)) → M .view (s .area) .fit ≡ true → (cs : List Call)
+    → Kept M (M .view (s .area) .count) (run M s (opening ∷ cs))
 
 -- the same of two areas of one length, "of up to 65,536 vertices"
 abbrev pub Demand3Two : Type 0
-Demand3Two = (s : State Areas) → length (s .area .parents) ≤ 65536 → length (s .area .sizes) ≡ length (s .area .parents) → (cs : List Call)
-    → Kept twoBook (length (s .area .parents)) (run twoBook s (opening ∷ cs))
+Demand3Two = (s : State Areas) → length (s .area .parents) ≤ mostVertices → length (s .area .sizes) ≡ length (s .area .parents)
+    → (cs : List Call) → Kept twoBook (length (s .area .parents)) (run twoBook s (opening ∷ cs))

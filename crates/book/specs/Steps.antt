@@ -5,15 +5,17 @@ use mathlib.Core.List.{List}
 use Prim.Native.Nat.{ℕ, _/_, _%_, _<_}
 use lib.ListN.{length}
 use lib.Dec.{leb}
+use Rattle.basis.specs.Limits.{mostVertices}
 use Rattle.basis.specs.Refusal.{Said, gives, refuses, plain, unsound, check}
-use Rattle.book.specs.Rules.{Found, found, walkFrom, Heads, heads, Joining, merged, same, merge, Done, linkHeads, writeBook}
+use Rattle.book.specs.Rules.{Found, found, mostMoves, walkFrom, Heads, heads, Joining, merged, same, merge, Done}
+use Rattle.book.specs.Rules.{linkHeads, writeBook}
 use Rattle.book.specs.Two.{Areas, areas, nextIn, fits, two, twoBook}
 use Rattle.book.specs.declared.Pair.{Pair}
 use Rattle.book.specs.declared.joining.Carried.{Carried}
 
 -- the number of a walk: 65,536 times its moves, and its head; above 16 moves it does not end
 unfoldable pub saysWalked : ℕ → Said Found
-saysWalked a = check (leb (a / 65536) 16) unsound (gives (found (a % 65536) (a / 65536)))
+saysWalked a = check (leb (a / mostVertices) mostMoves) unsound (gives (found (a % mostVertices) (a / mostVertices)))
 
 -- the heads of two vertices
 abbrev pub saysPair : Pair → Said Heads

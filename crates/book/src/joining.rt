@@ -28,7 +28,9 @@ fn hang(
     total: usize,
 ) -> Joined
     requires { ⌜ (under < length (now parents)) × (top < length (now sizes)) ⌝ }
-    ensures { λ r. ⌜ done (saysJoined r) (areas (now (parents .exit)) (now (sizes .exit))) ≡ hangTwo (now (parents .entry)) (now (sizes .entry)) top under total ⌝ }
+    ensures { λ r. ⌜
+        done (saysJoined r) (areas (now (parents .exit)) (now (sizes .exit)))
+        ≡ hangTwo (now (parents .entry)) (now (sizes .entry)) top under total ⌝ }
 {
     parents[under] = top;
     sizes[top] = total;
@@ -67,7 +69,9 @@ fn may_merge(n: usize, a: usize, b: usize) -> bool
 // Joins the groups of the heads `g` and `h`.
 fn link(parents: &mut [usize], sizes: &mut [usize], g: usize, h: usize) -> Joined
     requires { ⌜ (length (now sizes) ≡ length (now parents)) × (g < length (now parents)) × (h < length (now parents)) ⌝ }
-    ensures { λ r. ⌜ done (saysJoined r) (areas (now (parents .exit)) (now (sizes .exit))) ≡ linkTwo (now (parents .entry)) (now (sizes .entry)) g h ⌝ }
+    ensures { λ r. ⌜
+        done (saysJoined r) (areas (now (parents .exit)) (now (sizes .exit)))
+        ≡ linkTwo (now (parents .entry)) (now (sizes .entry)) g h ⌝ }
 {
     if g == h {
         return Joined::Already;
@@ -83,8 +87,11 @@ fn link(parents: &mut [usize], sizes: &mut [usize], g: usize, h: usize) -> Joine
     hang(parents, sizes, h, g, a + b)
 }
 
+// The groups of two vertices become one, where they are two.
 pub fn join(parents: &mut [usize], sizes: &mut [usize], u: usize, v: usize) -> Joined
-    ensures { λ r. ⌜ done (saysJoined r) (areas (now (parents .exit)) (now (sizes .exit))) ≡ joinBook twoBook (areas (now (parents .entry)) (now (sizes .entry))) u v ⌝ }
+    ensures { λ r. ⌜
+        done (saysJoined r) (areas (now (parents .exit)) (now (sizes .exit)))
+        ≡ joinBook twoBook (areas (now (parents .entry)) (now (sizes .entry))) u v ⌝ }
 {
     match heads(parents, sizes, u, v) {
         Pair::Heads(g, h) => link(parents, sizes, g, h),

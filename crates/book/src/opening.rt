@@ -10,7 +10,9 @@ ghost use Rattle.book.specs.Says.{saysOpened};
 
 // Each vertex its own parent, size 1: a new series begins.
 pub fn open_book(parents: &mut [usize], sizes: &mut [usize]) -> Opened
-    ensures { λ r. ⌜ done (saysOpened r) (areas (now (parents .exit)) (now (sizes .exit))) ≡ openBook twoBook (areas (now (parents .entry)) (now (sizes .entry))) ⌝ }
+    ensures { λ r. ⌜
+        done (saysOpened r) (areas (now (parents .exit)) (now (sizes .exit)))
+        ≡ openBook twoBook (areas (now (parents .entry)) (now (sizes .entry))) ⌝ }
 {
     if !well_lent(parents, sizes) {
         return Opened::Refused(Refusal::plain(NO_ROOM));

@@ -15,7 +15,8 @@ use print::same;
 use print::stayed;
 use print::words;
 
-// A join in a book of four vertices, behind the words that say what it shows; the areas come by value, so that what the call leaves can be compared.
+// A join in a book of four vertices, behind the words that say what it shows; the areas come by value, so that what the call leaves can be
+// compared.
 fn join(shows: &[u8], parents: [usize; 4], sizes: [usize; 4], u: usize, v: usize) {
     let mut p = parents;
     let mut s = sizes;

@@ -13,7 +13,8 @@ pub struct Decimal {
     pub down: u32,
 }
 
-/// `0` or digits without a leading zero, optionally `.` and at least one digit, optionally `e`, a sign and two digits; at most 15 digits before any `e`.
+/// `0` or digits without a leading zero, optionally `.` and at least one digit, optionally `e`, a sign and two digits; at most 15 digits
+/// before any `e`.
 pub fn decimal(word: &[u8]) -> Option<Decimal> {
     let (mantissa, exponent) = match word.iter().position(|&b| b == b'e') {
         Some(i) => (&word[..i], Some(&word[i + 1..])),
@@ -142,7 +143,8 @@ pub fn host_verdict(vertices: &[u8], edges: &[u8], claim: &[u8], mode: u64, kern
     if mode > 1 || !(1..=4).contains(&kernel) {
         return coded(12, 0, 0);
     }
-    let judged = lists::load(mode, vertices, edges, crate::DESK, lists::ROOM_ENOUGH).and_then(|g| verdict(&g, kernel, parameter, claim, crate::DESK));
+    let judged = lists::load(mode, vertices, edges, crate::DESK, lists::ROOM_ENOUGH)
+        .and_then(|g| verdict(&g, kernel, parameter, claim, crate::DESK));
     match judged {
         Ok(v) => coded(v.number, 3, v.line as u64),
         Err(r) => coded(r.number, r.file, r.line),

@@ -211,8 +211,9 @@ impl Lent {
         }
         let out = parts(n, m, &self.out_offsets, &self.out_targets).ok_or_else(unsound)?;
         let into = parts(n, m, &self.in_offsets, &self.in_sources).ok_or_else(unsound)?;
-        let arcs =
-            |way: &[Vec<usize>]| -> Vec<(usize, usize)> { way.iter().enumerate().flat_map(|(u, part)| part.iter().map(move |&w| (u, w))).collect() };
+        let arcs = |way: &[Vec<usize>]| -> Vec<(usize, usize)> {
+            way.iter().enumerate().flat_map(|(u, part)| part.iter().map(move |&w| (u, w))).collect()
+        };
         let mut reversed: Vec<(usize, usize)> = arcs(&into).into_iter().map(|(v, u)| (u, v)).collect();
         reversed.sort_unstable();
         if arcs(&out) != reversed {

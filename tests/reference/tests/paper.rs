@@ -10,7 +10,10 @@ fn graph() -> lists::Graph {
 
 #[test]
 fn the_sheet_prints_what_the_paper_shows() {
-    let shown = "bfs 2\n5\n-3 9223372036854775807\n2 0\n5 1\n9 1\n20 2\nwcc\n5\n-3 -3\n2 2\n5 2\n9 2\n20 2\ncdlp 2\n5\n-3 -3\n2 2\n5 5\n9 2\n20 2\nlcc\n5\n-3 0/1\n2 1/2\n5 1/2\n9 1/3\n20 0/1\n";
+    let shown = "bfs 2\n5\n-3 9223372036854775807\n2 0\n5 1\n9 1\n20 2\n\
+        wcc\n5\n-3 -3\n2 2\n5 2\n9 2\n20 2\n\
+        cdlp 2\n5\n-3 -3\n2 2\n5 5\n9 2\n20 2\n\
+        lcc\n5\n-3 0/1\n2 1/2\n5 1/2\n9 1/3\n20 0/1\n";
     assert_eq!(sheet::output(SHEET.as_bytes()), shown);
 }
 

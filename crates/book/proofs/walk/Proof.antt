@@ -3,7 +3,7 @@ use mathlib.Core.Path.{_≡_, refl}
 use Prim.Native.Nat.{_≤_, _<_, _-_}
 use native.Mathlib.Omega.{arith}
 use lib.ListN.{length}
-use Rattle.book.specs.Rules.{walk, walkFrom}
+use Rattle.book.specs.Rules.{mostMoves, walk, walkFrom}
 use Rattle.book.specs.Two.{nextIn}
 use Rattle.book.proofs.Walked.{loop-found, loop-late, loop-out, loop-moves}
 use Rattle.book.proofs.walk.Statement.{statement}
@@ -11,11 +11,11 @@ use Rattle.book.proofs.walk.Tie as tie
 
 abbrev Inv-loop : tie.InvT-loop
 Inv-loop parents v at₀ moves₀ at moves =
-    (at < length parents) × (moves ≤ 16) × (walkFrom (nextIn parents) (length parents) v
-    ≡ walk (nextIn parents) (length parents) (16 - moves) moves at)
+    (at < length parents) × (moves ≤ mostMoves) × (walkFrom (nextIn parents) (length parents) v
+    ≡ walk (nextIn parents) (length parents) (mostMoves - moves) moves at)
 
 abbrev μ-loop : tie.MeasureT-loop
-μ-loop parents v at₀ moves₀ at moves = 16 - moves
+μ-loop parents v at₀ moves₀ at moves = mostMoves - moves
 
 loop-holds : tie.Need-loop-holds Inv-loop μ-loop
 unfolding walkFrom
