@@ -24,7 +24,7 @@ use Rattle.kernels.proofs.Results.{front-padded, front-cleared}
 use Rattle.kernels.proofs.Ends.{ends-unsound, ends-short, ends-done}
 use Rattle.wcc.specs.Component.{labelOf, wccOf}
 use Rattle.wcc.specs.Call.{Outcome, outcome, refusal, roomFor, leftBy, wccCall}
-use Rattle.wcc.specs.Steps.{Ready, Exact}
+use Rattle.wcc.specs.Steps.{Ready, Fitting}
 
 -- ---- room for n places in the shortest area
 pub room-all : (n : ℕ) (R : List ℤ) (P S : List ℕ) {a b : ℕ} → a ≡ min (length R) (length P) → b ≡ min a (length S)
@@ -89,8 +89,8 @@ module _ (size : Size) (ids : List ℤ) (oo ot io is : List ℕ) (R : List ℤ) 
     pub taken-result : n ≡ length (take n R₁)
     taken-result = sym (length-take-le n R₁ lent-result)
 
-    pub exact-of : Exact n (partOf n oo ot) (take n ids) (take n R₁) (take n P) (take n S)
-    exact-of =
+    pub fitting-of : Fitting n (partOf n oo ot) (take n ids) (take n R₁) (take n P) (take n S)
+    fitting-of =
         record {
           few = sound-of g (x .sound) .fewVertices;
           inside = outward-below g (sound-of g (x .sound));

@@ -42,7 +42,7 @@ abbrev pub Within : ℕ → (ℕ → ℕ) → Type 0
 Within n g = (v : ℕ) → v < n → g v < n
 
 -- the labels can be written: arcs among n vertices, an identifier for each, and exactly one place for each in every area
-pub record Exact (n : ℕ) (out : ℕ → List ℕ) (ids R : List ℤ) (ps ss : List ℕ) : Type 0 where
+pub record Fitting (n : ℕ) (out : ℕ → List ℕ) (ids R : List ℤ) (ps ss : List ℕ) : Type 0 where
   pub few : n ≤ mostVertices
   pub inside : Inside n out
   pub named : length ids ≡ n

@@ -6,7 +6,7 @@ ghost use mathlib.Core.Path.{_≡_};
 ghost use lib.ListN.{length};
 ghost use Rattle.graph.specs.Part.{partOf};
 ghost use Rattle.wcc.specs.Component.{labels};
-ghost use Rattle.wcc.specs.Steps.{headHere, marked, takenOver, Within, Exact};
+ghost use Rattle.wcc.specs.Steps.{headHere, marked, takenOver, Within, Fitting};
 
 // Each head gets the smallest identifier of its group: vertices write theirs from the last to the first.
 fn mark(parents: &[usize], sizes: &[usize], ids: &[i64], result: &mut [i64])
@@ -52,7 +52,7 @@ pub(crate) fn label(
     parents: &mut [usize],
     sizes: &mut [usize],
 )
-    requires { ⌜ Exact n (partOf n (now offsets) (now targets)) (now ids) (now result) (now parents) (now sizes) ⌝ }
+    requires { ⌜ Fitting n (partOf n (now offsets) (now targets)) (now ids) (now result) (now parents) (now sizes) ⌝ }
     ensures { λ _. ⌜ now (result .exit) ≡ labels n (partOf n (now (offsets .entry)) (now (targets .entry))) (now (ids .entry)) ⌝ }
 {
     open_book(parents, sizes);

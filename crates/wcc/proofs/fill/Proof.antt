@@ -1,6 +1,6 @@
 use borrow.Author.Needs.{needs}
 use Rattle.wcc.proofs.Calls.{lent-result, lent-parents, lent-sizes, taken-ids}
-use Rattle.wcc.proofs.Calls.{taken-result, taken-parents, taken-sizes, exact-of, fill-all}
+use Rattle.wcc.proofs.Calls.{taken-result, taken-parents, taken-sizes, fitting-of, fill-all}
 use Rattle.wcc.proofs.fill.Statement.{statement}
 use Rattle.wcc.proofs.fill.Tie as tie
 
@@ -29,7 +29,7 @@ slice-aggregate-label-4 : tie.Need-slice-aggregate-label-4
 slice-aggregate-label-4 c = search taken-sizes
 
 label-requires : tie.Need-label-requires
-label-requires c κs = search exact-of
+label-requires c κs = search fitting-of
 
 clear-requires : tie.Need-clear-requires
 clear-requires c κs = search needs
