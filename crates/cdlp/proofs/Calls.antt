@@ -193,6 +193,7 @@ module _ (size : Size) (ids : List ℤ) (oo ot io is : List ℕ) (z : ℤ) (R : 
 pub rounds-cast : (z : ℤ) (a : Bool) → a ≡ goodRounds z → not a ≡ false → T (nonNeg z) × Fits w64 (natAbs z)
 unfolding goodRounds
 rounds-cast (pos k) a e h =
-    let l = ltb-false mostRounds k (not-true (ltb mostRounds k) (and-second (not (ltb k 0)) (not (ltb mostRounds k)) (held a (goodRounds (pos k)) e h))) in
+    let l = ltb-false mostRounds k (not-true (ltb mostRounds k)
+    (and-second (not (ltb k 0)) (not (ltb mostRounds k)) (held a (goodRounds (pos k)) e h))) in
     (tt, record { fits = omega arith })
 rounds-cast (negsuc k) a e h = clash (held a (goodRounds (negsuc k)) e h) refl

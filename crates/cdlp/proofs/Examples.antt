@@ -19,12 +19,14 @@ pub spare-place : cdlpCall sheetGraph (pos 2) (pos 7 ∷ pos 7 ∷ pos 7 ∷ pos
     ≡ outcome (gives tt) (negsuc 2 ∷ pos 2 ∷ pos 5 ∷ pos 2 ∷ pos 2 ∷ pos 0 ∷ []) (0 ∷ 0 ∷ 0 ∷ 0 ∷ 0 ∷ []) (0 ∷ 0 ∷ 0 ∷ 0 ∷ 0 ∷ [])
     (0 ∷ 0 ∷ 0 ∷ 0 ∷ 0 ∷ 0 ∷ [])
 unfolding cdlpCall leftBy kernelSays goodRounds roomFor soundSides soundGraph soundIds soundSide soundOffsets mirrored every each mem
-    targetsBetween partOf column times mostTimes standing mostCommon smallest smallestOr nextLabel around labelsAt nextAt oneRound rounds cdlpOf
+    targetsBetween partOf column times mostTimes standing mostCommon smallest smallestOr nextLabel around labelsAt nextAt oneRound rounds
+    cdlpOf
 spare-place = refl
 
 -- a round too many comes before an area too short: 11, then 8
 pub too-many : cdlpCall sheetGraph (pos 1001) (pos 7 ∷ []) [] [] [] ≡ outcome (refuses (plain 11)) (pos 0 ∷ []) [] [] []
-unfolding cdlpCall leftBy kernelSays goodRounds soundSides soundGraph soundIds soundSide soundOffsets mirrored every each mem targetsBetween partOf
+unfolding cdlpCall leftBy kernelSays goodRounds soundSides soundGraph soundIds soundSide soundOffsets mirrored every each mem targetsBetween
+    partOf
 too-many = refl
 
 pub too-short : cdlpCall sheetGraph (pos mostRounds) (pos 7 ∷ []) (3 ∷ []) [] [] ≡ outcome (refuses (plain 8)) (pos 0 ∷ []) (0 ∷ []) [] []

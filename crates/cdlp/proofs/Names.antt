@@ -162,4 +162,5 @@ module _ {B : Type 0} {same less : B → B → Bool} (order : Order same less) (
     -- rounds on vertex numbers, named in the end, are rounds on names
     pub numbers-named : (k : ℕ) → labelsAt z F (rounds eqb ltb 0 hears n (ownNumbers n) k) ≡ rounds same less z hears n F k
     numbers-named k =
-        sym (rounds-named (ownNumbers n) k (column-length (λ (v : ℕ). v) 0 n) (own-low n)) ∙ ap (λ L. rounds same less z hears n L k) named-all
+        sym (rounds-named (ownNumbers n) k (column-length (λ (v : ℕ). v) 0 n) (own-low n))
+        ∙ ap (λ L. rounds same less z hears n L k) named-all

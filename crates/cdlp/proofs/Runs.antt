@@ -49,7 +49,8 @@ unfolding cdlpOf
 cdlp-numbers g s k =
     let hears : ℕ → List ℕ = around (inward g) (outward g) in
     let n = names-length g s in
-    subst (λ (j : ℕ). labelsAt (pos 0) (names g) (rounds eqb ltb 0 hears j (ownNumbers j) k) ≡ rounds sameZ ltZ (pos 0) hears j (names g) k) n
+    subst (λ (j : ℕ). labelsAt (pos 0) (names g) (rounds eqb ltb 0 hears j (ownNumbers j) k) ≡ rounds sameZ ltZ (pos 0) hears j (names g) k)
+    n
     (numbers-named signed-order (pos 0) (names g) (s .idsRise) hears
     (λ v l. subst (λ (j : ℕ). allBelow j (hears v) ≡ true) (sym n)
     (around-low (g .vertices) (g .inOffsets) (g .inSources) (g .outOffsets) (g .outTargets) (sound-inside g s) v (omega arith))) k)

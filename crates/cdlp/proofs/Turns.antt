@@ -74,7 +74,8 @@ module _ {io is oo ot L N C : List ℕ} (s : Runnable io is oo ot L N C) where
   runnable-on {L′} k e p q =
       let nears = around-low (length L) io is oo ot (s .inside) in
       let len : length L′ ≡ length L = ap length e ∙ rounds-length (aroundIn (length L) io is oo ot) (length L) nears L k refl in
-      let low : allBelow (length L) L′ ≡ true = rw e (rounds-low (aroundIn (length L) io is oo ot) (length L) nears L k refl (s .lowLabels)) in
+      let low : allBelow (length L) L′ ≡ true = rw e
+      (rounds-low (aroundIn (length L) io is oo ot) (length L) nears L k refl (s .lowLabels)) in
       record {
         inside = subst (λ (n : ℕ). AllBounded n io is oo ot) (sym len) (s .inside);
         lowLabels = subst (λ (n : ℕ). allBelow n L′ ≡ true) (sym len) low;

@@ -95,7 +95,8 @@ pub record Runnable (io is oo ot labels next counts : List ℕ) : Type 0 where
 abbrev pub aroundIn : ℕ → List ℕ → List ℕ → List ℕ → List ℕ → ℕ → List ℕ
 aroundIn n io is oo ot v = around (partOf n io is) (partOf n oo ot) v
 
--- "Each round uses only the round before": one round from the labels L, over the inward offsets and sources and the outward offsets and targets
+-- "Each round uses only the round before": one round from the labels L, over the inward offsets and sources and the outward offsets and
+-- targets
 abbrev pub nextNumbers : List ℕ → List ℕ → List ℕ → List ℕ → List ℕ → List ℕ
 nextNumbers io is oo ot L = oneRound eqb ltb 0 (aroundIn (length L) io is oo ot) (length L) L
 

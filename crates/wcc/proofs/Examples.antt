@@ -13,16 +13,19 @@ use Rattle.wcc.specs.Component.{adjacent, chain, first, labelOf, labels}
 use Rattle.wcc.specs.Call.{roomFor, outcome, leftBy, wccCall}
 
 -- areas with places to spare that held something before
-pub spare-places : wccCall sheetGraph (pos 7 ∷ pos 7 ∷ pos 7 ∷ pos 7 ∷ pos 7 ∷ pos 7 ∷ []) (9 ∷ 9 ∷ 9 ∷ 9 ∷ 9 ∷ []) (9 ∷ 9 ∷ 9 ∷ 9 ∷ 9 ∷ 9 ∷ [])
+pub spare-places : wccCall sheetGraph (pos 7 ∷ pos 7 ∷ pos 7 ∷ pos 7 ∷ pos 7 ∷ pos 7 ∷ []) (9 ∷ 9 ∷ 9 ∷ 9 ∷ 9 ∷ [])
+    (9 ∷ 9 ∷ 9 ∷ 9 ∷ 9 ∷ 9 ∷ [])
     ≡ outcome (gives tt) (negsuc 2 ∷ pos 2 ∷ pos 2 ∷ pos 2 ∷ pos 2 ∷ pos 0 ∷ []) (0 ∷ 0 ∷ 0 ∷ 0 ∷ 0 ∷ []) (0 ∷ 0 ∷ 0 ∷ 0 ∷ 0 ∷ 0 ∷ [])
-unfolding wccCall leftBy kernelSays roomFor soundSides soundGraph soundIds soundSide soundOffsets mirrored every each mem partOf targetsBetween
+unfolding wccCall leftBy kernelSays roomFor soundSides soundGraph soundIds soundSide soundOffsets mirrored every each mem partOf
+    targetsBetween
     column labelOf first firstFrom chain adjacent
 spare-places = refl
 
 -- one place too few in the last area
 pub too-short : wccCall sheetGraph (pos 7 ∷ pos 7 ∷ pos 7 ∷ pos 7 ∷ pos 7 ∷ []) (9 ∷ 9 ∷ 9 ∷ 9 ∷ 9 ∷ []) (9 ∷ 9 ∷ 9 ∷ 9 ∷ [])
     ≡ outcome (refuses (plain 8)) (pos 0 ∷ pos 0 ∷ pos 0 ∷ pos 0 ∷ pos 0 ∷ []) (0 ∷ 0 ∷ 0 ∷ 0 ∷ 0 ∷ []) (0 ∷ 0 ∷ 0 ∷ 0 ∷ [])
-unfolding wccCall leftBy kernelSays roomFor soundSides soundGraph soundIds soundSide soundOffsets mirrored every each mem partOf targetsBetween
+unfolding wccCall leftBy kernelSays roomFor soundSides soundGraph soundIds soundSide soundOffsets mirrored every each mem partOf
+    targetsBetween
 too-short = refl
 
 -- an unsound graph, with an arc too few stated, comes before an area too short

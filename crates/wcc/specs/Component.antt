@@ -15,7 +15,8 @@ use Rattle.graph.specs.Sound.{Graph, outward, names}
 abbrev pub HasArc : ℕ → (ℕ → List ℕ) → ℕ → ℕ → Type 0
 HasArc n out u w = (u < n) × (mem w (out u) ≡ true)
 
--- "there exists a path between these vertices along the edges of the graph", "it is allowed to travel over the reverse direction of an edge"
+-- "there exists a path between these vertices along the edges of the graph",
+-- "it is allowed to travel over the reverse direction of an edge"
 abbrev pub LinkedAmong : ℕ → (ℕ → List ℕ) → ℕ → ℕ → Type 0
 LinkedAmong n out u v = Linked (HasArc n out) u v
 

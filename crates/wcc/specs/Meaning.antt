@@ -22,11 +22,14 @@ LinkedIn g u v = LinkedAmong (g .vertices) (outward g) u v
 pub record Done (g : Graph) (result : List ℤ) (parents sizes : List ℕ) (o : Outcome) : Type 0 where
   pub answer : o .said ≡ gives tt
   -- "Two vertices belong to the same component, and thus have the same label, if there exists a path between these vertices": exactly then
-  pub same : (u v : ℕ) → u < g .vertices → v < g .vertices → (getD (o .result) u (pos 0) ≡ getD (o .result) v (pos 0)) ↔ LinkedIn g u v
+  pub same : (u v : ℕ) → u < g .vertices → v < g .vertices
+      → (getD (o .result) u (pos 0) ≡ getD (o .result) v (pos 0)) ↔ LinkedIn g u v
   -- "the smallest identifier of the component": it is the identifier of a member
-  pub member : (v : ℕ) → v < g .vertices → (u : ℕ) × (u < g .vertices) × LinkedIn g u v × (getD (o .result) v (pos 0) ≡ getD (names g) u (pos 0))
+  pub member : (v : ℕ) → v < g .vertices
+      → (u : ℕ) × (u < g .vertices) × LinkedIn g u v × (getD (o .result) v (pos 0) ≡ getD (names g) u (pos 0))
   -- and no member's is smaller
-  pub least : (u v : ℕ) → u < g .vertices → v < g .vertices → LinkedIn g u v → ltZ (getD (names g) u (pos 0)) (getD (o .result) v (pos 0)) ≡ false
+  pub least : (u v : ℕ) → u < g .vertices → v < g .vertices → LinkedIn g u v
+      → ltZ (getD (names g) u (pos 0)) (getD (o .result) v (pos 0)) ≡ false
   pub behind : ZeroBehind (pos 0) (g .vertices) (length result) (o .result)
   -- "working areas are zero throughout"
   pub zeros : (o .parents ≡ cleared parents) × (o .sizes ≡ cleared sizes)

@@ -37,7 +37,8 @@ abbrev label : Loop → ℕ
 label l = getD (labelsOf l) (getD (partOf l) (l .loop .i) 0) 0
 
 u-low : (c : tie.In-loop Inv-loop μ-loop) → getD (partOf (c .before)) (c .before .loop .i) 0 < length (labelsOf (c .before))
-u-low c = let l = c .before in below-at (length (labelsOf l)) (partOf l) (startOf l .pre .labelled .lowPart) (l .loop .i) (c .loop-test .taken)
+u-low c =
+    let l = c .before in below-at (length (labelsOf l)) (partOf l) (startOf l .pre .labelled .lowPart) (l .loop .i) (c .loop-test .taken)
 
 l-low : (c : tie.In-loop Inv-loop μ-loop) → label (c .before) < length (c .before .loop .counts)
 l-low c =
