@@ -163,17 +163,16 @@ module _ (size : Size) (ids : List ℤ) (oo ot io is : List ℕ) (root : ℤ) (D
           ∙ over
 
 -- and with a root that is there and room, the areas can be filled
-pub call-ready : (size : Size) (ids : List ℤ) (oo ot io is : List ℕ) (root : ℤ) (D : List ℤ) (Q Q₁ : List ℕ) (s : Bool)
-    → checked s Q₁ ≡ checked (soundGraph (lent size ids oo ot io is)) (cleared Q) → not s ≡ false
-    → (f : Found) → Searched (names (lent size ids oo ot io is)) root f → (v : ℕ) → f ≡ At v
-    → (r : Bool) → r ≡ roomFor (size .vertices) D Q₁ → not r ≡ false → Ready (lent size ids oo ot io is) v D Q₁
-call-ready size ids oo ot io is root D Q Q₁ s e h f b v a r i l =
+pub call-ready : (size : Size) (ids : List ℤ) (oo ot io is : List ℕ) (root : ℤ) (D : List ℤ) (Q : List ℕ) (s : Bool)
+    → s ≡ soundGraph (lent size ids oo ot io is) → not s ≡ false → (f : Found) → Searched (names (lent size ids oo ot io is)) root f
+    → (v : ℕ) → f ≡ At v → (r : Bool) → r ≡ roomFor (size .vertices) D Q → not r ≡ false → Ready (lent size ids oo ot io is) v D Q
+call-ready size ids oo ot io is root D Q s e h f b v a r i l =
     let g = lent size ids oo ot io is in
-    let sound = held s (soundGraph g) (check-told e) h in
+    let sound = held s (soundGraph g) e h in
     let d = sound-of g sound in
     let p = sym (searched-is b ∙ vertex-found g d root) ∙ a in
     record {
       sound = sound;
       there = omega (arith, place-at (names g) root (d .idsRise) v .0 p .0, names-length g d);
-      room = held r (roomFor (size .vertices) D Q₁) i l;
+      room = held r (roomFor (size .vertices) D Q) i l;
     }

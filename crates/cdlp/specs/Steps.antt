@@ -32,7 +32,7 @@ best l k = record { label = l; count = k }
 unfoldable pub bestWith : Best → ℕ → ℕ → Best
 bestWith b l k = cond (ltb (b .count) k) (best l k) (cond (ltb k (b .count)) b (cond (ltb l (b .label)) (best l k) b))
 
--- the counts of the labels, and the best so far
+-- what is counted: how often each label was heard, and the best so far
 pub record Poll : Type 0 where
   pub counts : List ℕ
   pub lead : Best
@@ -41,7 +41,7 @@ pub record Poll : Type 0 where
 abbrev pub poll : List ℕ → Best → Poll
 poll C b = record { counts = C; lead = b }
 
--- one label more
+-- one label more is counted
 unfoldable pub polled : ℕ → Poll → Poll
 polled l S = poll (set (S .counts) l (getD (S .counts) l 0 + 1)) (bestWith (S .lead) l (getD (S .counts) l 0 + 1))
 
@@ -50,7 +50,7 @@ unfoldable pub polledAll : List ℕ → Poll → Poll
 polledAll [] S = S
 polledAll (l ∷ ls) S = polledAll ls (polled l S)
 
--- the counts of these labels back to zero
+-- the counts of these labels go back to zero
 unfoldable pub forgotten : List ℕ → List ℕ → List ℕ
 forgotten [] C = C
 forgotten (l ∷ ls) C = forgotten ls (set C l 0)
@@ -73,15 +73,15 @@ pub record Bounded (n : ℕ) (inward outward : List ℕ) : Type 0 where
   pub shortIn : length inward ≤ mostVertices
   pub shortOut : length outward ≤ mostVertices
 
--- a vertex's two parts, the labels, and counts that are zero
+-- the same of each of n vertices: the arcs stay inside
+abbrev pub AllBounded : ℕ → List ℕ → List ℕ → List ℕ → List ℕ → Type 0
+AllBounded n io is oo ot = (v : ℕ) → v < n → Bounded n (partOf n io is v) (partOf n oo ot v)
+
+-- a vertex can be settled: its two parts are bounded, the labels have counts, and the counts are zero
 pub record TwoParts (inward outward labels counts : List ℕ) : Type 0 where
   pub sides : Bounded (length labels) inward outward
   pub lowLabels : allBelow (length counts) labels ≡ true
   pub fresh : counts ≡ replicate (length counts) 0
-
--- the same of each of n vertices: the arcs stay inside
-abbrev pub AllBounded : ℕ → List ℕ → List ℕ → List ℕ → List ℕ → Type 0
-AllBounded n io is oo ot = (v : ℕ) → v < n → Bounded n (partOf n io is v) (partOf n oo ot v)
 
 -- a round can be run: the arcs stay inside, labels are vertex numbers, the other areas are as long, and the counts are zero
 pub record Runnable (io is oo ot labels next counts : List ℕ) : Type 0 where

@@ -85,8 +85,9 @@ returns-3 c =
 
 fill-requires : tie.Need-fill-requires
 fill-requires c κs =
-    call-ready _ _ _ _ _ _ _ _ _ _ _ (c .before .before .before .before .before .before .before .before .before .before .before .before
-    .before .before .sound-over .ensures)
+    call-ready _ _ _ _ _ _ _ _ _ _
+    (check-told (c .before .before .before .before .before .before .before .before .before .before .before .before .before .before
+    .sound-over .ensures))
     (c .before .before .before .before .before .before .before .before .before .before .before .if1 .left) _
     (c .before .before .before .before .before .before .before .before .before .find .ensures) _
     (c .before .before .before .before .before .before .before .v .given .1) _ (c .before .before .before .room .ensures)
