@@ -15,7 +15,7 @@ use Rattle.basis.proofs.Tests.{bool-cases}
 use Rattle.basis.proofs.Scans.{below-at}
 use Rattle.basis.proofs.Orders.{signed-order}
 use Rattle.bfs.specs.Depth.{infinity, unreachable}
-use Rattle.bfs.specs.Steps.{Board, isFar, entered, relaxed, walked, seen, Ready}
+use Rattle.bfs.specs.Steps.{Board, isFar, entered, relaxed, relaxedAll, seen, Queued}
 
 -- ---- how many vertices are seen
 more-le : (t : Bool) (k : ℕ) → cond t k (suc k) ≤ suc k
@@ -68,17 +68,17 @@ unfolding relaxed
 relaxed-old d w S e = rw e
 
 -- there is room for one vertex more where one is not seen
-pub room-more : (S : Board) (w : ℕ) → Ready S → w < length (S .depth) → isFar (getD (S .depth) w (pos 0)) ≡ true
+pub room-more : (S : Board) (w : ℕ) → Queued S → w < length (S .depth) → isFar (getD (S .depth) w (pos 0)) ≡ true
     → S .tail < length (S .queue)
 room-more S w r l e = omega (arith, seen-lt (S .depth) w l e, r .filled, r .room)
 
--- what a step keeps: the board is ready, and the areas keep their lengths
+-- what a step keeps: the queue is filled as far as vertices are seen, and the areas keep their lengths
 record Kept (S R : Board) : Type 0 where
   depthLen : length (R .depth) ≡ length (S .depth)
   queueLen : length (R .queue) ≡ length (S .queue)
-  ready : Ready R
+  queued : Queued R
 
-relaxed-kept : (d w : ℕ) (S : Board) → Ready S → w < length (S .depth) → d < infinity → Kept S (relaxed d w S)
+relaxed-kept : (d w : ℕ) (S : Board) → Queued S → w < length (S .depth) → d < infinity → Kept S (relaxed d w S)
 relaxed-kept d w S r l h =
     bool-cases (isFar (getD (S .depth) w (pos 0))) (Kept S (relaxed d w S))
     (λ e.
@@ -86,28 +86,28 @@ relaxed-kept d w S r l h =
     (record {
       depthLen = length-set (S .depth) w (pos d);
       queueLen = length-set (S .queue) (S .tail) w;
-      ready =
+      queued =
           record {
             filled = seen-set (S .depth) w (pos d) l e (near-mark d h) ∙ ap suc (r .filled) ∙ sym (add-one (S .tail));
             room = length-set (S .queue) (S .tail) w ∙ r .room ∙ sym (length-set (S .depth) w (pos d));
           };
     }))
-    (λ e. subst (Kept S) (sym (relaxed-old d w S e)) (record { depthLen = refl; queueLen = refl; ready = r }))
+    (λ e. subst (Kept S) (sym (relaxed-old d w S e)) (record { depthLen = refl; queueLen = refl; queued = r }))
 
-pub ready-relaxed : (d w : ℕ) (S : Board) → Ready S → w < length (S .depth) → d < infinity → Ready (relaxed d w S)
-ready-relaxed d w S r l h = relaxed-kept d w S r l h .ready
+pub queued-relaxed : (d w : ℕ) (S : Board) → Queued S → w < length (S .depth) → d < infinity → Queued (relaxed d w S)
+queued-relaxed d w S r l h = relaxed-kept d w S r l h .queued
 
 -- ---- the walk over a part, i of its vertices met
 pub record Walking (d : ℕ) (l : List ℕ) (S₀ S : Board) (i : ℕ) : Type 0 where
-  pub ready : Ready S
+  pub queued : Queued S
   pub depthLen : length (S .depth) ≡ length (S₀ .depth)
   pub queueLen : length (S .queue) ≡ length (S₀ .queue)
-  pub rest : walked d (drop i l) S ≡ walked d l S₀
+  pub rest : relaxedAll d (drop i l) S ≡ relaxedAll d l S₀
 
 walk-step : (d : ℕ) (l : List ℕ) (S : Board) (i : ℕ) → i < length l
-    → walked d (drop i l) S ≡ walked d (drop (i + 1) l) (relaxed d (getD l i 0) S)
-unfolding walked
-walk-step d l S i h = ap (λ (t : List ℕ). walked d t S) (drop-cons l i 0 h) ∙ rw add-one refl
+    → relaxedAll d (drop i l) S ≡ relaxedAll d (drop (i + 1) l) (relaxed d (getD l i 0) S)
+unfolding relaxedAll
+walk-step d l S i h = ap (λ (t : List ℕ). relaxedAll d t S) (drop-cons l i 0 h) ∙ rw add-one refl
 
 module _ (d : ℕ) (l : List ℕ) (S₀ S : Board) (i : ℕ) (k : Walking d l S₀ S i) where
   -- the next vertex of the part is one of the graph's
@@ -117,15 +117,15 @@ module _ (d : ℕ) (l : List ℕ) (S₀ S : Board) (i : ℕ) (k : Walking d l S�
   pub walking-more : (R : Board) → allBelow (length (S₀ .depth)) l ≡ true → d < infinity → i < length l → R ≡ relaxed d (getD l i 0) S
       → Walking d l S₀ R (i + 1)
   walking-more R b f h e =
-      let m = relaxed-kept d (getD l i 0) S (k .ready) (walking-low b h) f in
+      let m = relaxed-kept d (getD l i 0) S (k .queued) (walking-low b h) f in
       subst (λ (B : Board). Walking d l S₀ B (i + 1)) (sym e)
       (record {
-        ready = m .ready;
+        queued = m .queued;
         depthLen = m .depthLen ∙ k .depthLen;
         queueLen = m .queueLen ∙ k .queueLen;
         rest = sym (walk-step d l S i h) ∙ k .rest;
       })
 
-  pub walking-end : length l ≤ i → S ≡ walked d l S₀
-  unfolding walked
-  walking-end h = ap (λ (t : List ℕ). walked d t S) (sym (drop-of-length-le l h)) ∙ k .rest
+  pub walking-end : length l ≤ i → S ≡ relaxedAll d l S₀
+  unfolding relaxedAll
+  walking-end h = ap (λ (t : List ℕ). relaxedAll d t S) (sym (drop-of-length-le l h)) ∙ k .rest

@@ -1,6 +1,5 @@
 -- The depths of a sound graph are the lengths of shortest walks along outgoing arcs, unreachable stands exactly where there is no walk,
--- and both stand in the
--- result area of a call with the root's identifier. Assumes nothing.
+-- and both stand in the result area of a call with the root's identifier. Assumes nothing.
 use Prim.Native.Nat.{ℕ, zero, suc, _+_, _≤_, _<_}
 use mathlib.Core.Path.{_≡_, refl, sym, ap, _∙_, subst}
 use mathlib.Core.Logic.{_⊎_, inl, inr, ⊎-elim, _↔_}
@@ -13,8 +12,8 @@ use lib.IntN.{ℤ, pos}
 use lib.ListN.{length, replicate, length-replicate}
 use lib.Dec.{leb}
 use borrow.Author.Tests.{le-leb, lt-leb}
-use Rattle.basis.specs.Refusal.{refuses, plain, noRoom}
-use Rattle.basis.specs.Area.{column, cleared, clearedZ}
+use Rattle.basis.specs.Refusal.{noRoom}
+use Rattle.basis.specs.Area.{column}
 use Rattle.basis.specs.Scan.{mem}
 use Rattle.basis.proofs.Tests.{and-off}
 use Rattle.basis.proofs.Areas.{column-length, column-at}
@@ -28,10 +27,10 @@ use Rattle.kernels.specs.Answer.{kernelSays}
 use Rattle.kernels.proofs.Results.{pad-value, pad-behind}
 use Rattle.bfs.specs.declared.Ring.{Ring}
 use Rattle.bfs.specs.Depth.{infinity, unreachable, ring, depthOf}
-use Rattle.bfs.specs.Call.{outcome, bfsSays, bfsCall}
+use Rattle.bfs.specs.Call.{refusal, roomFor, leftBy, bfsCall}
 use Rattle.bfs.specs.Meaning.{Walk, stay, go, Shortest, IsDepth, HasName, Done, Called}
 use Rattle.bfs.specs.Steps.{Board}
-use Rattle.bfs.proofs.Rings.{Reached, First, ring-root, ring-first, ring-next, ring-from, depth-found, depth-none}
+use Rattle.bfs.proofs.Rings.{Reached, FirstRing, ring-root, ring-first, ring-next, ring-from, depth-found, depth-none}
 use Rattle.bfs.proofs.Calls.{sound-inside}
 use Rattle.bfs.proofs.Queue.{Base, Serving, serving-begin, serving-tail, serving-more, serving-settled}
 
@@ -51,7 +50,7 @@ module _ (out : ℕ → List ℕ) (root : ℕ) where
 -- ---- arcs that stay among n vertices, and a root among them
 module _ (n : ℕ) (out : ℕ → List ℕ) (root : ℕ) (base : Base n out root) where
   Split : ℕ → Type 0
-  Split v = ((i : ℕ) → Reached out root i v → ⊥) ⊎ ((k : ℕ) × First out root n v k)
+  Split v = ((i : ℕ) → Reached out root i v → ⊥) ⊎ ((k : ℕ) × FirstRing out root n v k)
 
   at-end : {S : Board} {r : Ring} {h : ℕ} → Serving n out root S r h → S .tail ≤ h → (v : ℕ) → v < n → Split v
   unfolding Split
@@ -75,8 +74,8 @@ module _ (n : ℕ) (out : ℕ → List ℕ) (root : ℕ) (base : Base n out root
   pub is-depth : (v : ℕ) → v < n → IsDepth out root v (depthOf n out root v)
   unfolding Split
   is-depth v l =
-      let here : (f : (k : ℕ) × First out root n v k) → Walk out root (f .0) v = λ f. ring-walk out root (f .0) v (f .1 .here) in
-      let first : (f : (k : ℕ) × First out root n v k) (i : ℕ) → Walk out root i v
+      let here : (f : (k : ℕ) × FirstRing out root n v k) → Walk out root (f .0) v = λ f. ring-walk out root (f .0) v (f .1 .here) in
+      let first : (f : (k : ℕ) × FirstRing out root n v k) (i : ℕ) → Walk out root i v
       → f .0 ≤ i = λ f i p. f .1 .least i (walk-ring out root p) in
       record {
         hops = λ k. (
@@ -136,7 +135,7 @@ module _ (g : Graph) (root : ℤ) (sound : soundGraph g ≡ true) where
 
   module _ (depth : List ℤ) (queue : List ℕ) (v : ℕ) (h : HasName g v root) where
     call-done : g .vertices ≤ length depth → g .vertices ≤ length queue → Done g v depth queue (bfsCall g root depth queue)
-    unfolding bfsCall bfsSays kernelSays
+    unfolding bfsCall leftBy roomFor kernelSays
     call-done a b =
         let n = g .vertices in
         let f = depthOf n (outward g) v in
@@ -151,8 +150,8 @@ module _ (g : Graph) (root : ℤ) (sound : soundGraph g ≡ true) where
         })
 
     call-short : (length depth < g .vertices) ⊎ (length queue < g .vertices)
-        → bfsCall g root depth queue ≡ outcome (refuses (plain noRoom)) (clearedZ depth) (cleared queue)
-    unfolding bfsCall bfsSays kernelSays
+        → bfsCall g root depth queue ≡ refusal noRoom depth queue
+    unfolding bfsCall leftBy roomFor kernelSays
     call-short =
         let a = leb (g .vertices) (length depth) in let b = leb (g .vertices) (length queue) in
         ⊎-elim (λ k. rw (sound, place v h, lt-leb (g .vertices) (length depth) k))
@@ -160,7 +159,7 @@ module _ (g : Graph) (root : ℤ) (sound : soundGraph g ≡ true) where
 
 -- what the public call answers and leaves, from the root's identifier on, on every graph and every area
 pub bfs-call : (g : Graph) (root : ℤ) (depth : List ℤ) (queue : List ℕ) → Called g root depth queue (bfsCall g root depth queue)
-unfolding bfsCall bfsSays kernelSays
+unfolding bfsCall leftBy kernelSays
 bfs-call g root depth queue =
     record {
       notSound = λ s. rw s;

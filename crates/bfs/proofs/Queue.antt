@@ -15,15 +15,15 @@ use lib.ListN.{length, getD, set, replicate, length-set, length-replicate, getD-
 use lib.Seq.{getD-set-same, getD-set-other}
 use lib.Dec.{eqb}
 use borrow.Author.Tests.{eqb-true, eqb-false}
-use Rattle.basis.specs.Scan.{allBelow, mem}
+use Rattle.basis.specs.Scan.{Inside, allBelow, mem}
 use Rattle.basis.proofs.Tests.{clash, bool-cases}
 use Rattle.basis.proofs.Scans.{mem-none-of, mem-head, mem-tail, mem-cases, below-mem}
 use Rattle.basis.proofs.Areas.{column-is}
 use Rattle.bfs.specs.declared.Ring.{Ring}
 use Rattle.bfs.specs.Depth.{infinity, unreachable, depthOf, depths}
-use Rattle.bfs.specs.Steps.{Inside, Board, board, isFar, entered, relaxed, walked, Ready, advanced}
-use Rattle.bfs.proofs.Boards.{seen-le, seen-none, far-mark, mark-far, relaxed-new, relaxed-old, room-more, ready-relaxed}
-use Rattle.bfs.proofs.Rings.{Reached, ring-root, ring-first, ring-next, ring-from, ring-below, First, depth-found, depth-none}
+use Rattle.bfs.specs.Steps.{Board, board, isFar, entered, relaxed, relaxedAll, Queued, advanced}
+use Rattle.bfs.proofs.Boards.{seen-le, seen-none, far-mark, mark-far, relaxed-new, relaxed-old, room-more, queued-relaxed}
+use Rattle.bfs.proofs.Rings.{Reached, ring-root, ring-first, ring-next, ring-from, ring-below, FirstRing, depth-found, depth-none}
 
 -- the number that stands at v: its depth, or infinity
 abbrev pub hops : Board → ℕ → ℕ
@@ -80,7 +80,7 @@ module _ (n : ℕ) (out : ℕ → List ℕ) (s : ℕ) where
   -- the queue: places up to h are served, from h up to the ring's end have its level, from there up to the tail one more
   pub record Serving (S : Board) (r : Ring) (h : ℕ) : Type 0 where
     pub base : Base
-    pub ready : Ready S
+    pub queued : Queued S
     pub len : length (S .depth) ≡ n
     pub he : h ≤ r .end
     pub et : r .end ≤ S .tail
@@ -93,10 +93,10 @@ module _ (n : ℕ) (out : ℕ → List ℕ) (s : ℕ) where
 
   module _ {S : Board} {r : Ring} {h : ℕ} (k : Serving S r h) where
     pub serving-tail : S .tail ≤ n
-    serving-tail = omega (arith, seen-le (S .depth), k .ready .filled, k .len)
+    serving-tail = omega (arith, seen-le (S .depth), k .queued .filled, k .len)
 
     pub serving-room : length (S .queue) ≡ n
-    serving-room = k .ready .room ∙ k .len
+    serving-room = k .queued .room ∙ k .len
 
     pub serving-level : r .level + 1 < infinity
     serving-level = omega (arith, k .de, k .et, serving-tail, k .base .few)
@@ -151,7 +151,7 @@ module _ (n : ℕ) (out : ℕ → List ℕ) (s : ℕ) where
 
     new-last : getD (R .queue) (S .tail) 0 ≡ w
     unfolding R
-    new-last = getD-set-same (S .queue) (S .tail) w 0 (room-more S w (k .ready) inside-area f)
+    new-last = getD-set-same (S .queue) (S .tail) w 0 (room-more S w (k .queued) inside-area f)
 
     -- a place of the queue is the new one, or as it was
     new-place : (i : ℕ) → i < R .tail → (getD (R .queue) i 0 ≡ w) ⊎ ((i < S .tail) × (getD (R .queue) i 0 ≡ getD (S .queue) i 0))
@@ -182,7 +182,8 @@ module _ (n : ℕ) (out : ℕ → List ℕ) (s : ℕ) where
         let as-was : (x j : ℕ) → j < infinity → hops S x ≡ j → hops R x ≡ j = λ x j g e. hops-kept new-kept x (omega arith) ∙ e in
         record {
           base = k .base;
-          ready = unfold R in subst Ready (relaxed-new (r .level + 1) w S f) (ready-relaxed (r .level + 1) w S (k .ready) inside-area b);
+          queued = unfold R in subst Queued (relaxed-new (r .level + 1) w S f)
+              (queued-relaxed (r .level + 1) w S (k .queued) inside-area b);
           len = new-kept .len ∙ k .len;
           he = k .he;
           et = omega (arith, k .et, new-kept .grows);
@@ -229,8 +230,8 @@ module _ (n : ℕ) (out : ℕ → List ℕ) (s : ℕ) where
 
   met : {S : Board} {r : Ring} {h : ℕ} (ws : List ℕ) → Serving S r h
       → ((w : ℕ) → mem w ws ≡ true → (w < n) × Reached out s (r .level + 1) w)
-      → Met S (walked (r .level + 1) ws S) r h (λ w. mem w ws ≡ true)
-  unfolding walked
+      → Met S (relaxedAll (r .level + 1) ws S) r h (λ w. mem w ws ≡ true)
+  unfolding relaxedAll
   met {S} [] k ok = record { serving = k; kept = kept-refl S; near = λ w t. absurd (mem-none-of w t) }
   met {r = r} (w ∷ ws) k ok =
       let a = ok w (mem-head w ws) in
@@ -251,7 +252,7 @@ module _ (n : ℕ) (out : ℕ → List ℕ) (s : ℕ) where
   done {S} {r} {h} k l c =
       record {
         base = k .base;
-        ready = k .ready;
+        queued = k .queued;
         len = k .len;
         he = omega arith;
         et = k .et;
@@ -281,7 +282,7 @@ module _ (n : ℕ) (out : ℕ → List ℕ) (s : ℕ) where
           record { here = y .here; most = y .most; short = y .short; way = y .way; place = ⊎-elim (moved x) (λ z. inr z) (y .place) }
 
   serve : {S : Board} {r : Ring} {h : ℕ} → Serving S r h → h < r .end
-      → Serving (walked (r .level + 1) (out (getD (S .queue) h 0)) S) r (h + 1)
+      → Serving (relaxedAll (r .level + 1) (out (getD (S .queue) h 0)) S) r (h + 1)
   serve {S} {r} {h} k l =
       let u : ℕ = getD (S .queue) h 0 in
       let low : u < n = k .low h (omega (arith, k .et)) in
@@ -297,7 +298,7 @@ module _ (n : ℕ) (out : ℕ → List ℕ) (s : ℕ) where
   turn {S} {r} {h} k e l =
       record {
         base = k .base;
-        ready = k .ready;
+        queued = k .queued;
         len = k .len;
         he = omega arith;
         et = omega arith;
@@ -332,10 +333,10 @@ module _ (n : ℕ) (out : ℕ → List ℕ) (s : ℕ) where
     pub serving-part : allBelow (length (S .depth)) (out (getD (S .queue) h 0)) ≡ true
     serving-part = rw (k .len) (k .base .inside (getD (S .queue) h 0) (k .low h t))
 
-    pub serving-more : {l : List ℕ} {R : Board} → l ≡ out (getD (S .queue) h 0) → R ≡ walked (q .level + 1) l S → Serving R q (h + 1)
+    pub serving-more : {l : List ℕ} {R : Board} → l ≡ out (getD (S .queue) h 0) → R ≡ relaxedAll (q .level + 1) l S → Serving R q (h + 1)
     unfolding Turned
     serving-more {l} {R} el er =
-        subst (λ (B : Board). Serving B q (h + 1)) (sym (er ∙ ap (λ (t : List ℕ). walked (q .level + 1) t S) el))
+        subst (λ (B : Board). Serving B q (h + 1)) (sym (er ∙ ap (λ (t : List ℕ). relaxedAll (q .level + 1) t S) el))
         (serve (turned .0) (turned .1))
 
   -- ---- the end: nothing waits
@@ -352,7 +353,7 @@ module _ (n : ℕ) (out : ℕ → List ℕ) (s : ℕ) where
     -- a vertex has no depth and no ring has it, or its depth is the first ring that has it
     pub serving-settled : (x : ℕ) → x < n
         → ((getD (S .depth) x (pos 0) ≡ unreachable) × ((i : ℕ) → Reached out s i x → ⊥))
-        ⊎ ((j : ℕ) × (getD (S .depth) x (pos 0) ≡ pos j) × First out s n x j)
+        ⊎ ((j : ℕ) × (getD (S .depth) x (pos 0) ≡ pos j) × FirstRing out s n x j)
     serving-settled x l =
         ⊎-elim
         (λ a. inl (a, λ i p. let e : hops S x ≡ infinity = ap mag a in omega (arith, reached i x p .1)))
@@ -369,8 +370,8 @@ module _ (n : ℕ) (out : ℕ → List ℕ) (s : ℕ) where
 
   -- ---- the beginning: the root alone
   module _ (b : Base) (D : List ℤ) (Q : List ℕ) (fresh : D ≡ replicate n unreachable) (room : length Q ≡ n) where
-    pub serving-ready : Ready (board D Q 0)
-    serving-ready = rw fresh (record { filled = seen-none n; room = room ∙ sym (length-replicate n unreachable) })
+    pub serving-queued : Queued (board D Q 0)
+    serving-queued = rw fresh (record { filled = seen-none n; room = room ∙ sym (length-replicate n unreachable) })
 
     first : Board
     first = entered 0 s (board D Q 0)
@@ -411,7 +412,8 @@ module _ (n : ℕ) (out : ℕ → List ℕ) (s : ℕ) where
     first-serving =
         record {
           base = b;
-          ready = subst Ready first-step (ready-relaxed 0 s (board D Q 0) serving-ready (omega (arith, first-len, b .root)) (omega arith));
+          queued = subst Queued first-step (queued-relaxed 0 s (board D Q 0) serving-queued (omega (arith, first-len, b .root))
+              (omega arith));
           len = length-set D s (pos 0) ∙ first-len;
           he = omega arith;
           et = omega arith;

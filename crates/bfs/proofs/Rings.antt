@@ -3,36 +3,26 @@
 use Prim.Native.Nat.{ℕ, zero, suc, _+_, _≤_, _<_}
 use mathlib.Core.Path.{_≡_, refl, sym, ap, _∙_, subst}
 use mathlib.Core.Logic.{⊎-elim}
-use mathlib.Core.Bool.{Bool, true, false}
+use mathlib.Core.Bool.{Bool, true, false, cond}
 use mathlib.Core.List.{List, [], _∷_}
-use native.Mathlib.Nat.{eq-or-lt-of-le, add-zero, add-suc}
 use native.Mathlib.Omega.{arith}
 use lib.IntN.{ℤ, pos}
-use Rattle.basis.specs.Scan.{mem}
+use lib.Dec.{ltb}
+use borrow.Author.Tests.{ltb-true, lt-ltb, le-ltb}
+use Rattle.basis.specs.Scan.{Inside, mem, firstFrom}
+use Rattle.basis.proofs.Firsts.{first-is, first-none}
 use Rattle.basis.proofs.Tests.{or-first, or-second, or-cases, false-of}
 use Rattle.basis.proofs.Scans.{mem-none-of, mem-head, mem-tail, mem-cases, mem-append, below-mem}
-use Rattle.bfs.specs.Depth.{unreachable, leastFrom, ends, ring, depthOf}
-use Rattle.bfs.specs.Steps.{Inside}
+use Rattle.bfs.specs.Depth.{unreachable, ends, ring, ringDepth, depthOf}
 
--- ---- the least number that passes a test
-module _ (p : ℕ → Bool) where
-  pickAt : ℕ → ℕ → Bool → ℤ
-  pickAt f m t = elim t [ true ↦ pos m | false ↦ leastFrom p f (suc m) ]
-
-  least-found : (f m k : ℕ) → m ≤ k → k < m + f → p k ≡ true → ((i : ℕ) → m ≤ i → i < k → p i ≡ false) → leastFrom p f m ≡ pos k
-  unfolding leastFrom pickAt
-  least-found zero m k l h t none = absurd (omega (arith, add-zero m))
-  least-found (suc f) m k l h t none =
-      ⊎-elim
-      (λ e. ap (pickAt f m) (ap p e ∙ t) ∙ ap pos e)
-      (λ g. ap (pickAt f m) (none m (omega arith) g)
-      ∙ least-found f (suc m) k g (omega (arith, add-suc m f)) t (λ i a b. none i (omega arith) b))
-      (eq-or-lt-of-le l)
-
-  least-none : (f m : ℕ) → ((i : ℕ) → p i ≡ false) → leastFrom p f m ≡ unreachable
-  unfolding leastFrom pickAt
-  least-none zero m none = refl
-  least-none (suc f) m none = ap (pickAt f m) (none m) ∙ least-none f (suc m) none
+-- ---- the depth that a ring stands for
+pub depth-cases : (P : ℤ → Type 0) (n k : ℕ) → (k < n → P (pos k)) → P unreachable → P (ringDepth n k)
+unfolding ringDepth
+depth-cases P n k f z = go (ltb k n) refl
+  where
+    go : (t : Bool) → ltb k n ≡ t → P (cond t (pos k) unreachable)
+    go true e = f (ltb-true k n e)
+    go false e = z
 
 module _ (out : ℕ → List ℕ) where
   -- ---- where arcs lead
@@ -81,19 +71,27 @@ module _ (out : ℕ → List ℕ) where
         let r = ring-from k v m in below-mem n (out (r .0)) (inside (r .0) (ring-below n inside low k (r .0) (r .1))) v (r .2)
 
     -- ring k, of the first n, has v and none before it does
-    pub record First (n v k : ℕ) : Type 0 where
+    pub record FirstRing (n v k : ℕ) : Type 0 where
       pub here : Reached k v
       pub least : (i : ℕ) → Reached i v → k ≤ i
       pub below : k < n
 
+    -- whether ring k has v
+    abbrev has : ℕ → ℕ → Bool
+    has v k = mem v (ring out root k)
+
+    first-ring : (n v k : ℕ) → FirstRing n v k → firstFrom (has v) n 0 ≡ k
+    first-ring n v k f =
+        let F = first-is (has v) n 0 k (omega arith) (omega (arith, f .below)) (f .here) in
+        omega (arith, F .most, f .least (firstFrom (has v) n 0) (F .passes))
+
     -- the depth is the first ring that has v
-    pub depth-found : (n v k : ℕ) → First n v k → depthOf n out root v ≡ pos k
-    unfolding depthOf
-    depth-found n v k f =
-        least-found (λ i. mem v (ring out root i)) n 0 k (omega arith) (omega (arith, f .below)) (f .here)
-        (λ i a b. false-of (mem v (ring out root i)) (λ t. omega (arith, f .least i t)))
+    pub depth-found : (n v k : ℕ) → FirstRing n v k → depthOf n out root v ≡ pos k
+    unfolding depthOf ringDepth
+    depth-found n v k f = ap (ringDepth n) (first-ring n v k f) ∙ rw (lt-ltb k n (f .below)) refl
 
     -- v is unreachable where no ring has it
     pub depth-none : (n v : ℕ) → ((i : ℕ) → Reached i v → ⊥) → depthOf n out root v ≡ unreachable
-    unfolding depthOf
-    depth-none n v none = least-none (λ i. mem v (ring out root i)) n 0 (λ i. false-of (mem v (ring out root i)) (none i))
+    unfolding depthOf ringDepth
+    depth-none n v none =
+        ap (ringDepth n) (first-none (has v) n 0 (λ i. false-of (has v i) (none i))) ∙ rw (le-ltb (0 + n) n (omega arith)) refl

@@ -1,10 +1,11 @@
 -- 01 "Kernels" and 000, 2.3.1: depths of breadth-first search, over the arcs that leave each vertex.
 use Prim.Native.Nat.{ℕ, zero, suc}
-use mathlib.Core.Bool.{Bool, true, false}
+use mathlib.Core.Bool.{cond}
 use mathlib.Core.List.{List, [], _∷_, _++_}
 use lib.IntN.{ℤ, pos}
+use lib.Dec.{ltb}
 use Rattle.basis.specs.Area.{column}
-use Rattle.basis.specs.Scan.{mem}
+use Rattle.basis.specs.Scan.{mem, firstFrom}
 
 -- "Unreachable is 9223372036854775807"
 abbrev pub infinity : ℕ
@@ -13,11 +14,6 @@ infinity = 9223372036854775807
 -- the same as a signed number, the form of a depth in the result area
 abbrev pub unreachable : ℤ
 unreachable = pos infinity
-
--- the least of k, k + 1, .. (f of them) that passes a test
-unfoldable pub leastFrom : (ℕ → Bool) → ℕ → ℕ → ℤ
-leastFrom p zero k = unreachable
-leastFrom p (suc f) k = elim (p k) [ true ↦ pos k | false ↦ leastFrom p f (suc k) ]
 
 module _ (out : ℕ → List ℕ) where
   -- where the arcs from a list of vertices lead
@@ -30,9 +26,14 @@ module _ (out : ℕ → List ℕ) where
   ring root zero = root ∷ []
   ring root (suc k) = ends (ring root k)
 
--- "least hops along outgoing arcs from the root": the first ring that v stands in, of the first n, since a shortest walk meets no vertex twice
+-- the depth that a ring stands for, of n rings: its number, or unreachable where it is none of them
+unfoldable pub ringDepth : ℕ → ℕ → ℤ
+ringDepth n k = cond (ltb k n) (pos k) unreachable
+
+-- "least hops along outgoing arcs from the root": the first ring that v stands in, of the first n, since a shortest walk meets no vertex
+-- twice
 unfoldable pub depthOf : ℕ → (ℕ → List ℕ) → ℕ → ℕ → ℤ
-depthOf n out root v = leastFrom (λ k. mem v (ring out root k)) n 0
+depthOf n out root v = ringDepth n (firstFrom (λ k. mem v (ring out root k)) n 0)
 
 -- "labels each vertex of a graph": the depths of vertices 0 to n - 1
 abbrev pub depths : ℕ → (ℕ → List ℕ) → ℕ → List ℤ

@@ -6,13 +6,13 @@ use mathlib.Core.Bool.{true, false}
 use mathlib.Core.List.{List}
 use lib.IntN.{ℤ, pos}
 use lib.ListN.{length, getD}
-use Rattle.basis.specs.Refusal.{gives, refuses, plain, unsound, notThere, noRoom}
-use Rattle.basis.specs.Area.{cleared, clearedZ}
+use Rattle.basis.specs.Refusal.{gives, unsound, notThere, noRoom}
+use Rattle.basis.specs.Area.{cleared}
 use Rattle.basis.specs.Scan.{mem}
 use Rattle.graph.specs.Sound.{Graph, outward, names, soundGraph}
 use Rattle.kernels.specs.Result.{ZeroBehind}
 use Rattle.bfs.specs.Depth.{infinity, unreachable}
-use Rattle.bfs.specs.Call.{Outcome, outcome}
+use Rattle.bfs.specs.Call.{Outcome, refusal}
 
 -- "hops along outgoing arcs from the root": a walk of k arcs that ends at a vertex
 pub data Walk (out : ℕ → List ℕ) (root : ℕ) : ℕ → ℕ → Type 0 where
@@ -45,10 +45,9 @@ pub record Done (g : Graph) (root : ℕ) (depth : List ℤ) (queue : List ℕ) (
 
 -- what a call means, refusals included; depth and queue stood in the two areas before it
 pub record Called (g : Graph) (root : ℤ) (depth : List ℤ) (queue : List ℕ) (o : Outcome) : Type 0 where
-  pub notSound : soundGraph g ≡ false → o ≡ outcome (refuses (plain unsound)) (clearedZ depth) (cleared queue)
-  pub missing : soundGraph g ≡ true → ((v : ℕ) → HasName g v root → ⊥)
-      → o ≡ outcome (refuses (plain notThere)) (clearedZ depth) (cleared queue)
+  pub notSound : soundGraph g ≡ false → o ≡ refusal unsound depth queue
+  pub missing : soundGraph g ≡ true → ((v : ℕ) → HasName g v root → ⊥) → o ≡ refusal notThere depth queue
   pub short : soundGraph g ≡ true → (v : ℕ) → HasName g v root → (length depth < g .vertices) ⊎ (length queue < g .vertices)
-      → o ≡ outcome (refuses (plain noRoom)) (clearedZ depth) (cleared queue)
+      → o ≡ refusal noRoom depth queue
   pub done : soundGraph g ≡ true → (v : ℕ) → HasName g v root → g .vertices ≤ length depth → g .vertices ≤ length queue
       → Done g v depth queue o

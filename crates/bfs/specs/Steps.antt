@@ -1,32 +1,22 @@
--- What the kernel's private functions do: a refusal, the run from a root that is there, and the steps of the queue.
+-- What the kernel's private functions do and need: the steps of the queue.
 use Prim.Native.Nat.{ℕ, zero, suc, _+_, _<_}
 use mathlib.Core.Path.{_≡_}
-use mathlib.Core.Bool.{Bool, true, cond, _&&_}
+use mathlib.Core.Bool.{Bool, true, cond}
 use mathlib.Core.List.{List, [], _∷_}
 use lib.IntN.{ℤ, pos}
 use lib.ListN.{length, getD, set}
-use lib.Dec.{eqb, leb}
-use Rattle.basis.specs.Refusal.{gives, refuses, plain, noRoom}
-use Rattle.basis.specs.Area.{padZ, cleared, clearedZ}
+use lib.Dec.{eqb}
 use Rattle.basis.specs.Order.{sameZ}
-use Rattle.basis.specs.Scan.{allBelow}
+use Rattle.graph.specs.Sound.{Graph, soundGraph}
 use Rattle.bfs.specs.declared.Ring.{Ring}
-use Rattle.bfs.specs.Depth.{unreachable, depths}
-use Rattle.bfs.specs.Call.{Outcome, outcome}
+use Rattle.bfs.specs.Depth.{unreachable}
+use Rattle.bfs.specs.Call.{roomFor}
 
--- a refusal fills both areas with zero
-abbrev pub refusal : ℕ → List ℤ → List ℕ → Outcome
-refusal number depth queue = outcome (refuses (plain number)) (clearedZ depth) (cleared queue)
-
--- from a root that is there: the room is checked, then the depths stand in the first n places
-unfoldable pub fromRoot : ℕ → (ℕ → List ℕ) → ℕ → List ℤ → List ℕ → Outcome
-fromRoot n out root depth queue =
-    cond (leb n (length depth) && leb n (length queue)) (outcome (gives tt) (padZ (length depth) (depths n out root)) (cleared queue))
-    (refusal noRoom depth queue)
-
--- the arcs of the first n vertices stay among them
-abbrev pub Inside : ℕ → (ℕ → List ℕ) → Type 0
-Inside n out = (u : ℕ) → u < n → allBelow n (out u) ≡ true
+-- the areas can be filled: the graph is sound, the root is one of its vertices, and each area has room for them
+pub record Ready (g : Graph) (root : ℕ) (depth : List ℤ) (queue : List ℕ) : Type 0 where
+  pub sound : soundGraph g ≡ true
+  pub there : root < g .vertices
+  pub room : roomFor (g .vertices) depth queue ≡ true
 
 -- the three things that a step changes: the depths, the queue, and how much of the queue is filled
 pub record Board : Type 0 where
@@ -51,9 +41,9 @@ unfoldable pub relaxed : ℕ → ℕ → Board → Board
 relaxed d w S = cond (isFar (getD (S .depth) w (pos 0))) (entered d w S) S
 
 -- the vertices of a list are met in order
-unfoldable pub walked : ℕ → List ℕ → Board → Board
-walked d [] S = S
-walked d (w ∷ l) S = walked d l (relaxed d w S)
+unfoldable pub relaxedAll : ℕ → List ℕ → Board → Board
+relaxedAll d [] S = S
+relaxedAll d (w ∷ l) S = relaxedAll d l (relaxed d w S)
 
 -- how many vertices have a depth
 unfoldable pub seen : List ℤ → ℕ
@@ -61,7 +51,7 @@ seen [] = zero
 seen (z ∷ l) = cond (isFar z) (seen l) (suc (seen l))
 
 -- the queue is filled as far as vertices are seen, and has a place for each vertex
-pub record Ready (S : Board) : Type 0 where
+pub record Queued (S : Board) : Type 0 where
   pub filled : seen (S .depth) ≡ S .tail
   pub room : length (S .queue) ≡ length (S .depth)
 

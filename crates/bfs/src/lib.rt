@@ -19,14 +19,17 @@ ghost use mathlib.Core.Bool.{true};
 ghost use Prim.Native.Nat.{_≤_, _<_};
 ghost use lib.IntN.{pos};
 ghost use lib.ListN.{length};
-ghost use Rattle.basis.specs.Scan.{allBelow};
+ghost use Rattle.basis.specs.Refusal.{gives};
+ghost use Rattle.basis.specs.Scan.{allBelow, Inside};
+ghost use Rattle.graph.specs.declared.find.Found.the-variants.{At};
 ghost use Rattle.graph.specs.Part.{partOf};
 ghost use Rattle.graph.specs.Sound.{lent};
 ghost use Rattle.kernels.specs.Answer.{says};
 ghost use Rattle.bfs.specs.Depth.{infinity, depths};
-ghost use Rattle.bfs.specs.Call.{outcome, bfsCall};
-ghost use Rattle.bfs.specs.Steps.{refusal, fromRoot, Inside, Ready, board, relaxed, walked, advanced};
+ghost use Rattle.bfs.specs.Call.{outcome, refusal, roomFor, leftBy, bfsCall};
+ghost use Rattle.bfs.specs.Steps.{Ready, Queued, board, relaxed, relaxedAll, advanced};
 
+// `Depth.infinity`, as a result area holds it.
 const UNREACHABLE: i64 = 9223372036854775807;
 
 // The ring that is served: it ends at a place of the queue, and its vertices have one depth. So no depth is read back from the results.
@@ -45,9 +48,11 @@ fn signed(d: usize) -> i64
 
 // Vertex w is met at depth d: where it has no depth yet it gets this one, and goes to the end of the queue.
 fn relax(depth: &mut [i64], queue: &mut [usize], tail: usize, w: usize, d: usize) -> usize
-    requires { ⌜ Ready (board (now depth) (now queue) tail) ⌝ }
+    requires { ⌜ Queued (board (now depth) (now queue) tail) ⌝ }
     requires { ⌜ (w < length (now depth)) × (d < infinity) ⌝ }
-    ensures { λ r. ⌜ board (now (depth .exit)) (now (queue .exit)) r ≡ relaxed d w (board (now (depth .entry)) (now (queue .entry)) tail) ⌝ }
+    ensures { λ r. ⌜
+        board (now (depth .exit)) (now (queue .exit)) r
+        ≡ relaxed d w (board (now (depth .entry)) (now (queue .entry)) tail) ⌝ }
 {
     if same(depth[w], UNREACHABLE) {
         depth[w] = signed(d);
@@ -60,9 +65,11 @@ fn relax(depth: &mut [i64], queue: &mut [usize], tail: usize, w: usize, d: usize
 
 // The vertices of a part are met in order, at depth d.
 fn walk(next: &[usize], depth: &mut [i64], queue: &mut [usize], tail: usize, d: usize) -> usize
-    requires { ⌜ Ready (board (now depth) (now queue) tail) ⌝ }
+    requires { ⌜ Queued (board (now depth) (now queue) tail) ⌝ }
     requires { ⌜ (allBelow (length (now depth)) (now next) ≡ true) × (d < infinity) ⌝ }
-    ensures { λ r. ⌜ board (now (depth .exit)) (now (queue .exit)) r ≡ walked d (now (next .entry)) (board (now (depth .entry)) (now (queue .entry)) tail) ⌝ }
+    ensures { λ r. ⌜
+        board (now (depth .exit)) (now (queue .exit)) r
+        ≡ relaxedAll d (now (next .entry)) (board (now (depth .entry)) (now (queue .entry)) tail) ⌝ }
 {
     let mut end = tail;
     let mut i = 0;
@@ -93,7 +100,10 @@ fn advance(ring: Ring, head: usize, tail: usize) -> Ring
 fn search(offsets: &[usize], targets: &[usize], root: usize, depth: &mut [i64], queue: &mut [usize])
     requires { ⌜ Inside (length (now depth)) (partOf (length (now depth)) (now offsets) (now targets)) ⌝ }
     requires { ⌜ (root < length (now depth)) × (length (now queue) ≡ length (now depth)) ⌝ }
-    ensures { λ _. ⌜ now (depth .exit) ≡ depths (length (now (depth .entry))) (partOf (length (now (depth .entry))) (now (offsets .entry)) (now (targets .entry))) root ⌝ }
+    ensures { λ _. ⌜
+        now (depth .exit)
+        ≡ depths (length (now (depth .entry)))
+        (partOf (length (now (depth .entry))) (now (offsets .entry)) (now (targets .entry))) root ⌝ }
 {
     let n = depth.len();
     fill_signed(depth, UNREACHABLE);
@@ -109,38 +119,61 @@ fn search(offsets: &[usize], targets: &[usize], root: usize, depth: &mut [i64], 
     }
 }
 
-// Both areas are zero after a refusal.
+// Has each area n places?
+fn room(n: usize, depth: &[i64], queue: &[usize]) -> bool
+    ensures { λ r. ⌜ r ≡ roomFor n (now (depth .entry)) (now (queue .entry)) ⌝ }
+{
+    n <= lesser(depth.len(), queue.len())
+}
+
+// A refusal: all areas are zero.
 fn refuse(number: usize, depth: &mut [i64], queue: &mut [usize]) -> Answer
-    ensures { λ r. ⌜ outcome (says r) (now (depth .exit)) (now (queue .exit)) ≡ refusal number (now (depth .entry)) (now (queue .entry)) ⌝ }
+    ensures { λ r. ⌜
+        outcome (says r) (now (depth .exit)) (now (queue .exit))
+        ≡ refusal number (now (depth .entry)) (now (queue .entry)) ⌝ }
 {
     clear_signed(depth);
     clear(queue);
     refused(number)
 }
 
-// From a root that is there: the room is checked, then the depths stand in the first n places.
-fn from_root(
-    n: usize,
-    offsets: &[usize],
-    targets: &[usize],
+// The depths from the vertex root, in the first places of areas that have room for them.
+fn fill(
+    size: Size,
+    ids: &[i64],
+    out_offsets: &[usize],
+    out_targets: &[usize],
+    in_offsets: &[usize],
+    in_sources: &[usize],
     root: usize,
     depth: &mut [i64],
     queue: &mut [usize],
 ) -> Answer
-    requires { ⌜ Inside n (partOf n (now offsets) (now targets)) ⌝ }
-    requires { ⌜ root < n ⌝ }
-    ensures { λ r. ⌜ outcome (says r) (now (depth .exit)) (now (queue .exit)) ≡ fromRoot n (partOf n (now (offsets .entry)) (now (targets .entry))) root (now (depth .entry)) (now (queue .entry)) ⌝ }
+    requires { ⌜
+        Ready
+        (lent size (now ids) (now «out_offsets») (now «out_targets») (now «in_offsets») (now «in_sources»))
+        root (now depth) (now queue) ⌝ }
+    ensures { λ r. ⌜
+        outcome (says r) (now (depth .exit)) (now (queue .exit))
+        ≡ leftBy (gives tt)
+        (lent size (now (ids .entry)) (now («out_offsets» .entry)) (now («out_targets» .entry))
+        (now («in_offsets» .entry)) (now («in_sources» .entry)))
+        (At root) (now (depth .entry)) (now (queue .entry)) ⌝ }
 {
-    if lesser(depth.len(), queue.len()) < n {
-        return refuse(NO_ROOM, depth, queue);
-    }
-    search(offsets, targets, root, &mut depth[..n], &mut queue[..n]);
+    let n = size.vertices;
+    search(
+        out_offsets,
+        out_targets,
+        root,
+        &mut depth[..n],
+        &mut queue[..n],
+    );
     clear_signed(&mut depth[n..]);
     clear(queue);
     Answer::Done
 }
 
-// The depths from the vertex that has the identifier root, in vertex order; `queue` is a working area.
+// The depths of a sound graph's vertices from the one that has the identifier root; or a refusal: 9, 10 or 8. `queue` is a working area.
 pub fn bfs(
     size: Size,
     ids: &[i64],
@@ -152,9 +185,13 @@ pub fn bfs(
     depth: &mut [i64],
     queue: &mut [usize],
 ) -> Answer
-    ensures { λ r. ⌜ outcome (says r) (now (depth .exit)) (now (queue .exit)) ≡ bfsCall (lent size (now (ids .entry)) (now («out_offsets» .entry)) (now («out_targets» .entry)) (now («in_offsets» .entry)) (now («in_sources» .entry))) root (now (depth .entry)) (now (queue .entry)) ⌝ }
+    ensures { λ r. ⌜
+        outcome (says r) (now (depth .exit)) (now (queue .exit))
+        ≡ bfsCall
+        (lent size (now (ids .entry)) (now («out_offsets» .entry)) (now («out_targets» .entry))
+        (now («in_offsets» .entry)) (now («in_sources» .entry)))
+        root (now (depth .entry)) (now (queue .entry)) ⌝ }
 {
-    let n = size.vertices;
     if !sound_over(
         size,
         ids,
@@ -166,8 +203,24 @@ pub fn bfs(
     ) {
         return refuse(UNSOUND, depth, queue);
     }
-    match find(&ids[..n], root) {
-        Found::At(v) => from_root(n, out_offsets, out_targets, v, depth, queue),
-        Found::Missing => refuse(NOT_THERE, depth, queue),
+    let v = match find(&ids[..size.vertices], root) {
+        Found::At(v) => v,
+        Found::Missing => {
+            return refuse(NOT_THERE, depth, queue);
+        }
+    };
+    if !room(size.vertices, depth, queue) {
+        return refuse(NO_ROOM, depth, queue);
     }
+    fill(
+        size,
+        ids,
+        out_offsets,
+        out_targets,
+        in_offsets,
+        in_sources,
+        v,
+        depth,
+        queue,
+    )
 }

@@ -1,7 +1,7 @@
 -- P1 to P12 hold, by computation. Assumes nothing.
 use mathlib.Core.Path.{_≡_, refl}
 use Rattle.basis.specs.Area.{column}
-use Rattle.basis.specs.Scan.{every, each, mem}
+use Rattle.basis.specs.Scan.{every, each, mem, firstFrom}
 use Rattle.text.specs.Word.{within}
 use Rattle.text.specs.Decimal.{digitOf, pastPoint, wholeIsGood, signedPower, powerAt, partsOf, fractionOf, decimalOf}
 use Rattle.text.specs.Line.{lineBy, twoOf}
@@ -10,17 +10,17 @@ use Rattle.graph.specs.Find.{placeFrom}
 use Rattle.graph.specs.Part.{targetsBetween, partOf}
 use Rattle.graph.specs.Sound.{soundIds, soundOffsets, soundSide, mirrored, soundSides, soundGraph}
 use Rattle.kernels.specs.Answer.{kernelSays}
-use Rattle.bfs.specs.Depth.{leastFrom, ends, ring, depthOf}
-use Rattle.bfs.specs.Call.{bfsSays, bfsCall}
-use Rattle.wcc.specs.Component.{beside, chain, firstFrom, first, labelOf}
-use Rattle.wcc.specs.Promise.{roomFor as wcc-roomFor, leftBy as wcc-leftBy, wccCall}
+use Rattle.bfs.specs.Depth.{ends, ring, ringDepth, depthOf}
+use Rattle.bfs.specs.Call.{roomFor as bfs-roomFor, leftBy as bfs-leftBy, bfsCall}
+use Rattle.wcc.specs.Component.{adjacent, chain, first, labelOf}
+use Rattle.wcc.specs.Call.{roomFor as wcc-roomFor, leftBy as wcc-leftBy, wccCall}
 use Rattle.cdlp.specs.Label.{times, mostTimes, standing, mostCommon, smallest, smallestOr, nextLabel}
 use Rattle.cdlp.specs.Rounds.{around, labelsAt, nextAt, oneRound, rounds, cdlpOf}
-use Rattle.cdlp.specs.Promise.{goodRounds, roomFor as cdlp-roomFor, leftBy as cdlp-leftBy, cdlpCall}
+use Rattle.cdlp.specs.Call.{goodRounds, roomFor as cdlp-roomFor, leftBy as cdlp-leftBy, cdlpCall}
 use Rattle.lcc.specs.Common.{commonCount}
 use Rattle.lcc.specs.Ratio.{euclid, gcdOf, lowest}
 use Rattle.lcc.specs.Lcc.{those, neighbours, arcsFrom, coefficientAmong, numerator, denominator}
-use Rattle.lcc.specs.Promise.{room, lccSays, lccCall}
+use Rattle.lcc.specs.Call.{roomFor as lcc-roomFor, leftBy as lcc-leftBy, lccCall}
 use Rattle.lists.specs.Files.{edgeTest}
 use Rattle.load.specs.Load.{arcsRead, listsRead, loaded, outcomeOf, loadCall}
 use Rattle.matching.specs.Close.{isClose}
@@ -34,10 +34,14 @@ use Rattle.cases.specs.Cases.{cases, computeds, expecteds}
 
 pub checked : computeds cases ≡ expecteds cases
 unfolding column every each mem within digitOf pastPoint wholeIsGood signedPower powerAt partsOf fractionOf decimalOf lineBy twoOf edgeTest
-    linesFrom valuesFrom arcsRead listsRead loaded outcomeOf loadCall placeFrom targetsBetween partOf soundIds soundOffsets soundSide mirrored
-    soundSides soundGraph kernelSays leastFrom ends ring depthOf bfsSays bfsCall beside chain firstFrom first labelOf wcc-roomFor wcc-leftBy
+    linesFrom valuesFrom arcsRead listsRead loaded outcomeOf loadCall placeFrom targetsBetween partOf soundIds soundOffsets soundSide
+    mirrored
+    soundSides soundGraph kernelSays ringDepth ends ring depthOf bfs-roomFor bfs-leftBy bfsCall adjacent chain firstFrom first labelOf
+    wcc-roomFor wcc-leftBy
     wccCall times mostTimes standing mostCommon smallest smallestOr nextLabel around labelsAt nextAt oneRound rounds cdlpOf goodRounds
-    cdlp-roomFor cdlp-leftBy cdlpCall commonCount euclid gcdOf lowest those neighbours arcsFrom coefficientAmong numerator denominator room
-    lccSays lccCall isClose firstLine sameKind agrees failingLine unlikeLine judgedBy numbersCall nearWithin coefficientsSays walk walkFrom
+    cdlp-roomFor cdlp-leftBy cdlpCall commonCount euclid gcdOf lowest those neighbours arcsFrom coefficientAmong numerator denominator
+    lcc-roomFor
+    lcc-leftBy lccCall isClose firstLine sameKind agrees failingLine unlikeLine judgedBy numbersCall nearWithin coefficientsSays walk
+    walkFrom
     above mergeable mergeHeads linkHeads headsOf decide openBook writeBook joinBook groupCount tally nextIn fits two after run
 checked = refl

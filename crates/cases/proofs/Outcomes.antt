@@ -51,7 +51,7 @@ use Rattle.kernels.proofs.refused as kernels-refused
 use Rattle.bfs.proofs.bfs as bfs-bfs
 use Rattle.wcc.proofs.wcc as wcc-wcc
 use Rattle.cdlp.proofs.cdlp as cdlp-cdlp
-use Rattle.lcc.proofs.lcc.lcc as lcc-lcc
+use Rattle.lcc.proofs.lcc as lcc-lcc
 use Rattle.lcc.proofs.common.common as lcc-common
 use Rattle.lcc.proofs.ratio.gcd as lcc-gcd
 use Rattle.lcc.proofs.ratio.reduced as lcc-reduced

@@ -12,9 +12,9 @@ use Rattle.book.specs.Two.{Areas, areas, two, twoBook}
 use Rattle.book.specs.Rules.{groupCount}
 use Rattle.book.specs.Series.{Call, state, run}
 use Rattle.bfs.specs.Call as B
-use Rattle.wcc.specs.Promise as W
-use Rattle.cdlp.specs.Promise as C
-use Rattle.lcc.specs.Promise as L
+use Rattle.wcc.specs.Call as W
+use Rattle.cdlp.specs.Call as C
+use Rattle.lcc.specs.Call as L
 use Rattle.matching.specs.declared.numbers.Rule.the-variants.{Equivalence}
 use Rattle.matching.specs.Verdict.{Verdict, matched, mismatchAt}
 use Rattle.matching.specs.Calls.{numbersCall, coefficientsSays}

@@ -1,4 +1,4 @@
--- 01 "Checked examples", P6 and P8, on the definition and through the call; and refusals. Assumes nothing.
+-- CDLP on the sheet's graph of 01, computed through the call; and refusals. Assumes nothing.
 use mathlib.Core.Path.{_≡_, refl}
 use mathlib.Core.List.{[], _∷_}
 use lib.IntN.{pos, negsuc}
@@ -11,33 +11,25 @@ use Rattle.graph.proofs.Examples.{sheetGraph}
 use Rattle.kernels.specs.Answer.{kernelSays}
 use Rattle.cdlp.specs.Label.{times, mostTimes, standing, mostCommon, smallest, smallestOr, nextLabel}
 use Rattle.cdlp.specs.Rounds.{around, labelsAt, nextAt, oneRound, rounds, cdlpOf}
-use Rattle.cdlp.specs.Promise.{goodRounds, roomFor, outcome, leftBy, cdlpCall}
+use Rattle.cdlp.specs.Call.{mostRounds, goodRounds, roomFor, outcome, leftBy, cdlpCall}
 
-pub p6 : cdlpOf sheetGraph 2 ≡ negsuc 2 ∷ pos 2 ∷ pos 5 ∷ pos 2 ∷ pos 2 ∷ []
-unfolding targetsBetween partOf column times mostTimes standing mostCommon smallest smallestOr nextLabel around labelsAt nextAt oneRound rounds
-    cdlpOf
-p6 = refl
-
-pub p8 : cdlpOf sheetGraph 1 ≡ negsuc 2 ∷ pos 5 ∷ pos 2 ∷ pos 2 ∷ pos 9 ∷ []
-unfolding targetsBetween partOf column times mostTimes standing mostCommon smallest smallestOr nextLabel around labelsAt nextAt oneRound rounds
-    cdlpOf
-p8 = refl
-
--- P6 through the call, in areas with a place to spare
-pub p6-call : cdlpCall sheetGraph (pos 2) (pos 7 ∷ pos 7 ∷ pos 7 ∷ pos 7 ∷ pos 7 ∷ pos 7 ∷ []) (1 ∷ 1 ∷ 1 ∷ 1 ∷ 1 ∷ [])
+-- areas with a place to spare that held something before
+pub spare-place : cdlpCall sheetGraph (pos 2) (pos 7 ∷ pos 7 ∷ pos 7 ∷ pos 7 ∷ pos 7 ∷ pos 7 ∷ []) (1 ∷ 1 ∷ 1 ∷ 1 ∷ 1 ∷ [])
     (1 ∷ 1 ∷ 1 ∷ 1 ∷ 1 ∷ []) (1 ∷ 1 ∷ 1 ∷ 1 ∷ 1 ∷ 1 ∷ [])
     ≡ outcome (gives tt) (negsuc 2 ∷ pos 2 ∷ pos 5 ∷ pos 2 ∷ pos 2 ∷ pos 0 ∷ []) (0 ∷ 0 ∷ 0 ∷ 0 ∷ 0 ∷ []) (0 ∷ 0 ∷ 0 ∷ 0 ∷ 0 ∷ [])
     (0 ∷ 0 ∷ 0 ∷ 0 ∷ 0 ∷ 0 ∷ [])
 unfolding cdlpCall leftBy kernelSays goodRounds roomFor soundSides soundGraph soundIds soundSide soundOffsets mirrored every each mem
-    targetsBetween partOf column times mostTimes standing mostCommon smallest smallestOr nextLabel around labelsAt nextAt oneRound rounds cdlpOf
-p6-call = refl
+    targetsBetween partOf column times mostTimes standing mostCommon smallest smallestOr nextLabel around labelsAt nextAt oneRound rounds
+    cdlpOf
+spare-place = refl
 
--- a round too many comes before an area too short: 11, then 8; zero rounds of no vertices are answered
+-- a round too many comes before an area too short: 11, then 8
 pub too-many : cdlpCall sheetGraph (pos 1001) (pos 7 ∷ []) [] [] [] ≡ outcome (refuses (plain 11)) (pos 0 ∷ []) [] [] []
-unfolding cdlpCall leftBy kernelSays goodRounds soundSides soundGraph soundIds soundSide soundOffsets mirrored every each mem targetsBetween partOf
+unfolding cdlpCall leftBy kernelSays goodRounds soundSides soundGraph soundIds soundSide soundOffsets mirrored every each mem targetsBetween
+    partOf
 too-many = refl
 
-pub too-short : cdlpCall sheetGraph (pos 1000) (pos 7 ∷ []) (3 ∷ []) [] [] ≡ outcome (refuses (plain 8)) (pos 0 ∷ []) (0 ∷ []) [] []
+pub too-short : cdlpCall sheetGraph (pos mostRounds) (pos 7 ∷ []) (3 ∷ []) [] [] ≡ outcome (refuses (plain 8)) (pos 0 ∷ []) (0 ∷ []) [] []
 unfolding cdlpCall leftBy kernelSays goodRounds roomFor soundSides soundGraph soundIds soundSide soundOffsets mirrored every each mem
     targetsBetween partOf
 too-short = refl

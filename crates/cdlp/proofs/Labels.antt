@@ -1,34 +1,21 @@
 -- What the definition of the next label says: it is the chosen one, and there is only one. Assumes nothing.
-use Prim.Native.Nat.{ℕ, zero, suc, _+_, _≤_, _<_}
+use Prim.Native.Nat.{ℕ, zero, suc, _+_, _≤_, _<_, max}
 use mathlib.Core.Path.{_≡_, refl, sym, _∙_, subst}
 use mathlib.Core.Bool.{Bool, true, false, cond}
 use mathlib.Core.List.{List, [], _∷_, _++_}
 use native.Mathlib.Omega.{arith}
-use native.Mathlib.Nat.{not-suc-le-zero}
+use native.Mathlib.Nat.{not-suc-le-zero, le-max-left, le-max-right}
 use lib.Dec.{eqb, ltb}
 use borrow.Author.Tests.{ltb-true, ltb-false, eqb-true, eq-eqb}
+use Rattle.basis.specs.Scan.{bit}
 use Rattle.basis.proofs.Orders.{Order}
-use Rattle.cdlp.specs.Label.{one, larger, times, mostTimes, standing, mostCommon, smallest, smallestOr, nextLabel}
+use Rattle.cdlp.specs.Label.{times, mostTimes, standing, mostCommon, smallest, smallestOr, nextLabel}
 
 -- what is chosen: a label that stands there, none stands there more often, and none that stands there as often is smaller
 pub record Chosen {A : Type 0} (same less : A → A → Bool) (ls : List A) (w : A) : Type 0 where
   pub among : 0 < times same w ls
   pub most : (x : A) → times same x ls ≤ times same w ls
   pub least : (x : A) → times same x ls ≡ times same w ls → less x w ≡ false
-
-larger-left : (a b : ℕ) → a ≤ larger a b
-larger-left a b = go (ltb a b) refl
-  where
-    go : (t : Bool) → ltb a b ≡ t → a ≤ cond t b a
-    go true h = let l = ltb-true a b h in omega arith
-    go false h = omega arith
-
-larger-right : (a b : ℕ) → b ≤ larger a b
-larger-right a b = go (ltb a b) refl
-  where
-    go : (t : Bool) → ltb a b ≡ t → b ≤ cond t b a
-    go true h = omega arith
-    go false h = ltb-false a b h
 
 module _ {A : Type 0} {same less : A → A → Bool} (order : Order same less) where
   times-none : (x : A) → 0 < times same x [] → ⊥
@@ -48,7 +35,7 @@ module _ {A : Type 0} {same less : A → A → Bool} (order : Order same less) w
   unfolding times
   times-case P x c cs h p q = go (same x c) refl h
     where
-      go : (t : Bool) → same x c ≡ t → 0 < one t + times same x cs → P x
+      go : (t : Bool) → same x c ≡ t → 0 < bit t + times same x cs → P x
       go true e l = subst P (sym (order .same-eq x c e)) p
       go false e l = q (omega arith)
 
@@ -56,9 +43,9 @@ module _ {A : Type 0} {same less : A → A → Bool} (order : Order same less) w
   unfolding mostTimes
   most-ge ls [] x h = absurd (times-none x h)
   most-ge ls (c ∷ cs) x h =
-      times-case (λ y. times same y ls ≤ larger (times same c ls) (mostTimes same ls cs)) x c cs h
-      (larger-left (times same c ls) (mostTimes same ls cs))
-      (λ l. let a = most-ge ls cs x l in let b = larger-right (times same c ls) (mostTimes same ls cs) in omega arith)
+      times-case (λ y. times same y ls ≤ max (times same c ls) (mostTimes same ls cs)) x c cs h
+      (le-max-left (times same c ls) (mostTimes same ls cs))
+      (λ l. let a = most-ge ls cs x l in let b = le-max-right (times same c ls) (mostTimes same ls cs) in omega arith)
 
   most-bound : (ls : List A) (x : A) → times same x ls ≤ mostTimes same ls ls
   most-bound ls x = go (times same x ls) refl
@@ -74,11 +61,16 @@ module _ {A : Type 0} {same less : A → A → Bool} (order : Order same less) w
     where
       go : (t : Bool) → ltb (times same c ls) (mostTimes same ls cs) ≡ t
           → (0 < mostTimes same ls cs → (x : A) × (0 < times same x cs) × (times same x ls ≡ mostTimes same ls cs))
-          → (x : A) × (0 < times same x (c ∷ cs)) × (times same x ls ≡ cond t (mostTimes same ls cs) (times same c ls))
+          → (x : A) × (0 < times same x (c ∷ cs)) × (times same x ls ≡ max (times same c ls) (mostTimes same ls cs))
       go true e r =
-          let l = ltb-true (times same c ls) (mostTimes same ls cs) e in let s = r (omega arith) in
-          (s .0, times-there (s .0) c cs (s .1), s .2)
-      go false e r = (c, times-here c cs, refl)
+          let l = ltb-true (times same c ls) (mostTimes same ls cs) e in
+          let s = r (omega arith) in
+          let m : mostTimes same ls cs ≡ max (times same c ls) (mostTimes same ls cs) = omega arith in
+          (s .0, times-there (s .0) c cs (s .1), s .2 ∙ m)
+      go false e r =
+          let l = ltb-false (times same c ls) (mostTimes same ls cs) e in
+          let m : times same c ls ≡ max (times same c ls) (mostTimes same ls cs) = omega arith in
+          (c, times-here c cs, m)
 
   standing-at : (k : ℕ) (ls cs : List A) (x : A) → 0 < times same x (standing same k ls cs) → (times same x ls ≡ k) × (0 < times same x cs)
   unfolding standing

@@ -1,9 +1,9 @@
--- Laws of the CDLP kernel: `Meaning` says what the definition means, `Examples` has P6 and P8.
+-- Laws of the CDLP kernel: `Meaning` says what the definition means, `Examples` has calls, computed.
 pub mod Lists
 pub mod Labels
-pub mod Tallies
+pub mod Polls
 pub mod Names
-pub mod Boards
+pub mod Turns
 pub mod Runs
 pub mod Calls
 pub mod Meaning

@@ -11,7 +11,7 @@ use lib.Signed.{ltZ}
 use lib.ListN.{length, getD}
 use borrow.Author.Tests.{le-ltb}
 use Rattle.basis.specs.Order.{sameZ}
-use Rattle.basis.specs.Scan.{allBelow}
+use Rattle.basis.specs.Scan.{allBelow, bit}
 use Rattle.basis.proofs.Tests.{no-case}
 use Rattle.basis.proofs.Scans.{below-first, below-rest}
 use Rattle.basis.proofs.Areas.{column-at, column-ext}
@@ -20,14 +20,14 @@ use Rattle.graph.specs.Sound.{Graph, inward, outward, names, soundGraph, Undire
 use Rattle.graph.proofs.Sounds.{sound-of, inward-below, outward-below, same-neighbours}
 use Rattle.kernels.specs.Answer.{kernelSays}
 use Rattle.kernels.proofs.Results.{pad-value, pad-behind}
-use Rattle.cdlp.specs.Label.{one, times, standing, mostCommon, smallestOr, nextLabel}
+use Rattle.cdlp.specs.Label.{times, standing, mostCommon, smallestOr, nextLabel}
 use Rattle.cdlp.specs.Rounds.{around, labelsAt, nextAt, oneRound, rounds, cdlpOf}
-use Rattle.cdlp.specs.Promise.{goodRounds, roomFor, leftBy, cdlpCall}
+use Rattle.cdlp.specs.Call.{mostRounds, goodRounds, roomFor, leftBy, cdlpCall}
 use Rattle.cdlp.specs.Meaning.{bearers, frequency, Next, Labels, Done, Called, heardOnce}
 use Rattle.cdlp.proofs.Labels.{Chosen, next-chosen, times-append, next-twice}
 use Rattle.cdlp.proofs.Lists.{labels-append}
 use Rattle.cdlp.proofs.Runs.{cdlp-length}
-use Rattle.cdlp.proofs.Calls.{allowed-within, roomy-of}
+use Rattle.cdlp.proofs.Calls.{allowed-within, rooms-of}
 
 module _ (g : Graph) where
   -- the label of v after k rounds, L_k (v)
@@ -81,7 +81,7 @@ byPlace L v = getD L v (pos 0)
 bearers-times : (L : List ℤ) (l : ℤ) (us : List ℕ) → bearers (byPlace L) l us ≡ times sameZ l (labelsAt (pos 0) L us)
 unfolding bearers times labelsAt
 bearers-times L l [] = refl
-bearers-times L l (u ∷ us) = ap (λ (k : ℕ). one (sameZ l (byPlace L u)) + k) (bearers-times L l us)
+bearers-times L l (u ∷ us) = ap (λ (k : ℕ). bit (sameZ l (byPlace L u)) + k) (bearers-times L l us)
 
 module _ (g : Graph) (k : ℕ) where
   frequency-times : (v : ℕ) (x : ℤ) → frequency g (label g k) v x ≡ times sameZ x (heardBy g k v)
@@ -145,7 +145,7 @@ bearers-same : (n : ℕ) (L M : ℕ → ℤ) → ((u : ℕ) → u < n → L u �
 unfolding bearers
 bearers-same n L M e l [] h = refl
 bearers-same n L M e l (u ∷ us) h =
-    ap₂ (λ (z : ℤ) (k : ℕ). one (sameZ l z) + k) (e u (below-first n u us h)) (bearers-same n L M e l us (below-rest n u us h))
+    ap₂ (λ (z : ℤ) (k : ℕ). bit (sameZ l z) + k) (e u (below-first n u us h)) (bearers-same n L M e l us (below-rest n u us h))
 
 next-same : (g : Graph) → Sound g → (L M : ℕ → ℤ) → ((u : ℕ) → u < g .vertices → L u ≡ M u) → (v : ℕ) → v < g .vertices → (x : ℤ)
     → Next g L v x → Next g M v x
@@ -168,14 +168,14 @@ labels-only g s (suc k) L h v l =
 
 -- ---- the call
 module _ (g : Graph) (z : ℤ) (R : List ℤ) (L N C : List ℕ) where
-  call-done : soundGraph g ≡ true → (k : ℕ) → z ≡ pos k → k ≤ 1000 → roomFor (g .vertices) R L N C ≡ true
+  call-done : soundGraph g ≡ true → (k : ℕ) → z ≡ pos k → k ≤ mostRounds → roomFor (g .vertices) R L N C ≡ true
       → Done g k R L N C (cdlpCall g z R L N C)
   unfolding cdlpCall leftBy kernelSays
   call-done s k e h r =
       let n = g .vertices in
-      let good : goodRounds (pos k) ≡ true = sym (allowed-within (pos k) (le-ltb k 0 (omega arith)) (le-ltb 1000 k h)) in
+      let good : goodRounds (pos k) ≡ true = sym (allowed-within (pos k) (le-ltb k 0 (omega arith)) (le-ltb mostRounds k h)) in
       let len = cdlp-length g (sound-of g s) k in
-      let fit = roomy-of n R L N C r .result in
+      let fit = rooms-of n R L N C r .result in
       rw (e, s, good, r)
       (record {
         answer = refl;

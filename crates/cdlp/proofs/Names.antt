@@ -1,19 +1,19 @@
 -- Labels as vertex numbers and labels as names: rounds on the one are rounds on the other. Assumes nothing.
-use Prim.Native.Nat.{ℕ, zero, suc, _+_, _<_}
+use Prim.Native.Nat.{ℕ, zero, suc, _+_, _<_, max}
 use mathlib.Core.Path.{_≡_, refl, sym, ap, ap₂, _∙_, subst}
 use mathlib.Core.Bool.{Bool, true, false, cond}
 use mathlib.Core.List.{List, [], _∷_}
 use native.Mathlib.Omega.{arith}
 use lib.ListN.{length, getD}
 use lib.Dec.{eqb, ltb}
+use Rattle.basis.specs.Area.{ownNumbers}
 use Rattle.basis.specs.Order.{risingBy}
 use Rattle.basis.proofs.Areas.{column-length, column-is}
 use Rattle.basis.proofs.Orders.{Order, less-places, same-places}
-use Rattle.basis.specs.Scan.{allBelow}
+use Rattle.basis.specs.Scan.{allBelow, bit}
 use Rattle.basis.proofs.Scans.{below-at, below-none, below-more, below-first, below-rest}
-use Rattle.cdlp.specs.Label.{one, larger, times, mostTimes, standing, mostCommon, smallest, smallestOr, nextLabel}
+use Rattle.cdlp.specs.Label.{times, mostTimes, standing, mostCommon, smallest, smallestOr, nextLabel}
 use Rattle.cdlp.specs.Rounds.{labelsAt, nextAt, oneRound, rounds}
-use Rattle.cdlp.specs.Steps.{itself, upTo}
 use Rattle.cdlp.proofs.Lists.{labels-low, labels-at, column-low, column-labels}
 
 -- the next label of numbers below n is below n
@@ -45,27 +45,26 @@ next-low : (n own : ℕ) (ls : List ℕ) → own < n → allBelow n ls ≡ true 
 unfolding nextLabel mostCommon
 next-low n own ls h g = smallestOr-low n own (standing eqb (mostTimes eqb ls ls) ls ls) h (standing-low n (mostTimes eqb ls ls) ls ls g)
 
-module _ (near : ℕ → List ℕ) (n : ℕ) (inside : (v : ℕ) → v < n → allBelow n (near v) ≡ true) where
-  round-low : (L : List ℕ) → length L ≡ n → allBelow n L ≡ true → allBelow n (oneRound eqb ltb 0 near n L) ≡ true
+module _ (hears : ℕ → List ℕ) (n : ℕ) (inside : (v : ℕ) → v < n → allBelow n (hears v) ≡ true) where
+  round-low : (L : List ℕ) → length L ≡ n → allBelow n L ≡ true → allBelow n (oneRound eqb ltb 0 hears n L) ≡ true
   unfolding oneRound nextAt
   round-low L e h =
-      column-low (nextAt eqb ltb 0 near n L) n n
-      (λ v l. next-low n (getD L v 0) (labelsAt 0 L (near v)) (below-at n L h v (omega arith))
-      (labels-low n L (near v) (subst (λ (m : ℕ). allBelow m (near v) ≡ true) (sym e) (inside v l)) h))
+      column-low (nextAt eqb ltb 0 hears n L) n n
+      (λ v l. next-low n (getD L v 0) (labelsAt 0 L (hears v)) (below-at n L h v (omega arith))
+      (labels-low n L (hears v) (subst (λ (m : ℕ). allBelow m (hears v) ≡ true) (sym e) (inside v l)) h))
 
-  pub rounds-length : (L : List ℕ) (k : ℕ) → length L ≡ n → length (rounds eqb ltb 0 near n L k) ≡ n
+  pub rounds-length : (L : List ℕ) (k : ℕ) → length L ≡ n → length (rounds eqb ltb 0 hears n L k) ≡ n
   unfolding rounds oneRound
   rounds-length L zero e = e
-  rounds-length L (suc k) e = column-length (nextAt eqb ltb 0 near n (rounds eqb ltb 0 near n L k)) 0 n
+  rounds-length L (suc k) e = column-length (nextAt eqb ltb 0 hears n (rounds eqb ltb 0 hears n L k)) 0 n
 
-  pub rounds-low : (L : List ℕ) (k : ℕ) → length L ≡ n → allBelow n L ≡ true → allBelow n (rounds eqb ltb 0 near n L k) ≡ true
+  pub rounds-low : (L : List ℕ) (k : ℕ) → length L ≡ n → allBelow n L ≡ true → allBelow n (rounds eqb ltb 0 hears n L k) ≡ true
   unfolding rounds
   rounds-low L zero e h = h
-  rounds-low L (suc k) e h = round-low (rounds eqb ltb 0 near n L k) (rounds-length L k e) (rounds-low L k e h)
+  rounds-low L (suc k) e h = round-low (rounds eqb ltb 0 hears n L k) (rounds-length L k e) (rounds-low L k e h)
 
-pub upTo-low : (n : ℕ) → allBelow n (upTo n) ≡ true
-unfolding upTo
-upTo-low n = column-low itself n n (λ v l. l)
+pub own-low : (n : ℕ) → allBelow n (ownNumbers n) ≡ true
+own-low n = column-low (λ (v : ℕ). v) n n (λ v l. l)
 
 -- names that rise: their tests are those of their places
 module _ {B : Type 0} {same less : B → B → Bool} (order : Order same less) (z : B) (F : List B) (r : risingBy less F ≡ true) where
@@ -76,13 +75,13 @@ module _ {B : Type 0} {same less : B → B → Bool} (order : Order same less) (
   unfolding times labelsAt
   times-named x [] h g = refl
   times-named x (l ∷ ls) h g =
-      ap₂ (λ t k. one t + k) (same-places order z F r x l h (below-first n l ls g)) (times-named x ls h (below-rest n l ls g))
+      ap₂ (λ t k. bit t + k) (same-places order z F r x l h (below-first n l ls g)) (times-named x ls h (below-rest n l ls g))
 
   most-named : (ls cs : List ℕ) → allBelow n ls ≡ true → allBelow n cs ≡ true
       → mostTimes same (labelsAt z F ls) (labelsAt z F cs) ≡ mostTimes eqb ls cs
   unfolding mostTimes labelsAt
   most-named ls [] h g = refl
-  most-named ls (c ∷ cs) h g = ap₂ larger (times-named c ls (below-first n c cs g) h) (most-named ls cs h (below-rest n c cs g))
+  most-named ls (c ∷ cs) h g = ap₂ max (times-named c ls (below-first n c cs g) h) (most-named ls cs h (below-rest n c cs g))
 
   standing-named : (k : ℕ) (ls cs : List ℕ) → allBelow n ls ≡ true → allBelow n cs ≡ true
       → standing same k (labelsAt z F ls) (labelsAt z F cs) ≡ labelsAt z F (standing eqb k ls cs)
@@ -135,34 +134,33 @@ module _ {B : Type 0} {same less : B → B → Bool} (order : Order same less) (
   labels-named L (u ∷ us) h =
       ap₂ (λ x t. x ∷ t) (labels-at z F L u (below-first (length L) u us h)) (labels-named L us (below-rest (length L) u us h))
 
-  module _ (near : ℕ → List ℕ) (inside : (v : ℕ) → v < n → allBelow n (near v) ≡ true) where
+  module _ (hears : ℕ → List ℕ) (inside : (v : ℕ) → v < n → allBelow n (hears v) ≡ true) where
     round-named : (L : List ℕ) → length L ≡ n → allBelow n L ≡ true
-        → oneRound same less z near n (labelsAt z F L) ≡ labelsAt z F (oneRound eqb ltb 0 near n L)
+        → oneRound same less z hears n (labelsAt z F L) ≡ labelsAt z F (oneRound eqb ltb 0 hears n L)
     unfolding oneRound nextAt
     round-named L e h =
-        column-labels z F (nextAt same less z near n (labelsAt z F L)) (nextAt eqb ltb 0 near n L) 0 n n (omega arith)
+        column-labels z F (nextAt same less z hears n (labelsAt z F L)) (nextAt eqb ltb 0 hears n L) 0 n n (omega arith)
         (λ v l.
         let w : v < length L = omega arith in
-        let m : allBelow (length L) (near v) ≡ true = subst (λ (k : ℕ). allBelow k (near v) ≡ true) (sym e) (inside v l) in
-        ap₂ (nextLabel same less) (labels-at z F L v w) (labels-named L (near v) m)
-        ∙ next-named (getD L v 0) (labelsAt 0 L (near v)) (below-at n L h v w) (labels-low n L (near v) m h))
+        let m : allBelow (length L) (hears v) ≡ true = subst (λ (k : ℕ). allBelow k (hears v) ≡ true) (sym e) (inside v l) in
+        ap₂ (nextLabel same less) (labels-at z F L v w) (labels-named L (hears v) m)
+        ∙ next-named (getD L v 0) (labelsAt 0 L (hears v)) (below-at n L h v w) (labels-low n L (hears v) m h))
 
     rounds-named : (L : List ℕ) (k : ℕ) → length L ≡ n → allBelow n L ≡ true
-        → rounds same less z near n (labelsAt z F L) k ≡ labelsAt z F (rounds eqb ltb 0 near n L k)
+        → rounds same less z hears n (labelsAt z F L) k ≡ labelsAt z F (rounds eqb ltb 0 hears n L k)
     unfolding rounds
     rounds-named L zero e h = refl
     rounds-named L (suc k) e h =
-        ap (oneRound same less z near n) (rounds-named L k e h)
-        ∙ round-named (rounds eqb ltb 0 near n L k) (rounds-length near n inside L k e) (rounds-low near n inside L k e h)
+        ap (oneRound same less z hears n) (rounds-named L k e h)
+        ∙ round-named (rounds eqb ltb 0 hears n L k) (rounds-length hears n inside L k e) (rounds-low hears n inside L k e h)
 
-    named-all : labelsAt z F (upTo n) ≡ F
-    unfolding upTo
+    named-all : labelsAt z F (ownNumbers n) ≡ F
     named-all =
-        sym (column-labels z F (λ i. getD F i z) itself 0 n n (omega arith) (λ v l. refl))
+        sym (column-labels z F (λ i. getD F i z) (λ (v : ℕ). v) 0 n n (omega arith) (λ v l. refl))
         ∙ column-is (λ i. getD F i z) z F n refl (λ i h. refl)
 
     -- rounds on vertex numbers, named in the end, are rounds on names
-    pub numbers-named : (k : ℕ) → labelsAt z F (rounds eqb ltb 0 near n (upTo n) k) ≡ rounds same less z near n F k
-    unfolding upTo
+    pub numbers-named : (k : ℕ) → labelsAt z F (rounds eqb ltb 0 hears n (ownNumbers n) k) ≡ rounds same less z hears n F k
     numbers-named k =
-        sym (rounds-named (upTo n) k (column-length itself 0 n) (upTo-low n)) ∙ ap (λ L. rounds same less z near n L k) named-all
+        sym (rounds-named (ownNumbers n) k (column-length (λ (v : ℕ). v) 0 n) (own-low n))
+        ∙ ap (λ L. rounds same less z hears n L k) named-all

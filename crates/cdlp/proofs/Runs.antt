@@ -9,7 +9,7 @@ use lib.Signed.{ltZ}
 use lib.ListN.{length, replicate, length-replicate}
 use lib.Dec.{eqb, ltb}
 use Rattle.basis.specs.Order.{sameZ}
-use Rattle.basis.specs.Area.{cleared}
+use Rattle.basis.specs.Area.{ownNumbers, cleared}
 use Rattle.basis.proofs.Areas.{column-length}
 use Rattle.basis.proofs.Orders.{signed-order}
 use Rattle.basis.specs.Scan.{allBelow}
@@ -18,13 +18,13 @@ use Rattle.graph.specs.declared.Size.{Size}
 use Rattle.graph.specs.Sound.{Graph, lent, inward, outward, names, Sound}
 use Rattle.graph.proofs.Sounds.{sound-of, names-length, inward-below, outward-below, inward-few, outward-few}
 use Rattle.cdlp.specs.Rounds.{around, labelsAt, oneRound, rounds, cdlpOf}
-use Rattle.cdlp.specs.Steps.{Inside, Board, near, numbersAfter, itself, upTo, Ready, Nameable}
+use Rattle.cdlp.specs.Steps.{AllBounded, Runnable, aroundIn, numbersAfter, Fitting, Nameable}
 use Rattle.cdlp.proofs.Lists.{labels-front}
-use Rattle.cdlp.proofs.Names.{rounds-low, rounds-length, upTo-low, numbers-named}
-use Rattle.cdlp.proofs.Boards.{near-low}
+use Rattle.cdlp.proofs.Names.{rounds-low, rounds-length, own-low, numbers-named}
+use Rattle.cdlp.proofs.Turns.{around-low}
 
 -- the arcs of a sound graph stay inside
-pub sound-inside : (g : Graph) → Sound g → Inside (g .vertices) (g .inOffsets) (g .inSources) (g .outOffsets) (g .outTargets)
+pub sound-inside : (g : Graph) → Sound g → AllBounded (g .vertices) (g .inOffsets) (g .inSources) (g .outOffsets) (g .outTargets)
 sound-inside g s v l =
     let few = s .fewVertices in
     let a = inward-few g s v l in
@@ -44,18 +44,19 @@ cdlp-length g s (suc k) = column-length _ 0 (g .vertices)
 
 -- labels are identifiers of the graph: those of the vertices that rounds on vertex numbers give
 pub cdlp-numbers : (g : Graph) → Sound g → (k : ℕ)
-    → labelsAt (pos 0) (names g) (rounds eqb ltb 0 (around (inward g) (outward g)) (g .vertices) (upTo (g .vertices)) k) ≡ cdlpOf g k
+    → labelsAt (pos 0) (names g) (rounds eqb ltb 0 (around (inward g) (outward g)) (g .vertices) (ownNumbers (g .vertices)) k) ≡ cdlpOf g k
 unfolding cdlpOf
 cdlp-numbers g s k =
-    let near : ℕ → List ℕ = around (inward g) (outward g) in
+    let hears : ℕ → List ℕ = around (inward g) (outward g) in
     let n = names-length g s in
-    subst (λ (j : ℕ). labelsAt (pos 0) (names g) (rounds eqb ltb 0 near j (upTo j) k) ≡ rounds sameZ ltZ (pos 0) near j (names g) k) n
-    (numbers-named signed-order (pos 0) (names g) (s .idsRise) near
-    (λ v l. subst (λ (j : ℕ). allBelow j (near v) ≡ true) (sym n)
-    (near-low (g .vertices) (g .inOffsets) (g .inSources) (g .outOffsets) (g .outTargets) (sound-inside g s) v (omega arith))) k)
+    subst (λ (j : ℕ). labelsAt (pos 0) (names g) (rounds eqb ltb 0 hears j (ownNumbers j) k) ≡ rounds sameZ ltZ (pos 0) hears j (names g) k)
+    n
+    (numbers-named signed-order (pos 0) (names g) (s .idsRise) hears
+    (λ v l. subst (λ (j : ℕ). allBelow j (hears v) ≡ true) (sym n)
+    (around-low (g .vertices) (g .inOffsets) (g .inSources) (g .outOffsets) (g .outTargets) (sound-inside g s) v (omega arith))) k)
 
-module _ {size : Size} {ids : List ℤ} {oo ot io is : List ℕ} {R : List ℤ} {L N C L₁ C₁ : List ℕ} (x : Ready size ids oo ot io is R L N C)
-    (e₁ : L₁ ≡ upTo (length L)) (e₂ : C₁ ≡ cleared C) where
+module _ {size : Size} {ids : List ℤ} {oo ot io is : List ℕ} {R : List ℤ} {L N C L₁ C₁ : List ℕ} (x : Fitting size ids oo ot io is R L N C)
+    (e₁ : L₁ ≡ ownNumbers (length L)) (e₂ : C₁ ≡ cleared C) where
   abbrev g : Graph
   g = lent size ids oo ot io is
 
@@ -65,45 +66,44 @@ module _ {size : Size} {ids : List ℤ} {oo ot io is : List ℕ} {R : List ℤ} 
   s : Sound g
   s = sound-of g (x .sound)
 
-  numbers : L₁ ≡ upTo n
-  numbers = e₁ ∙ ap upTo (x .roomLabels)
+  numbers : L₁ ≡ ownNumbers n
+  numbers = e₁ ∙ ap ownNumbers (x .roomLabels)
 
-  upTo-length : length (upTo n) ≡ n
-  unfolding upTo
-  upTo-length = column-length itself 0 n
+  own-length : length (ownNumbers n) ≡ n
+  own-length = column-length (λ (v : ℕ). v) 0 n
 
   numbers-length : length L₁ ≡ n
-  numbers-length = ap length numbers ∙ upTo-length
+  numbers-length = ap length numbers ∙ own-length
 
-  pub run-board : Board io is oo ot L₁ N C₁
-  run-board =
+  pub run-runnable : Runnable io is oo ot L₁ N C₁
+  run-runnable =
       let c : length C₁ ≡ length C = ap length e₂ ∙ length-replicate (length C) 0 in
       record {
-        inside = subst (λ (k : ℕ). Inside k io is oo ot) (sym numbers-length) (sound-inside g s);
+        inside = subst (λ (k : ℕ). AllBounded k io is oo ot) (sym numbers-length) (sound-inside g s);
         lowLabels =
             subst (λ (k : ℕ). allBelow k L₁ ≡ true) (sym numbers-length)
-            (subst (λ (l : List ℕ). allBelow n l ≡ true) (sym numbers) (upTo-low n));
+            (subst (λ (l : List ℕ). allBelow n l ≡ true) (sym numbers) (own-low n));
         roomNext = x .roomNext ∙ sym numbers-length;
         roomCounts = c ∙ x .roomCounts ∙ sym numbers-length;
         fresh = e₂ ∙ ap (λ (k : ℕ). replicate k 0) (sym c);
       }
 
   module _ {L₂ : List ℕ} (k : ℕ) (e₃ : L₂ ≡ numbersAfter io is oo ot L₁ k) where
-    nears : (v : ℕ) → v < n → allBelow n (near n io is oo ot v) ≡ true
-    nears = near-low n io is oo ot (sound-inside g s)
+    nears : (v : ℕ) → v < n → allBelow n (aroundIn n io is oo ot v) ≡ true
+    nears = around-low n io is oo ot (sound-inside g s)
 
-    run : L₂ ≡ rounds eqb ltb 0 (near n io is oo ot) n (upTo n) k
-    run = e₃ ∙ ap₂ (λ j M. rounds eqb ltb 0 (near j io is oo ot) j M k) numbers-length numbers
+    run : L₂ ≡ rounds eqb ltb 0 (aroundIn n io is oo ot) n (ownNumbers n) k
+    run = e₃ ∙ ap₂ (λ j M. rounds eqb ltb 0 (aroundIn j io is oo ot) j M k) numbers-length numbers
 
     low : allBelow n L₂ ≡ true
     low = subst (λ (l : List ℕ). allBelow n l ≡ true) (sym run)
-        (rounds-low (near n io is oo ot) n nears (upTo n) k upTo-length (upTo-low n))
+        (rounds-low (aroundIn n io is oo ot) n nears (ownNumbers n) k own-length (own-low n))
 
     pub run-nameable : Nameable ids L₂ R
     run-nameable =
         record {
           lowLabels = below-up n (length ids) L₂ (s .idsRoom) low;
-          roomResult = x .roomResult ∙ sym (ap length run ∙ rounds-length (near n io is oo ot) n nears (upTo n) k upTo-length);
+          roomResult = x .roomResult ∙ sym (ap length run ∙ rounds-length (aroundIn n io is oo ot) n nears (ownNumbers n) k own-length);
         }
 
     pub run-named : {X : List ℤ} → X ≡ labelsAt (pos 0) ids L₂ → X ≡ cdlpOf g k

@@ -1,29 +1,21 @@
 -- 01 "Kernels" and document 000, 2.3.4: a vertex's next label, from the labels of its neighbours.
-use Prim.Native.Nat.{ℕ, _+_}
-use mathlib.Core.Bool.{Bool, true, false, cond}
+use Prim.Native.Nat.{ℕ, _+_, max}
+use mathlib.Core.Bool.{Bool, cond}
 use mathlib.Core.List.{List, [], _∷_}
-use lib.Dec.{eqb, ltb}
-
--- a test as a number to count with: 1 where it holds, else 0
-abbrev pub one : Bool → ℕ
-one true = 1
-one false = 0
-
--- the larger of two numbers
-abbrev pub larger : ℕ → ℕ → ℕ
-larger a b = cond (ltb a b) b a
+use lib.Dec.{eqb}
+use Rattle.basis.specs.Scan.{bit}
 
 -- labels of any kind, with a test for equal ones
 module _ {A : Type 0} (same : A → A → Bool) where
   -- "the frequency": how many of the labels are l
   unfoldable pub times : A → List A → ℕ
   times l [] = 0
-  times l (x ∷ ls) = one (same l x) + times l ls
+  times l (x ∷ ls) = bit (same l x) + times l ls
 
   -- "the maximum frequency": the greatest number of times that one of cs stands in ls
   unfoldable pub mostTimes : List A → List A → ℕ
   mostTimes ls [] = 0
-  mostTimes ls (c ∷ cs) = larger (times c ls) (mostTimes ls cs)
+  mostTimes ls (c ∷ cs) = max (times c ls) (mostTimes ls cs)
 
   -- those of cs that stand k times in ls
   unfoldable pub standing : ℕ → List A → List A → List A
@@ -34,7 +26,7 @@ module _ {A : Type 0} (same : A → A → Bool) where
   unfoldable pub mostCommon : List A → List A
   mostCommon ls = standing (mostTimes ls ls) ls ls
 
--- and a test for smaller ones
+-- labels of any kind, with a test for smaller ones
 module _ {A : Type 0} (less : A → A → Bool) where
   -- min: the smallest of a and cs
   unfoldable pub smallest : A → List A → A

@@ -6,19 +6,19 @@ use mathlib.Core.List.{List, [], _∷_}
 use lib.IntN.{ℤ, pos}
 use lib.Signed.{ltZ}
 use lib.ListN.{length, getD}
-use Rattle.basis.specs.Refusal.{gives, refuses, plain, unsound, noRoom, badRounds}
-use Rattle.basis.specs.Area.{cleared, clearedZ}
+use Rattle.basis.specs.Refusal.{gives, unsound, noRoom, badRounds}
+use Rattle.basis.specs.Area.{cleared}
 use Rattle.basis.specs.Order.{sameZ}
+use Rattle.basis.specs.Scan.{bit}
 use Rattle.graph.specs.Sound.{Graph, inward, outward, names, soundGraph}
 use Rattle.kernels.specs.Result.{ZeroBehind}
-use Rattle.cdlp.specs.Label.{one}
 use Rattle.cdlp.specs.Rounds.{rounds}
-use Rattle.cdlp.specs.Promise.{mostRounds, goodRounds, roomFor, Outcome, outcome}
+use Rattle.cdlp.specs.Call.{Outcome, refusal, mostRounds, goodRounds, roomFor}
 
 -- in (2.5): how many of the vertices us have the label l, where L gives each vertex its label
 unfoldable pub bearers : (ℕ → ℤ) → ℤ → List ℕ → ℕ
 bearers L l [] = 0
-bearers L l (u ∷ us) = one (sameZ l (L u)) + bearers L l us
+bearers L l (u ∷ us) = bit (sameZ l (L u)) + bearers L l us
 
 -- "the frequency of the labels of its incoming and outgoing neighbors": the sum in (2.5)
 abbrev pub frequency : Graph → (ℕ → ℤ) → ℕ → ℤ → ℕ
@@ -48,11 +48,10 @@ pub record Done (g : Graph) (k : ℕ) (R : List ℤ) (L N C : List ℕ) (o : Out
 
 -- what a call means, refusals included; R, L, N and C stood in the result area and the three working areas before it
 pub record Called (g : Graph) (z : ℤ) (R : List ℤ) (L N C : List ℕ) (o : Outcome) : Type 0 where
-  pub notSound : soundGraph g ≡ false → o ≡ outcome (refuses (plain unsound)) (clearedZ R) (cleared L) (cleared N) (cleared C)
-  pub outside : soundGraph g ≡ true → goodRounds z ≡ false
-      → o ≡ outcome (refuses (plain badRounds)) (clearedZ R) (cleared L) (cleared N) (cleared C)
+  pub notSound : soundGraph g ≡ false → o ≡ refusal unsound R L N C
+  pub outside : soundGraph g ≡ true → goodRounds z ≡ false → o ≡ refusal badRounds R L N C
   pub short : soundGraph g ≡ true → goodRounds z ≡ true → roomFor (g .vertices) R L N C ≡ false
-      → o ≡ outcome (refuses (plain noRoom)) (clearedZ R) (cleared L) (cleared N) (cleared C)
+      → o ≡ refusal noRoom R L N C
   pub done : soundGraph g ≡ true → (k : ℕ) → z ≡ pos k → k ≤ mostRounds → roomFor (g .vertices) R L N C ≡ true → Done g k R L N C o
 
 -- the labels after k rounds in which each neighbour of an undirected graph is heard once

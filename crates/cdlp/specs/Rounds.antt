@@ -19,11 +19,11 @@ unfoldable pub labelsAt : {A : Type 0} → A → List A → List ℕ → List A
 labelsAt none L [] = []
 labelsAt none L (u ∷ us) = getD L u none ∷ labelsAt none L us
 
--- n vertices with their neighbours, and labels of any kind with tests for equal and for smaller ones
-module _ {A : Type 0} (same less : A → A → Bool) (none : A) (near : ℕ → List ℕ) (n : ℕ) where
+-- n vertices with the neighbours that each hears, and labels of any kind with tests for equal and for smaller ones
+module _ {A : Type 0} (same less : A → A → Bool) (none : A) (hears : ℕ → List ℕ) (n : ℕ) where
   -- (2.5): the next label of v, from the labels L of the round before
   unfoldable pub nextAt : List A → ℕ → A
-  nextAt L v = nextLabel same less (getD L v none) (labelsAt none L (near v))
+  nextAt L v = nextLabel same less (getD L v none) (labelsAt none L (hears v))
 
   -- "Each round uses only the round before"
   unfoldable pub oneRound : List A → List A

@@ -1,4 +1,4 @@
--- What the private functions do and need, on vertex numbers as labels.
+-- What the kernel's private functions do and need; inside the rounds labels are vertex numbers.
 use Prim.Native.Nat.{ℕ, _+_, _≤_, _<_}
 use mathlib.Core.Bool.{true, cond}
 use mathlib.Core.List.{List, [], _∷_}
@@ -6,13 +6,19 @@ use mathlib.Core.Path.{_≡_}
 use lib.IntN.{ℤ}
 use lib.ListN.{length, getD, set, replicate}
 use lib.Dec.{eqb, ltb}
-use Rattle.basis.specs.Area.{column}
+use Rattle.basis.specs.Limits.{mostVertices}
 use Rattle.basis.specs.Scan.{allBelow}
 use Rattle.graph.specs.declared.Size.{Size}
 use Rattle.graph.specs.Part.{partOf}
-use Rattle.graph.specs.Sound.{lent, soundGraph}
+use Rattle.graph.specs.Sound.{Graph, lent, soundGraph}
+use Rattle.cdlp.specs.Call.{roomFor}
 use Rattle.cdlp.specs.Rounds.{around, oneRound, rounds}
 use Rattle.cdlp.specs.declared.label.Best.{Best}
+
+-- the areas can be filled: the graph is sound, and each area has room for its vertices
+pub record Ready (g : Graph) (result : List ℤ) (labels next counts : List ℕ) : Type 0 where
+  pub sound : soundGraph g ≡ true
+  pub room : roomFor (g .vertices) result labels next counts ≡ true
 
 -- no count is above k
 abbrev pub Under : ℕ → List ℕ → Type 0
@@ -23,90 +29,83 @@ abbrev pub best : ℕ → ℕ → Best
 best l k = record { label = l; count = k }
 
 -- the best so far, against a label that now stands there k times
-unfoldable pub leading : Best → ℕ → ℕ → Best
-leading b l k = cond (ltb (b .count) k) (best l k) (cond (ltb k (b .count)) b (cond (ltb l (b .label)) (best l k) b))
+unfoldable pub bestWith : Best → ℕ → ℕ → Best
+bestWith b l k = cond (ltb (b .count) k) (best l k) (cond (ltb k (b .count)) b (cond (ltb l (b .label)) (best l k) b))
 
--- the counts of the labels, and the best so far
-pub record Tally : Type 0 where
+-- what is counted: how often each label was heard, and the best so far
+pub record Poll : Type 0 where
   pub counts : List ℕ
   pub lead : Best
 
 -- the same, by its fields in order
-abbrev pub tally : List ℕ → Best → Tally
-tally C b = record { counts = C; lead = b }
+abbrev pub poll : List ℕ → Best → Poll
+poll C b = record { counts = C; lead = b }
 
--- one label more
-unfoldable pub counted : ℕ → Tally → Tally
-counted l S = tally (set (S .counts) l (getD (S .counts) l 0 + 1)) (leading (S .lead) l (getD (S .counts) l 0 + 1))
+-- one label more is counted
+unfoldable pub polled : ℕ → Poll → Poll
+polled l S = poll (set (S .counts) l (getD (S .counts) l 0 + 1)) (bestWith (S .lead) l (getD (S .counts) l 0 + 1))
 
 -- the labels of a list, counted one after the other
-unfoldable pub countedAll : List ℕ → Tally → Tally
-countedAll [] S = S
-countedAll (l ∷ ls) S = countedAll ls (counted l S)
+unfoldable pub polledAll : List ℕ → Poll → Poll
+polledAll [] S = S
+polledAll (l ∷ ls) S = polledAll ls (polled l S)
 
--- the counts of these labels back to zero
+-- the counts of these labels go back to zero
 unfoldable pub forgotten : List ℕ → List ℕ → List ℕ
 forgotten [] C = C
 forgotten (l ∷ ls) C = forgotten ls (set C l 0)
 
--- a part can be walked: its vertices have labels, and the labels have counts
-pub record Walk (part labels counts : List ℕ) : Type 0 where
+-- the vertices of a part have labels, and the labels have counts
+pub record Labelled (part labels counts : List ℕ) : Type 0 where
   pub lowPart : allBelow (length labels) part ≡ true
   pub lowLabels : allBelow (length counts) labels ≡ true
 
--- and its labels counted: no count wraps
+-- and its labels can be counted: no count wraps
 pub record Heard (part labels counts : List ℕ) : Type 0 where
-  pub walk : Walk part labels counts
-  pub under : Under 65536 counts
-  pub short : length part ≤ 65536
+  pub labelled : Labelled part labels counts
+  pub under : Under mostVertices counts
+  pub short : length part ≤ mostVertices
 
 -- the two parts of a vertex of n: vertices below n, and no more of them than a graph may have
-pub record Near (n : ℕ) (inward outward : List ℕ) : Type 0 where
+pub record Bounded (n : ℕ) (inward outward : List ℕ) : Type 0 where
   pub lowIn : allBelow n inward ≡ true
   pub lowOut : allBelow n outward ≡ true
-  pub shortIn : length inward ≤ 65536
-  pub shortOut : length outward ≤ 65536
+  pub shortIn : length inward ≤ mostVertices
+  pub shortOut : length outward ≤ mostVertices
 
--- a vertex's two parts, the labels, and counts that are zero
-pub record Parts (inward outward labels counts : List ℕ) : Type 0 where
-  pub sides : Near (length labels) inward outward
+-- the same of each of n vertices: the arcs stay inside
+abbrev pub AllBounded : ℕ → List ℕ → List ℕ → List ℕ → List ℕ → Type 0
+AllBounded n io is oo ot = (v : ℕ) → v < n → Bounded n (partOf n io is v) (partOf n oo ot v)
+
+-- a vertex can be settled: its two parts are bounded, the labels have counts, and the counts are zero
+pub record TwoParts (inward outward labels counts : List ℕ) : Type 0 where
+  pub sides : Bounded (length labels) inward outward
   pub lowLabels : allBelow (length counts) labels ≡ true
   pub fresh : counts ≡ replicate (length counts) 0
 
--- the arcs of n vertices stay inside
-abbrev pub Inside : ℕ → List ℕ → List ℕ → List ℕ → List ℕ → Type 0
-Inside n io is oo ot = (v : ℕ) → v < n → Near n (partOf n io is v) (partOf n oo ot v)
-
 -- a round can be run: the arcs stay inside, labels are vertex numbers, the other areas are as long, and the counts are zero
-pub record Board (io is oo ot labels next counts : List ℕ) : Type 0 where
-  pub inside : Inside (length labels) io is oo ot
+pub record Runnable (io is oo ot labels next counts : List ℕ) : Type 0 where
+  pub inside : AllBounded (length labels) io is oo ot
   pub lowLabels : allBelow (length labels) labels ≡ true
   pub roomNext : length next ≡ length labels
   pub roomCounts : length counts ≡ length labels
   pub fresh : counts ≡ replicate (length counts) 0
 
--- v's neighbours, first its part of the inward sources, then its part of the outward targets
-abbrev pub near : ℕ → List ℕ → List ℕ → List ℕ → List ℕ → ℕ → List ℕ
-near n io is oo ot v = around (partOf n io is) (partOf n oo ot) v
+-- v's neighbours among n vertices: its part of the inward sources, then its part of the outward targets
+abbrev pub aroundIn : ℕ → List ℕ → List ℕ → List ℕ → List ℕ → ℕ → List ℕ
+aroundIn n io is oo ot v = around (partOf n io is) (partOf n oo ot) v
 
--- "Each round uses only the round before": one round from the labels L, over the inward offsets and sources and the outward offsets and targets
+-- "Each round uses only the round before": one round from the labels L, over the inward offsets and sources and the outward offsets and
+-- targets
 abbrev pub nextNumbers : List ℕ → List ℕ → List ℕ → List ℕ → List ℕ → List ℕ
-nextNumbers io is oo ot L = oneRound eqb ltb 0 (near (length L) io is oo ot) (length L) L
+nextNumbers io is oo ot L = oneRound eqb ltb 0 (aroundIn (length L) io is oo ot) (length L) L
 
 -- the same of k rounds from the labels L
 abbrev pub numbersAfter : List ℕ → List ℕ → List ℕ → List ℕ → List ℕ → ℕ → List ℕ
-numbersAfter io is oo ot L k = rounds eqb ltb 0 (near (length L) io is oo ot) (length L) L k
+numbersAfter io is oo ot L k = rounds eqb ltb 0 (aroundIn (length L) io is oo ot) (length L) L k
 
--- a vertex's label before the first round: its own number
-abbrev pub itself : ℕ → ℕ
-itself v = v
-
--- the labels of n vertices before the first round
-unfoldable pub upTo : ℕ → List ℕ
-upTo n = column itself 0 n
-
--- the kernel can be run: the graph is sound, and the result and the working areas have one place a vertex
-pub record Ready (size : Size) (ids : List ℤ) (oo ot io is : List ℕ) (result : List ℤ) (labels next counts : List ℕ) : Type 0 where
+-- the rounds can be run: the graph is sound, and each area has exactly one place for each vertex
+pub record Fitting (size : Size) (ids : List ℤ) (oo ot io is : List ℕ) (result : List ℤ) (labels next counts : List ℕ) : Type 0 where
   pub sound : soundGraph (lent size ids oo ot io is) ≡ true
   pub roomResult : length result ≡ size .vertices
   pub roomLabels : length labels ≡ size .vertices

@@ -4,7 +4,7 @@ ghost use mathlib.Core.List.{_++_};
 ghost use lib.Dec.{eqb, ltb};
 ghost use Rattle.cdlp.specs.Label.{nextLabel};
 ghost use Rattle.cdlp.specs.Rounds.{labelsAt};
-ghost use Rattle.cdlp.specs.Steps.{leading, Walk, Heard, Parts, tally, countedAll, forgotten};
+ghost use Rattle.cdlp.specs.Steps.{bestWith, Labelled, Heard, TwoParts, poll, polledAll, forgotten};
 
 // The label that leads, and how often it was heard.
 struct Best {
@@ -14,7 +14,7 @@ struct Best {
 
 // A label is heard for the count-th time: does it lead now?
 fn lead(b: Best, label: usize, count: usize) -> Best
-    ensures { λ r. ⌜ r ≡ leading b label count ⌝ }
+    ensures { λ r. ⌜ r ≡ bestWith b label count ⌝ }
 {
     let top = b.count;
     if top < count {
@@ -33,7 +33,9 @@ fn lead(b: Best, label: usize, count: usize) -> Best
 // The labels of a part are heard, in order.
 fn hear(part: &[usize], labels: &[usize], counts: &mut [usize], start: Best) -> Best
     requires { ⌜ Heard (now part) (now labels) (now counts) ⌝ }
-    ensures { λ r. ⌜ tally (now (counts .exit)) r ≡ countedAll (labelsAt 0 (now (labels .entry)) (now (part .entry))) (tally (now (counts .entry)) start) ⌝ }
+    ensures { λ r. ⌜
+        poll (now (counts .exit)) r
+        ≡ polledAll (labelsAt 0 (now (labels .entry)) (now (part .entry))) (poll (now (counts .entry)) start) ⌝ }
 {
     let mut best = start;
     let mut i = 0;
@@ -50,7 +52,7 @@ fn hear(part: &[usize], labels: &[usize], counts: &mut [usize], start: Best) -> 
 
 // The counts of a part's labels go back to zero.
 fn forget(part: &[usize], labels: &[usize], counts: &mut [usize])
-    requires { ⌜ Walk (now part) (now labels) (now counts) ⌝ }
+    requires { ⌜ Labelled (now part) (now labels) (now counts) ⌝ }
     ensures { λ _. ⌜ now (counts .exit) ≡ forgotten (labelsAt 0 (now (labels .entry)) (now (part .entry))) (now (counts .entry)) ⌝ }
 {
     let mut i = 0;
@@ -71,7 +73,7 @@ pub(crate) fn settle(
     counts: &mut [usize],
     own: usize,
 ) -> usize
-    requires { ⌜ Parts (now inward) (now outward) (now labels) (now counts) ⌝ }
+    requires { ⌜ TwoParts (now inward) (now outward) (now labels) (now counts) ⌝ }
     ensures label { λ r. ⌜ r ≡ nextLabel eqb ltb own (labelsAt 0 (now (labels .entry)) (now (inward .entry) ++ now (outward .entry))) ⌝ }
     ensures counts { λ _. ⌜ now (counts .exit) ≡ now (counts .entry) ⌝ }
 {

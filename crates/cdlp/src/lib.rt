@@ -14,16 +14,14 @@ use kernels::Answer;
 use kernels::refused;
 use rounds::propagate;
 ghost use mathlib.Core.Path.{_≡_};
-ghost use mathlib.Core.Bool.{true};
-ghost use mathlib.Core.List.{[]};
-ghost use Rattle.basis.specs.Refusal.{gives, refuses, plain};
+ghost use Rattle.basis.specs.Refusal.{gives};
 ghost use Rattle.basis.specs.Area.{cleared};
-ghost use Rattle.graph.specs.Sound.{lent, soundGraph};
+ghost use Rattle.graph.specs.Sound.{lent};
 ghost use Rattle.kernels.specs.Answer.{says};
-ghost use Rattle.cdlp.specs.Rounds.{cdlpOf};
-ghost use Rattle.cdlp.specs.Promise.{goodRounds, roomFor, outcome, leftBy, cdlpCall};
-ghost use Rattle.cdlp.specs.Steps.{worked};
+ghost use Rattle.cdlp.specs.Call.{outcome, refusal, goodRounds, roomFor, leftBy, cdlpCall};
+ghost use Rattle.cdlp.specs.Steps.{Ready, worked};
 
+// The limit of rounds, `Call.mostRounds`.
 const MOST_ROUNDS: i64 = 1000;
 
 // Is this a number of rounds within the limit?
@@ -47,8 +45,11 @@ fn room(n: usize, result: &[i64], labels: &[usize], next: &[usize], counts: &[us
     n <= lesser(lesser(first, next.len()), counts.len())
 }
 
+// The three working areas are zero.
 fn clear_work(labels: &mut [usize], next: &mut [usize], counts: &mut [usize])
-    ensures { λ _. ⌜ worked (now (labels .exit)) (now (next .exit)) (now (counts .exit)) ≡ worked (cleared (now (labels .entry))) (cleared (now (next .entry))) (cleared (now (counts .entry))) ⌝ }
+    ensures { λ _. ⌜
+        worked (now (labels .exit)) (now (next .exit)) (now (counts .exit))
+        ≡ worked (cleared (now (labels .entry))) (cleared (now (next .entry))) (cleared (now (counts .entry))) ⌝ }
 {
     clear(labels);
     clear(next);
@@ -63,7 +64,9 @@ fn refuse(
     next: &mut [usize],
     counts: &mut [usize],
 ) -> Answer
-    ensures { λ r. ⌜ outcome (says r) (now (result .exit)) (now (labels .exit)) (now (next .exit)) (now (counts .exit)) ≡ leftBy (refuses (plain number)) [] (now (result .entry)) (now (labels .entry)) (now (next .entry)) (now (counts .entry)) ⌝ }
+    ensures { λ r. ⌜
+        outcome (says r) (now (result .exit)) (now (labels .exit)) (now (next .exit)) (now (counts .exit))
+        ≡ refusal number (now (result .entry)) (now (labels .entry)) (now (next .entry)) (now (counts .entry)) ⌝ }
 {
     clear_signed(result);
     clear_work(labels, next, counts);
@@ -84,9 +87,16 @@ fn fill(
     next: &mut [usize],
     counts: &mut [usize],
 ) -> Answer
-    requires { ⌜ soundGraph (lent size (now ids) (now «out_offsets») (now «out_targets») (now «in_offsets») (now «in_sources»)) ≡ true ⌝ }
-    requires { ⌜ roomFor (size .vertices) (now result) (now labels) (now next) (now counts) ≡ true ⌝ }
-    ensures { λ r. ⌜ outcome (says r) (now (result .exit)) (now (labels .exit)) (now (next .exit)) (now (counts .exit)) ≡ leftBy (gives tt) (cdlpOf (lent size (now (ids .entry)) (now («out_offsets» .entry)) (now («out_targets» .entry)) (now («in_offsets» .entry)) (now («in_sources» .entry))) k) (now (result .entry)) (now (labels .entry)) (now (next .entry)) (now (counts .entry)) ⌝ }
+    requires { ⌜
+        Ready
+        (lent size (now ids) (now «out_offsets») (now «out_targets») (now «in_offsets») (now «in_sources»))
+        (now result) (now labels) (now next) (now counts) ⌝ }
+    ensures { λ r. ⌜
+        outcome (says r) (now (result .exit)) (now (labels .exit)) (now (next .exit)) (now (counts .exit))
+        ≡ leftBy (gives tt)
+        (lent size (now (ids .entry)) (now («out_offsets» .entry)) (now («out_targets» .entry))
+        (now («in_offsets» .entry)) (now («in_sources» .entry)))
+        k (now (result .entry)) (now (labels .entry)) (now (next .entry)) (now (counts .entry)) ⌝ }
 {
     clear_signed(result);
     propagate(
@@ -106,7 +116,7 @@ fn fill(
     Answer::Done
 }
 
-// The labels of a sound graph after so many rounds, as identifiers; or a refusal: 9, 11 or 8.
+// The labels of a sound graph's vertices after so many rounds; or a refusal: 9, 11 or 8. `labels`, `next` and `counts` are working areas.
 pub fn cdlp(
     size: Size,
     ids: &[i64],
@@ -120,7 +130,12 @@ pub fn cdlp(
     next: &mut [usize],
     counts: &mut [usize],
 ) -> Answer
-    ensures { λ r. ⌜ outcome (says r) (now (result .exit)) (now (labels .exit)) (now (next .exit)) (now (counts .exit)) ≡ cdlpCall (lent size (now (ids .entry)) (now («out_offsets» .entry)) (now («out_targets» .entry)) (now («in_offsets» .entry)) (now («in_sources» .entry))) iterations (now (result .entry)) (now (labels .entry)) (now (next .entry)) (now (counts .entry)) ⌝ }
+    ensures { λ r. ⌜
+        outcome (says r) (now (result .exit)) (now (labels .exit)) (now (next .exit)) (now (counts .exit))
+        ≡ cdlpCall
+        (lent size (now (ids .entry)) (now («out_offsets» .entry)) (now («out_targets» .entry))
+        (now («in_offsets» .entry)) (now («in_sources» .entry)))
+        iterations (now (result .entry)) (now (labels .entry)) (now (next .entry)) (now (counts .entry)) ⌝ }
 {
     if !sound_over(
         size,

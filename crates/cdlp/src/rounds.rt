@@ -7,13 +7,14 @@ use view::neighbours;
 ghost use mathlib.Core.Path.{_≡_};
 ghost use lib.ListN.{length};
 ghost use lib.IntN.{pos};
+ghost use Rattle.basis.specs.Area.{ownNumbers};
 ghost use Rattle.graph.specs.Sound.{lent};
 ghost use Rattle.cdlp.specs.Rounds.{labelsAt, cdlpOf};
-ghost use Rattle.cdlp.specs.Steps.{Board, nextNumbers, numbersAfter, upTo, Ready, Nameable};
+ghost use Rattle.cdlp.specs.Steps.{Runnable, nextNumbers, numbersAfter, Fitting, Nameable};
 
 // Every label is the vertex's own number.
 fn number(labels: &mut [usize])
-    ensures { λ _. ⌜ now (labels .exit) ≡ upTo (length (now (labels .entry))) ⌝ }
+    ensures { λ _. ⌜ now (labels .exit) ≡ ownNumbers (length (now (labels .entry))) ⌝ }
 {
     let mut v = 0;
     while v < labels.len() {
@@ -45,8 +46,14 @@ fn round(
     next: &mut [usize],
     counts: &mut [usize],
 )
-    requires { ⌜ Board (now «in_offsets») (now «in_sources») (now «out_offsets») (now «out_targets») (now labels) (now next) (now counts) ⌝ }
-    ensures next { λ _. ⌜ now (next .exit) ≡ nextNumbers (now («in_offsets» .entry)) (now («in_sources» .entry)) (now («out_offsets» .entry)) (now («out_targets» .entry)) (now (labels .entry)) ⌝ }
+    requires { ⌜
+        Runnable (now «in_offsets») (now «in_sources») (now «out_offsets») (now «out_targets»)
+        (now labels) (now next) (now counts) ⌝ }
+    ensures next { λ _. ⌜
+        now (next .exit)
+        ≡ nextNumbers
+        (now («in_offsets» .entry)) (now («in_sources» .entry)) (now («out_offsets» .entry)) (now («out_targets» .entry))
+        (now (labels .entry)) ⌝ }
     ensures counts { λ _. ⌜ now (counts .exit) ≡ now (counts .entry) ⌝ }
 {
     let mut v = 0;
@@ -70,8 +77,14 @@ fn turns(
     next: &mut [usize],
     counts: &mut [usize],
 )
-    requires { ⌜ Board (now «in_offsets») (now «in_sources») (now «out_offsets») (now «out_targets») (now labels) (now next) (now counts) ⌝ }
-    ensures { λ _. ⌜ now (labels .exit) ≡ numbersAfter (now («in_offsets» .entry)) (now («in_sources» .entry)) (now («out_offsets» .entry)) (now («out_targets» .entry)) (now (labels .entry)) k ⌝ }
+    requires { ⌜
+        Runnable (now «in_offsets») (now «in_sources») (now «out_offsets») (now «out_targets»)
+        (now labels) (now next) (now counts) ⌝ }
+    ensures { λ _. ⌜
+        now (labels .exit)
+        ≡ numbersAfter
+        (now («in_offsets» .entry)) (now («in_sources» .entry)) (now («out_offsets» .entry)) (now («out_targets» .entry))
+        (now (labels .entry)) k ⌝ }
 {
     let mut done = 0;
     while done < k {
@@ -103,8 +116,15 @@ pub(crate) fn propagate(
     next: &mut [usize],
     counts: &mut [usize],
 )
-    requires { ⌜ Ready size (now ids) (now «out_offsets») (now «out_targets») (now «in_offsets») (now «in_sources») (now result) (now labels) (now next) (now counts) ⌝ }
-    ensures { λ _. ⌜ now (result .exit) ≡ cdlpOf (lent size (now (ids .entry)) (now («out_offsets» .entry)) (now («out_targets» .entry)) (now («in_offsets» .entry)) (now («in_sources» .entry))) k ⌝ }
+    requires { ⌜
+        Fitting size (now ids) (now «out_offsets») (now «out_targets») (now «in_offsets») (now «in_sources»)
+        (now result) (now labels) (now next) (now counts) ⌝ }
+    ensures { λ _. ⌜
+        now (result .exit)
+        ≡ cdlpOf
+        (lent size (now (ids .entry)) (now («out_offsets» .entry)) (now («out_targets» .entry))
+        (now («in_offsets» .entry)) (now («in_sources» .entry)))
+        k ⌝ }
 {
     number(labels);
     clear(counts);

@@ -10,7 +10,8 @@ abbrev pub says : Answer → Said (Unit {0})
 says Done = gives tt
 says (Refused r) = refuses r
 
--- "Kernels check 9, then 10 or 11, then 8": by whether the graph is sound, the parameter good (else the refusal with its number) and the room enough
+-- "Kernels check 9, then 10 or 11, then 8": by whether the graph is sound, the parameter good (else the refusal with its number) and the
+-- room enough
 unfoldable pub kernelSays : Bool → Bool → ℕ → Bool → Said (Unit {0})
 kernelSays sound given number room =
     check sound unsound (check given number (check room noRoom (gives tt)))

@@ -2,7 +2,7 @@
 pub mod Commons
 pub mod Ratios
 pub mod Merges
-pub mod Coefficients
+pub mod Fractions
 pub mod Neighbours
 pub mod Calls
 pub mod Meaning

@@ -2,6 +2,6 @@
 pub mod Common
 pub mod Ratio
 pub mod Lcc
-pub mod Promise
+pub mod Call
 pub mod Meaning
 pub mod Steps

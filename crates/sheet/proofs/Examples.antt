@@ -3,7 +3,7 @@ use Prim.Native.Nat.{ℕ}
 use mathlib.Core.Path.{_≡_, refl}
 use mathlib.Core.List.{List, _++_}
 use Rattle.basis.specs.Area.{column}
-use Rattle.basis.specs.Scan.{every, each, mem}
+use Rattle.basis.specs.Scan.{every, each, mem, firstFrom}
 use Rattle.text.specs.Bytes.{bytes}
 use Rattle.text.specs.Line.{lineBy, twoOf}
 use Rattle.text.specs.File.{linesFrom, valuesFrom}
@@ -16,16 +16,16 @@ use Rattle.graph.specs.Sound.{soundIds, soundOffsets, soundSide, mirrored, soun
 use Rattle.lists.specs.Files.{edgeTest}
 use Rattle.load.specs.Load.{arcsRead, listsRead, loaded, outcomeOf, loadCall}
 use Rattle.kernels.specs.Answer.{kernelSays}
-use Rattle.bfs.specs.Call.{bfsSays, bfsCall}
-use Rattle.bfs.specs.Depth.{leastFrom, ends, ring, depthOf}
-use Rattle.wcc.specs.Component.{beside, chain, firstFrom, first, labelOf}
-use Rattle.wcc.specs.Promise.{roomFor as wcc-roomFor, leftBy as wcc-leftBy, wccCall}
+use Rattle.bfs.specs.Call.{roomFor as bfs-roomFor, leftBy as bfs-leftBy, bfsCall}
+use Rattle.bfs.specs.Depth.{ends, ring, ringDepth, depthOf}
+use Rattle.wcc.specs.Component.{adjacent, chain, first, labelOf}
+use Rattle.wcc.specs.Call.{roomFor as wcc-roomFor, leftBy as wcc-leftBy, wccCall}
 use Rattle.cdlp.specs.Label.{times, mostTimes, standing, mostCommon, smallest, smallestOr, nextLabel}
-use Rattle.cdlp.specs.Promise.{goodRounds, roomFor as cdlp-roomFor, leftBy as cdlp-leftBy, cdlpCall}
+use Rattle.cdlp.specs.Call.{goodRounds, roomFor as cdlp-roomFor, leftBy as cdlp-leftBy, cdlpCall}
 use Rattle.cdlp.specs.Rounds.{around, labelsAt, nextAt, oneRound, rounds, cdlpOf}
 use Rattle.lcc.specs.Common.{commonCount}
 use Rattle.lcc.specs.Lcc.{those, neighbours, arcsFrom, coefficientAmong, numerator, denominator}
-use Rattle.lcc.specs.Promise.{room, lccSays, lccCall}
+use Rattle.lcc.specs.Call.{roomFor as lcc-roomFor, leftBy as lcc-leftBy, lccCall}
 use Rattle.lcc.specs.Ratio.{euclid, gcdOf, lowest}
 use Rattle.plan.specs.Jobs.{jobOf}
 use Rattle.plan.specs.Lines.{lfs, sheetLine, begins, isWord}
@@ -76,9 +76,11 @@ pub outputs :
 unfolding column every each mem lineBy twoOf hasAt runAt countAt identAt fieldAt restAt within digits countText signedText placeFrom bisect
     targetsBetween partOf soundIds soundOffsets soundSide mirrored soundSides soundGraph edgeTest linesFrom valuesFrom arcsRead listsRead
     loaded
-    outcomeOf loadCall kernelSays bfsSays bfsCall leastFrom ends ring depthOf beside chain firstFrom first labelOf wcc-roomFor wcc-leftBy
+    outcomeOf loadCall kernelSays bfs-roomFor bfs-leftBy bfsCall ringDepth ends ring depthOf adjacent chain firstFrom first labelOf
+    wcc-roomFor wcc-leftBy
     wccCall times mostTimes standing mostCommon smallest smallestOr nextLabel goodRounds cdlp-roomFor cdlp-leftBy cdlpCall around labelsAt
-    nextAt oneRound rounds cdlpOf commonCount those neighbours arcsFrom coefficientAmong numerator denominator room lccSays lccCall euclid
+    nextAt oneRound rounds cdlpOf commonCount those neighbours arcsFrom coefficientAmong numerator denominator lcc-roomFor lcc-leftBy
+    lccCall euclid
     gcdOf lowest jobOf lfs sheetLine begins isWord modeOf countLine linesPast section sections sheetCheck spacedText numbersText refusedText
     headText namedText pairText fractionText ratioText pairLines ratioLines planText deskOutput bfsText wccText cdlpText lccText jobsText
 outputs = (refl, refl, refl, refl)

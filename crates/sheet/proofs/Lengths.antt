@@ -17,22 +17,23 @@ use Rattle.basis.specs.Order.{sameZ}
 use Rattle.basis.specs.Area.{between}
 use Rattle.basis.proofs.Alls.{All, all-take, all-at, all-column, all-left}
 use Rattle.graph.specs.Sound.{Graph, outward, inward, names, soundGraph}
-use Rattle.graph.specs.Find.{placeIn}
+use Rattle.graph.specs.Find.{placeIn, isThere}
 use Rattle.graph.specs.declared.find.Found.{Found}
 use Rattle.graph.specs.declared.find.Found.the-variants.{At, Missing}
 use Rattle.kernels.specs.Answer.{kernelSays}
-use Rattle.bfs.specs.Depth.{leastFrom, depthOf}
-use Rattle.bfs.specs.Call.{bfsSays, depthsFrom, bfsCall}
+use Rattle.bfs.specs.Depth.{ringDepth, depthOf}
+use Rattle.bfs.specs.Call as B
+use Rattle.bfs.proofs.Rings.{depth-cases}
 use Rattle.wcc.specs.Component.{labelOf, wccOf}
-use Rattle.wcc.specs.Promise as W
+use Rattle.wcc.specs.Call as W
 use Rattle.cdlp.specs.Label.{times, standing, mostCommon, smallest, smallestOr, nextLabel}
 use Rattle.cdlp.specs.Rounds.{labelsAt, nextAt, oneRound, rounds, cdlpOf}
-use Rattle.cdlp.specs.Promise as C
+use Rattle.cdlp.specs.Call as C
 use Rattle.lcc.specs.Lcc.{either, neighbours, arcsFrom, coefficientAmong, numerator, denominator, numerators, denominators}
 use Rattle.lcc.specs.Ratio.{gcdOf, lowest}
-use Rattle.lcc.specs.Promise.{lccSays, lccCall}
+use Rattle.lcc.specs.Call as L
 use Rattle.lcc.proofs.Commons.{count-le}
-use Rattle.lcc.proofs.Coefficients.{those-short}
+use Rattle.lcc.proofs.Fractions.{those-short}
 use Rattle.text.specs.Bytes.{lf, space}
 use Rattle.write.specs.Number.{countText, signedText}
 use Rattle.write.proofs.Texts.{count-long, signed-long}
@@ -150,19 +151,13 @@ module _ (n : ℕ) (line listing : List ℕ) (few : n ≤ deskVertices) (long : 
       )
 
 -- ---- the kernels' values
-least-small : (p : ℕ → Bool) (f k : ℕ) → k + f ≤ deskVertices → Small (leastFrom p f k)
-unfolding leastFrom
-least-small p zero k h = omega arith
-least-small p (suc f) k h = by (p k) refl (least-small p f (suc k) (omega arith))
-  where
-    by : (t : Bool) → p k ≡ t → Small (leastFrom p f (suc k)) → Small (leastFrom p (suc f) k)
-    by true e g = rw (leastFrom, e) (omega arith)
-    by false e g = rw (leastFrom, e) g
+depth-small : (n k : ℕ) → n ≤ deskVertices → Small (ringDepth n k)
+depth-small n k h = depth-cases Small n k (λ l. omega arith) (omega arith)
 
-depths-small : (g : Graph) (x : Found) → g .vertices ≤ deskVertices → All Small (depthsFrom g x)
+depths-small : (g : Graph) (x : Found) → g .vertices ≤ deskVertices → All Small (B.depthsFrom g x)
 unfolding depthOf
 depths-small g Missing h = tt
-depths-small g (At root) h = all-column Small _ (λ v. least-small _ (g .vertices) 0 (omega arith)) 0 (g .vertices)
+depths-small g (At root) h = all-column Small _ (λ v. depth-small (g .vertices) _ h) 0 (g .vertices)
 
 labels-small : (g : Graph) → All Small (g .ids) → All Small (wccOf g)
 unfolding labelOf
@@ -253,11 +248,12 @@ module _ (g : Graph) (ids : All Small (g .ids)) (count : length (g .ids) ≤ des
   fractions-most ns ds h k = omega (arith, ratios-most (g .ids) ns ds ids h k)
 
   bfs-most : (line : List ℕ) (root : ℤ) → length (bfsText g root line) ≤ length line + mostBehind
-  unfolding bfsText bfsCall bfsSays
+  unfolding bfsText B.bfsCall B.leftBy
   bfs-most line root =
-      answer-most (g .vertices) line _ few
-      (lines-most _ (all-left Small (bfsSays g (placeIn (names g) root) deskAreaZ deskArea) (pos 0) deskVertices _ (omega arith)
-      (depths-small g (placeIn (names g) root) few))) _ _ _ 10 (omega arith)
+      let place = placeIn (names g) root in
+      let said = kernelSays (soundGraph g) (isThere place) 10 (B.roomFor (g .vertices) deskAreaZ deskArea) in
+      answer-most (g .vertices) line _ few (lines-most _
+      (all-left Small said (pos 0) deskVertices (B.depthsFrom g place) (omega arith) (depths-small g place few))) _ _ _ 10 (omega arith)
 
   wcc-most : (line : List ℕ) → length (wccText g line) ≤ length line + mostBehind
   unfolding wccText W.wccCall W.leftBy
@@ -275,9 +271,9 @@ module _ (g : Graph) (ids : All Small (g .ids)) (count : length (g .ids) ≤ des
       (all-left Small said (pos 0) deskVertices (cdlpOf g (natAbs k)) (omega arith) (cdlp-small g (natAbs k) ids))) _ _ _ 11 (omega arith)
 
   lcc-most : (line : List ℕ) → length (lccText g line) ≤ length line + mostBehind
-  unfolding lccText lccCall lccSays numerator denominator
+  unfolding lccText L.lccCall L.leftBy numerator denominator
   lcc-most line =
-      let said = lccSays g deskArea deskArea deskArea in
+      let said = kernelSays (soundGraph g) true 0 (L.roomFor (g .vertices) deskArea deskArea deskArea) in
       answer-most (g .vertices) line _ few
       (fractions-most _ _
       (all-left Short said 0 deskVertices (numerators g) (omega arith)

@@ -21,13 +21,13 @@ use Rattle.graph.specs.Find.{placeIn}
 use Rattle.graph.specs.declared.find.Found.the-variants.{At, Missing}
 use Rattle.kernels.specs.Answer.{kernelSays}
 use Rattle.bfs.specs.Depth.{depths}
-use Rattle.bfs.specs.Call.{bfsSays, bfsCall}
+use Rattle.bfs.specs.Call as B
 use Rattle.wcc.specs.Component.{wccOf}
-use Rattle.wcc.specs.Promise as W
+use Rattle.wcc.specs.Call as W
 use Rattle.cdlp.specs.Rounds.{oneRound, rounds, cdlpOf}
-use Rattle.cdlp.specs.Promise as C
+use Rattle.cdlp.specs.Call as C
 use Rattle.lcc.specs.Lcc.{numerators, denominators}
-use Rattle.lcc.specs.Promise as L
+use Rattle.lcc.specs.Call as L
 use Rattle.load.specs.Good.{graphLeft}
 use Rattle.load.specs.Load.{Lists, sizeOf, outcomeOf, loaded, loadCall, desk, deskRoom}
 use Rattle.load.proofs.Meaning.{load-answer, load-sound}
@@ -64,7 +64,7 @@ module _ (g : Graph) (sound : soundGraph g ≡ true) (count : length (g .ids) �
       (pairs-pad (g .ids) (wccOf g) _ (column-length _ 0 (g .vertices) ∙ sym count)))
 
   pub lcc-runs : lccText g line ≡ headText line (g .vertices) ++ ratioLines (g .ids) (numerators g) (denominators g)
-  unfolding lccText L.lccCall L.lccSays L.room kernelSays
+  unfolding lccText L.lccCall L.leftBy L.roomFor kernelSays
   lcc-runs =
       rw (sound, roomy)
       (ap (λ l. headText line (g .vertices) ++ l)
@@ -73,14 +73,14 @@ module _ (g : Graph) (sound : soundGraph g ≡ true) (count : length (g .ids) �
 
   pub bfs-runs : (root : ℤ) (v : ℕ) → placeIn (names g) root ≡ At v
       → bfsText g root line ≡ headText line (g .vertices) ++ pairLines (g .ids) (depths (g .vertices) (outward g) v)
-  unfolding bfsText bfsCall bfsSays kernelSays
+  unfolding bfsText B.bfsCall B.leftBy B.roomFor kernelSays
   bfs-runs root v e =
       rw (e, sound, roomy)
       (ap (λ l. headText line (g .vertices) ++ l) (pairs-pad (g .ids) (depths (g .vertices) (outward g) v) _
       (column-length _ 0 (g .vertices) ∙ sym count)))
 
   pub bfs-stops : (root : ℤ) → placeIn (names g) root ≡ Missing → bfsText g root line ≡ refusedText (plain notThere)
-  unfolding bfsText bfsCall bfsSays kernelSays
+  unfolding bfsText B.bfsCall B.leftBy kernelSays
   bfs-stops root e = rw (e, sound)
 
   rounds-long : (k : ℕ) → length (cdlpOf g k) ≡ g .vertices

@@ -12,9 +12,9 @@ use Rattle.kernels.specs.Answer.{says}
 use Rattle.kernels.specs.declared.Answer.{Answer}
 use Rattle.kernels.specs.declared.Answer.the-variants.{Done, Refused}
 use Rattle.bfs.specs.Call as B
-use Rattle.wcc.specs.Promise as W
-use Rattle.cdlp.specs.Promise as C
-use Rattle.lcc.specs.Promise as L
+use Rattle.wcc.specs.Call as W
+use Rattle.cdlp.specs.Call as C
+use Rattle.lcc.specs.Call as L
 use Rattle.write.specs.Put.{Written, written, putAt}
 use Rattle.write.proofs.Puts.{put-then, put-as, putting-more, putting-end}
 use Rattle.text.proofs.Places.{Moved}

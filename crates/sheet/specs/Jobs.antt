@@ -8,9 +8,9 @@ use Rattle.basis.specs.Area.{between}
 use Rattle.basis.specs.Limits.{deskVertices}
 use Rattle.graph.specs.Sound.{Graph}
 use Rattle.bfs.specs.Call.{bfsCall}
-use Rattle.wcc.specs.Promise.{wccCall}
-use Rattle.cdlp.specs.Promise.{cdlpCall}
-use Rattle.lcc.specs.Promise.{lccCall}
+use Rattle.wcc.specs.Call.{wccCall}
+use Rattle.cdlp.specs.Call.{cdlpCall}
+use Rattle.lcc.specs.Call.{lccCall}
 use Rattle.plan.specs.Jobs.{jobLine}
 use Rattle.plan.specs.declared.job.Job.{Job}
 use Rattle.plan.specs.declared.job.Job.the-variants.{Bfs, Wcc, Cdlp, Lcc}

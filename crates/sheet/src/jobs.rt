@@ -5,7 +5,7 @@ use bfs::bfs;
 use cdlp::cdlp;
 use graph::Size;
 use kernels::Answer;
-use lcc::lcc::lcc;
+use lcc::lcc;
 use listing::put_head;
 use listing::put_pairs;
 use listing::put_ratios;

@@ -10,9 +10,9 @@ use Rattle.basis.proofs.Tests.{clash}
 use Rattle.graph.specs.Sound.{Graph}
 use Rattle.kernels.specs.Answer.{kernelSays}
 use Rattle.bfs.specs.Call as Bfs
-use Rattle.wcc.specs.Promise as Wcc
-use Rattle.cdlp.specs.Promise as Cdlp
-use Rattle.lcc.specs.Promise as Lcc
+use Rattle.wcc.specs.Call as Wcc
+use Rattle.cdlp.specs.Call as Cdlp
+use Rattle.lcc.specs.Call as Lcc
 use Rattle.trace.specs.Code.{coded, wide, Readable, nothing}
 use Rattle.trace.specs.Kernels.{bfsTold, bfsTells, wccTold, wccTells, cdlpTold, cdlpTells, lccTold, lccTells}
 use Rattle.trace.proofs.Codes.{readable-given, readable-plain, readable-check}
@@ -31,7 +31,7 @@ kernel-readable sound given number room p q = readable-check sound unsound (omeg
 module _ (g : Graph) (root : ℤ) (depth₀ : List ℤ) (queue₀ : List ℕ) (s : Said (Unit {0})) (depth : List ℤ) (queue : List ℕ)
     (e : Bfs.outcome s depth queue ≡ Bfs.bfsCall g root depth₀ queue₀) where
   pub bfs-readable : Readable wide s nothing
-  unfolding Bfs.bfsCall Bfs.bfsSays
+  unfolding Bfs.bfsCall Bfs.leftBy
   bfs-readable = rw (ap (λ o. o .said) e) (kernel-readable _ _ notThere _ (λ f. omega arith) (omega arith))
 
   pub bfs-told : (k : ℕ) → k ≡ coded s nothing → (z : ℤ) → root ≡ z → bfsTold k depth queue ≡ bfsTells (Bfs.bfsCall g z depth₀ queue₀)
@@ -63,7 +63,7 @@ module _ (g : Graph) (rounds : ℤ) (result₀ : List ℤ) (labels₀ next₀ co
 module _ (g : Graph) (numerators₀ denominators₀ work₀ : List ℕ) (s : Said (Unit {0})) (numerators denominators work : List ℕ)
     (e : Lcc.outcome s numerators denominators work ≡ Lcc.lccCall g numerators₀ denominators₀ work₀) where
   pub lcc-readable : Readable wide s nothing
-  unfolding Lcc.lccCall Lcc.lccSays
+  unfolding Lcc.lccCall Lcc.leftBy
   lcc-readable = rw (ap (λ o. o .said) e) (kernel-readable _ true 0 _ (λ f. clash refl f) (omega arith))
 
   pub lcc-told : (k : ℕ) → k ≡ coded s nothing → lccTold k numerators denominators work

@@ -4,9 +4,9 @@ use mathlib.Core.List.{List}
 use lib.IntN.{ℤ}
 use Rattle.graph.specs.declared.Size.{Size}
 use Rattle.bfs.specs.Call as Bfs
-use Rattle.wcc.specs.Promise as Wcc
-use Rattle.cdlp.specs.Promise as Cdlp
-use Rattle.lcc.specs.Promise as Lcc
+use Rattle.wcc.specs.Call as Wcc
+use Rattle.cdlp.specs.Call as Cdlp
+use Rattle.lcc.specs.Call as Lcc
 use Rattle.trace.specs.Code.{coded, nothing}
 
 -- a graph's "stated counts" as its size

@@ -3,14 +3,14 @@ use crate::code::kernel_code;
 use bfs::bfs;
 use cdlp::cdlp;
 use graph::Size;
-use lcc::lcc::lcc;
+use lcc::lcc;
 use wcc::wcc;
 ghost use mathlib.Core.Path.{_≡_};
 ghost use Rattle.graph.specs.Sound.{lent};
 ghost use Rattle.bfs.specs.Call.{bfsCall};
-ghost use Rattle.wcc.specs.Promise.{wccCall};
-ghost use Rattle.cdlp.specs.Promise.{cdlpCall};
-ghost use Rattle.lcc.specs.Promise.{lccCall};
+ghost use Rattle.wcc.specs.Call.{wccCall};
+ghost use Rattle.cdlp.specs.Call.{cdlpCall};
+ghost use Rattle.lcc.specs.Call.{lccCall};
 ghost use Rattle.trace.specs.Kernels.{statedSize, bfsTold, bfsTells, wccTold, wccTells, cdlpTold, cdlpTells, lccTold, lccTells};
 
 // BFS from a root: depths in `depth`.

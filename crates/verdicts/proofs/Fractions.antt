@@ -15,8 +15,9 @@ use Rattle.basis.proofs.Tests.{and-first, and-second, and-both}
 use Rattle.basis.proofs.Areas.{column-at, column-is, column-length}
 use Rattle.graph.specs.Sound.{Graph, outward, inward, soundGraph}
 use Rattle.graph.proofs.Sounds.{sound-of}
+use Rattle.kernels.specs.Answer.{kernelSays}
 use Rattle.lcc.specs.Lcc.{numerator, denominator, numerators, denominators}
-use Rattle.lcc.specs.Promise as lcc
+use Rattle.lcc.specs.Call as lcc
 use Rattle.lcc.proofs.Meaning.{coefficient-meaning}
 use Rattle.text.specs.declared.decimal.Decimal.{Decimal}
 use Rattle.matching.specs.Claim.{coefficientLines, claimedOf, idsOf}
@@ -76,11 +77,11 @@ module _ (g : Graph) (F S W : List ℕ) {a : Said (Unit {0})} {F′ S′ W′ : 
   -- in one of the two result areas
   abbrev RanIn : (ℕ → ℕ) → List ℕ → List ℕ → Type 0
   RanIn f l l′ =
-      Ran 0 true 0 (column f 0 (g .vertices)) (g .vertices) (length (g .ids)) (soundGraph g) (lcc.room (g .vertices) F S W) (length l) a l′
+      Ran 0 true 0 (column f 0 (g .vertices)) (g .vertices) (length (g .ids)) (soundGraph g) (lcc.roomFor (g .vertices) F S W) (length l) a l′
 
-  ran-in : (f : ℕ → ℕ) (l l′ : List ℕ) → l′ ≡ leaves (lcc.lccSays g F S W) 0 (length l) (column f 0 (g .vertices))
-      → (lcc.room (g .vertices) F S W ≡ true → g .vertices ≤ length l) → RanIn f l l′
-  unfolding lcc.lccCall lcc.lccSays
+  ran-in : (f : ℕ → ℕ) (l l′ : List ℕ) → l′ ≡ leaves (kernelSays (soundGraph g) true 0 (lcc.roomFor (g .vertices) F S W)) 0 (length l) (column f 0 (g .vertices))
+      → (lcc.roomFor (g .vertices) F S W ≡ true → g .vertices ≤ length l) → RanIn f l l′
+  unfolding lcc.lccCall lcc.leftBy
   ran-in f l l′ p o =
       let q = ap (λ (o : lcc.Outcome). o .said) e in
       record {
@@ -92,14 +93,14 @@ module _ (g : Graph) (F S W : List ℕ) {a : Said (Unit {0})} {F′ S′ W′ : 
       }
 
   upper-ran : RanIn (numerator (g .vertices) (outward g) (inward g)) F F′
-  unfolding lcc.lccCall lcc.room
+  unfolding lcc.lccCall lcc.leftBy lcc.roomFor
   upper-ran =
       ran-in _ F F′ (ap (λ (o : lcc.Outcome). o .numerators) e)
       (λ o. leb-true (g .vertices) (length F) (and-first (leb (g .vertices) (length F)) (leb (g .vertices) (length S))
       (and-first _ (leb (g .vertices) (length W)) o)))
 
   lower-ran : RanIn (denominator (g .vertices) (outward g) (inward g)) S S′
-  unfolding lcc.lccCall lcc.room
+  unfolding lcc.lccCall lcc.leftBy lcc.roomFor
   lower-ran =
       ran-in _ S S′ (ap (λ (o : lcc.Outcome). o .denominators) e)
       (λ o. leb-true (g .vertices) (length S) (and-second (leb (g .vertices) (length F)) (leb (g .vertices) (length S))
@@ -113,13 +114,13 @@ module _ (g : Graph) (F S W : List ℕ) {a : Said (Unit {0})} {F′ S′ W′ : 
   lcc-roomy f = (ran-roomy upper-ran (f .0), ran-roomy lower-ran (f .1))
 
   pub lcc-cleared : W′ ≡ cleared W
-  unfolding lcc.lccCall
+  unfolding lcc.lccCall lcc.leftBy
   lcc-cleared = ap (λ (o : lcc.Outcome). o .work) e
 
   module _ {room : Bool} (f : Roomy room (g .vertices) (length F)) (h : Roomy room (g .vertices) (length S))
       (i : Roomy room (g .vertices) (length W)) (most : ℕ) (s : List ℕ) where
     says-same : termsSays a room most (g .vertices) (g .ids) s F′ S′ ≡ verdictSays (lccReference most g s) (soundGraph g) room
-    unfolding termsSays verdictSays lcc.room
+    unfolding termsSays verdictSays lcc.roomFor
     says-same =
         then-same a
         (λ d. ap (λ (x : Said Verdict). check room noRoom x)
@@ -128,7 +129,7 @@ module _ (g : Graph) (F S W : List ℕ) {a : Said (Unit {0})} {F′ S′ W′ : 
         ∙ judged-same (take (g .vertices) (g .ids)) (farWithin (coefficients g)) (farLine (coefficients g)) (coefficientLines most s)
         (far-coefficients g (ran-fine upper-ran d .isSound))))
         ∙ rw (upper-ran .said)
-        (says-rooms (soundGraph g) true 0 (lcc.room (g .vertices) F S W) room (lccReference most g s .judged)
+        (says-rooms (soundGraph g) true 0 (lcc.roomFor (g .vertices) F S W) room (lccReference most g s .judged)
         (λ t. and-both (and-both (le-leb (g .vertices) (length F) (f t)) (le-leb (g .vertices) (length S) (h t)))
         (le-leb (g .vertices) (length W) (i t))))
 

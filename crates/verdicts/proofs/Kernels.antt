@@ -19,10 +19,10 @@ use Rattle.graph.proofs.Sounds.{sound-of}
 use Rattle.bfs.specs.Depth.{depthOf}
 use Rattle.bfs.specs.Call as bfs
 use Rattle.wcc.specs.Component.{wccOf}
-use Rattle.wcc.specs.Promise as wcc
+use Rattle.wcc.specs.Call as wcc
 use Rattle.wcc.proofs.Meaning.{wcc-length}
 use Rattle.cdlp.specs.Rounds.{cdlpOf}
-use Rattle.cdlp.specs.Promise as cdlp
+use Rattle.cdlp.specs.Call as cdlp
 use Rattle.cdlp.proofs.Runs.{cdlp-length}
 use Rattle.matching.specs.declared.numbers.Rule.the-variants.{Exact, Equivalence}
 use Rattle.verdicts.specs.Reference.{bfsReference, wccReference, cdlpReference}
@@ -37,8 +37,8 @@ bfs-length g Missing e = clash e refl
 module _ (g : Graph) (root : ℤ) {root′ : ℤ} (p : root′ ≡ root) (R : List ℤ) (F : List ℕ) {a : Said (Unit {0})} {R′ : List ℤ} {F′ : List ℕ}
     (e : bfs.outcome a R′ F′ ≡ bfs.bfsCall g root′ R F) where
   bfs-ran : Ran (pos 0) (isThere (placeIn (names g) root)) 10 (bfs.depthsFrom g (placeIn (names g) root)) (g .vertices) (length (g .ids))
-      (soundGraph g) (leb (g .vertices) (length R) && leb (g .vertices) (length F)) (length R) a R′
-  unfolding bfs.bfsCall bfs.bfsSays
+      (soundGraph g) (bfs.roomFor (g .vertices) R F) (length R) a R′
+  unfolding bfs.bfsCall bfs.leftBy bfs.roomFor
   bfs-ran =
       let f : bfs.outcome a R′ F′ ≡ bfs.bfsCall g root R F = e ∙ ap (λ (z : ℤ). bfs.bfsCall g z R F) p in
       let q = ap (λ (o : bfs.Outcome). o .said) f in
@@ -57,12 +57,13 @@ module _ (g : Graph) (root : ℤ) {root′ : ℤ} (p : root′ ≡ root) (R : Li
   bfs-roomy = ran-roomy bfs-ran
 
   pub bfs-cleared : F′ ≡ cleared F
-  unfolding bfs.bfsCall
+  unfolding bfs.bfsCall bfs.leftBy
   bfs-cleared = ap (λ (o : bfs.Outcome). o .queue) e
 
   pub bfs-verdict : {room : Bool} → Roomy room (g .vertices) (length R) → Roomy room (g .vertices) (length F)
       → (most : ℕ) (s : List ℕ) (C : List ℤ) {x : Numbers} → x ≡ numbersOn a room Exact most (g .vertices) (g .ids) s R′ C
       → x ≡ numbersVerdict (bfsReference most g s root) (soundGraph g) room R C
+  unfolding bfs.roomFor
   bfs-verdict f h most s =
       numbers-verdict (bfsReference most g s root) (g .ids) R bfs-ran
       (λ t. and-both (le-leb (g .vertices) (length R) (f t)) (le-leb (g .vertices) (length F) (h t)))

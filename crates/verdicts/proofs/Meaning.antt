@@ -16,9 +16,9 @@ use Rattle.graph.specs.Sound.{Graph, names, outward, soundGraph, Sound}
 use Rattle.graph.proofs.Sounds.{sound-of, names-length}
 use Rattle.kernels.specs.Answer.{kernelSays}
 use Rattle.bfs.specs.Call.{depthsFrom}
-use Rattle.wcc.specs.Component.{Linked, wccOf}
+use Rattle.wcc.specs.Component.{LinkedAmong, wccOf}
 use Rattle.wcc.proofs.Meaning.{wcc-length, labels-same}
-use Rattle.cdlp.specs.Promise.{goodRounds}
+use Rattle.cdlp.specs.Call.{goodRounds}
 use Rattle.cdlp.specs.Rounds.{cdlpOf}
 use Rattle.cdlp.proofs.Runs.{cdlp-length}
 use Rattle.matching.specs.Claim.{idsOf, claimedOf}
@@ -75,11 +75,11 @@ module _ (most : ℕ) (g : Graph) (parameter : ℤ) (s : List ℕ) (R C : List �
       rw (cdlp-says, says-judged (cdlpReference most g s parameter) e) (exact-judged most (names g) (cdlpOf g (natAbs parameter)) s)
 
   -- "WCC: equal claims exactly where components are equal."
-  pub wcc-judged : Judges identOf most (names g) (EqualWhere (g .vertices) (Linked (g .vertices) (outward g))) (Disagrees (wccOf g)) s
+  pub wcc-judged : Judges identOf most (names g) (EqualWhere (g .vertices) (LinkedAmong (g .vertices) (outward g))) (Disagrees (wccOf g)) s
       (verdictCall most g 2 parameter s R C F S T .said)
   wcc-judged =
       rw (wcc-says, says-judged (wccReference most g s) refl)
-      (equivalence-judged most (names g) (wccOf g) (g .vertices) (wcc-length g (sound-of g sound)) (Linked (g .vertices) (outward g))
+      (equivalence-judged most (names g) (wccOf g) (g .vertices) (wcc-length g (sound-of g sound)) (LinkedAmong (g .vertices) (outward g))
       (labels-same g (sound-of g sound)) s)
 
   -- "LCC: 10,000 times |r-s| at most r, with r the exact fraction and s the exact decimal."
@@ -101,7 +101,7 @@ module _ (most : ℕ) (g : Graph) (parameter : ℤ) (s : List ℕ) (R C : List �
   cdlp-accepted e = cdlp-judged e .accepted
 
   pub wcc-accepted : (verdictCall most g 2 parameter s R C F S T .said ≡ accepted)
-      ↔ GoodClaim identOf most (names g) (EqualWhere (g .vertices) (Linked (g .vertices) (outward g))) s
+      ↔ GoodClaim identOf most (names g) (EqualWhere (g .vertices) (LinkedAmong (g .vertices) (outward g))) s
   wcc-accepted = wcc-judged .accepted
 
   pub lcc-accepted : (any : Decimal) → (verdictCall most g 4 parameter s R C F S T .said ≡ accepted)

@@ -15,8 +15,9 @@ use Rattle.basis.specs.Order.{sameZ}
 use Rattle.graph.specs.declared.find.Found.{Found}
 use Rattle.graph.specs.declared.find.Found.the-variants.{At, Missing}
 use Rattle.graph.specs.Sound.{Graph, outward, inward, names}
-use Rattle.bfs.specs.Depth.{leastFrom, depthOf}
+use Rattle.bfs.specs.Depth.{ringDepth, depthOf}
 use Rattle.bfs.specs.Call.{depthsFrom}
+use Rattle.bfs.proofs.Rings.{depth-cases}
 use Rattle.cdlp.specs.Label.{times, standing, mostCommon, smallest, smallestOr, nextLabel}
 use Rattle.cdlp.specs.Rounds.{around, labelsAt, nextAt, oneRound, rounds, cdlpOf}
 use Rattle.matching.proofs.Listing.{AllFit}
@@ -35,19 +36,13 @@ fit-column f h s zero = tt
 fit-column f h s (suc n) = (h s, fit-column f h (suc s) n)
 
 -- ---- BFS
-least-fits : (p : ℕ → Bool) (n k : ℕ) → k + n ≤ mostVertices → SFits w64 (leastFrom p n k)
-unfolding leastFrom
-least-fits p zero k h = fit-small 9223372036854775807 (omega arith)
-least-fits p (suc n) k h = by (p k) (least-fits p n (suc k) (omega arith))
-  where
-    by : (t : Bool) → SFits w64 (leastFrom p n (suc k)) → SFits w64 (elim t [ true ↦ pos k | false ↦ leastFrom p n (suc k) ])
-    by true r = fit-small k (omega arith)
-    by false r = r
+depth-fits : (n k : ℕ) → n ≤ mostVertices → SFits w64 (ringDepth n k)
+depth-fits n k h = depth-cases (SFits w64) n k (λ l. fit-small k (omega arith)) (fit-small 9223372036854775807 (omega arith))
 
 pub bfs-fits : (g : Graph) → g .vertices ≤ mostVertices → (place : Found) → AllFit (depthsFrom g place)
 unfolding depthOf
 bfs-fits g h (At root) =
-    fit-column (depthOf (g .vertices) (outward g) root) (λ v. least-fits _ (g .vertices) 0 (omega arith)) 0 (g .vertices)
+    fit-column (depthOf (g .vertices) (outward g) root) (λ v. depth-fits (g .vertices) _ h) 0 (g .vertices)
 bfs-fits g h Missing = tt
 
 -- ---- CDLP: a label is one of those before it

@@ -9,7 +9,7 @@ use Rattle.graph.specs.Find.{placeIn, isThere}
 use Rattle.graph.specs.Sound.{Graph, outward, inward, names}
 use Rattle.bfs.specs.Call.{depthsFrom}
 use Rattle.wcc.specs.Component.{wccOf}
-use Rattle.cdlp.specs.Promise.{goodRounds}
+use Rattle.cdlp.specs.Call.{goodRounds}
 use Rattle.cdlp.specs.Rounds.{cdlpOf}
 use Rattle.lcc.specs.Lcc.{numerator, denominator, numerators, denominators}
 use Rattle.matching.specs.Claim.{numberLines, coefficientLines}

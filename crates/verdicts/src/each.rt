@@ -4,7 +4,7 @@ use crate::claims::terms_on;
 use bfs::bfs;
 use cdlp::cdlp;
 use graph::Size;
-use lcc::lcc::lcc;
+use lcc::lcc;
 use matching::Judged;
 use matching::numbers::Rule;
 use wcc::wcc;

@@ -1,4 +1,4 @@
--- `chain n` is `Linked`, among n vertices whose arcs stay among them. Assumes nothing.
+-- `chain n` is `LinkedAmong n`, among n vertices whose arcs stay among them. Assumes nothing.
 use Prim.Native.Nat.{ℕ, zero, suc, _≤_, _<_}
 use mathlib.Core.Path.{_≡_, refl, sym, subst}
 use mathlib.Core.Logic.{_⊎_, inl, inr, ⊎-elim}
@@ -8,32 +8,33 @@ use native.Mathlib.Nat.{not-suc-le-zero, le-of-suc-le-suc, eq-or-lt-of-le}
 use native.Mathlib.Omega.{arith}
 use lib.Dec.{eqb}
 use borrow.Author.Tests.{eq-eqb, eqb-true}
-use Rattle.basis.specs.Scan.{allBelow, mem}
+use Rattle.basis.specs.Closure.{itself, by, back, on}
+use Rattle.basis.specs.Scan.{Inside, mem}
 use Rattle.basis.proofs.Tests.{and-first, and-second, and-both, or-first, or-second, or-cases}
 use Rattle.basis.proofs.Scans.{below-mem}
-use Rattle.wcc.specs.Component.{Linked, itself, along, back, on, beside, chain}
+use Rattle.wcc.specs.Component.{LinkedAmong, adjacent, chain}
 
 module _ (out : ℕ → List ℕ) where
-  beside-same : (u v : ℕ) → u ≡ v → beside out u v ≡ true
-  unfolding beside
-  beside-same u v e = or-first (eqb u v || mem v (out u)) (mem u (out v)) (or-first (eqb u v) (mem v (out u)) (eq-eqb u v e))
+  adjacent-same : (u v : ℕ) → u ≡ v → adjacent out u v ≡ true
+  unfolding adjacent
+  adjacent-same u v e = or-first (eqb u v || mem v (out u)) (mem u (out v)) (or-first (eqb u v) (mem v (out u)) (eq-eqb u v e))
 
-  beside-out : (u v : ℕ) → mem v (out u) ≡ true → beside out u v ≡ true
-  unfolding beside
-  beside-out u v a = or-first (eqb u v || mem v (out u)) (mem u (out v)) (or-second (eqb u v) (mem v (out u)) a)
+  adjacent-out : (u v : ℕ) → mem v (out u) ≡ true → adjacent out u v ≡ true
+  unfolding adjacent
+  adjacent-out u v a = or-first (eqb u v || mem v (out u)) (mem u (out v)) (or-second (eqb u v) (mem v (out u)) a)
 
-  beside-in : (u v : ℕ) → mem u (out v) ≡ true → beside out u v ≡ true
-  unfolding beside
-  beside-in u v a = or-second (eqb u v || mem v (out u)) (mem u (out v)) a
+  adjacent-in : (u v : ℕ) → mem u (out v) ≡ true → adjacent out u v ≡ true
+  unfolding adjacent
+  adjacent-in u v a = or-second (eqb u v || mem v (out u)) (mem u (out v)) a
 
-  beside-cases : (u v : ℕ) → beside out u v ≡ true → ((u ≡ v) ⊎ (mem v (out u) ≡ true)) ⊎ (mem u (out v) ≡ true)
-  unfolding beside
-  beside-cases u v t =
+  adjacent-cases : (u v : ℕ) → adjacent out u v ≡ true → ((u ≡ v) ⊎ (mem v (out u) ≡ true)) ⊎ (mem u (out v) ≡ true)
+  unfolding adjacent
+  adjacent-cases u v t =
       ⊎-elim (λ s. inl (⊎-elim (λ e. inl (eqb-true u v e)) inr (or-cases (eqb u v) (mem v (out u)) s))) inr
       (or-cases (eqb u v || mem v (out u)) (mem u (out v)) t)
 
-  beside-back : (u v : ℕ) → beside out u v ≡ true → beside out v u ≡ true
-  beside-back u v t = ⊎-elim (λ s. ⊎-elim (λ e. beside-same v u (sym e)) (beside-in v u) s) (beside-out v u) (beside-cases u v t)
+  adjacent-back : (u v : ℕ) → adjacent out u v ≡ true → adjacent out v u ≡ true
+  adjacent-back u v t = ⊎-elim (λ s. ⊎-elim (λ e. adjacent-same v u (sym e)) (adjacent-in v u) s) (adjacent-out v u) (adjacent-cases u v t)
 
   -- a chain goes through k or it doesn't
   chain-cases : (k u v : ℕ) → chain out (suc k) u v ≡ true
@@ -51,12 +52,12 @@ module _ (out : ℕ → List ℕ) where
   unfolding chain
   chain-via k u v s t = or-second (chain out k u v) (chain out k u k && chain out k k v) (and-both s t)
 
-  chain-base : (k u v : ℕ) → beside out u v ≡ true → chain out k u v ≡ true
+  chain-base : (k u v : ℕ) → adjacent out u v ≡ true → chain out k u v ≡ true
   chain-base zero u v t = unfold chain in t
   chain-base (suc k) u v t = chain-more k u v (chain-base k u v t)
 
   chain-back : (k u v : ℕ) → chain out k u v ≡ true → chain out k v u ≡ true
-  chain-back zero u v t = unfold chain in beside-back u v (unfold chain in t)
+  chain-back zero u v t = unfold chain in adjacent-back u v (unfold chain in t)
   chain-back (suc k) u v t =
       ⊎-elim (λ a. chain-more k v u (chain-back k u v a)) (λ a. chain-via k v u (chain-back k k v (a .1)) (chain-back k u k (a .0)))
       (chain-cases k u v t)
@@ -84,28 +85,28 @@ module _ (out : ℕ → List ℕ) where
 
   module _ (n : ℕ) where
     -- a chain of the definition links
-    pub chain-linked : (k u v : ℕ) → k ≤ n → u < n → v < n → chain out k u v ≡ true → Linked n out u v
+    pub chain-linked : (k u v : ℕ) → k ≤ n → u < n → v < n → chain out k u v ≡ true → LinkedAmong n out u v
     chain-linked zero u v h l r t =
-        ⊎-elim (λ s. ⊎-elim (λ e. subst (Linked n out u) e (itself u)) (along l) s) (λ a. back (along r a))
-        (beside-cases u v (unfold chain in t))
+        ⊎-elim (λ s. ⊎-elim (λ e. subst (LinkedAmong n out u) e (itself u)) (λ a. by (l, a)) s) (λ a. back (by (r, a)))
+        (adjacent-cases u v (unfold chain in t))
     chain-linked (suc k) u v h l r t =
         ⊎-elim
         (λ a. chain-linked k u v (omega arith) l r a)
         (λ a. on (chain-linked k u k (omega arith) l (omega arith) (a .0)) (chain-linked k k v (omega arith) (omega arith) r (a .1)))
         (chain-cases k u v t)
 
-    module _ (inside : (u : ℕ) → u < n → allBelow n (out u) ≡ true) where
+    module _ (inside : Inside n out) where
       -- links stay among the vertices
-      pub linked-below : {u v : ℕ} → Linked n out u v → (u < n → v < n) × (v < n → u < n)
+      pub linked-below : {u v : ℕ} → LinkedAmong n out u v → (u < n → v < n) × (v < n → u < n)
       linked-below (itself v) = (λ h. h, λ h. h)
-      linked-below (along {u = u} {w = w} l a) = (λ h. below-mem n (out u) (inside u l) w a, λ h. l)
+      linked-below (by {u = u} {v = w} a) = (λ h. below-mem n (out u) (inside u (a .0)) w (a .1), λ h. a .0)
       linked-below (back p) = let r = linked-below p in (r .1, r .0)
       linked-below (on p q) = let r = linked-below p in let s = linked-below q in (λ h. s .0 (r .0 h), λ h. r .1 (s .1 h))
 
       -- what is linked, a chain of the definition links
-      pub linked-chain : {u v : ℕ} → Linked n out u v → u < n → chain out n u v ≡ true
-      linked-chain (itself v) h = chain-base n v v (beside-same v v refl)
-      linked-chain (along {u = u} {w = w} l a) h = chain-base n u w (beside-out u w a)
+      pub linked-chain : {u v : ℕ} → LinkedAmong n out u v → u < n → chain out n u v ≡ true
+      linked-chain (itself v) h = chain-base n v v (adjacent-same v v refl)
+      linked-chain (by {u = u} {v = w} a) h = chain-base n u w (adjacent-out u w (a .1))
       linked-chain (back {u = u} {v = v} p) h = chain-back n u v (linked-chain p (linked-below p .1 h))
       linked-chain (on {u = u} {v = v} {w = w} p q) h =
           chain-on n u v w (linked-below p .0 h) (linked-chain p h) (linked-chain q (linked-below p .0 h))

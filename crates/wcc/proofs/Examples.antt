@@ -1,33 +1,31 @@
--- 01 "Checked examples", P5, on the definition and through the call; a path against its arcs; refusals. Each computed. Assumes nothing.
+-- WCC on the sheet's graph of 01, computed through the call; refusals; a path against its arcs. Assumes nothing.
 use mathlib.Core.Path.{_≡_, refl}
 use mathlib.Core.List.{[], _∷_}
 use lib.IntN.{pos, negsuc}
 use Rattle.basis.specs.Refusal.{gives, refuses, plain}
 use Rattle.basis.specs.Area.{column}
-use Rattle.basis.specs.Scan.{every, each, mem}
+use Rattle.basis.specs.Scan.{every, each, mem, firstFrom}
 use Rattle.graph.specs.Part.{targetsBetween, partOf}
 use Rattle.graph.specs.Sound.{lent, soundIds, soundOffsets, soundSide, mirrored, soundSides, soundGraph}
 use Rattle.graph.proofs.Examples.{sheetGraph}
 use Rattle.kernels.specs.Answer.{kernelSays}
-use Rattle.wcc.specs.Component.{beside, chain, firstFrom, first, labelOf, labels, wccOf}
-use Rattle.wcc.specs.Promise.{roomFor, outcome, leftBy, wccCall}
+use Rattle.wcc.specs.Component.{adjacent, chain, first, labelOf, labels}
+use Rattle.wcc.specs.Call.{roomFor, outcome, leftBy, wccCall}
 
--- P5: vertices -3 2 5 9 20 of the sheet have labels -3 2 2 2 2
-pub p5 : wccOf sheetGraph ≡ negsuc 2 ∷ pos 2 ∷ pos 2 ∷ pos 2 ∷ pos 2 ∷ []
-unfolding column labelOf first firstFrom chain beside mem partOf targetsBetween
-p5 = refl
-
--- through the call, in areas with places to spare
-pub p5-call : wccCall sheetGraph (pos 7 ∷ pos 7 ∷ pos 7 ∷ pos 7 ∷ pos 7 ∷ pos 7 ∷ []) (9 ∷ 9 ∷ 9 ∷ 9 ∷ 9 ∷ []) (9 ∷ 9 ∷ 9 ∷ 9 ∷ 9 ∷ 9 ∷ [])
+-- areas with places to spare that held something before
+pub spare-places : wccCall sheetGraph (pos 7 ∷ pos 7 ∷ pos 7 ∷ pos 7 ∷ pos 7 ∷ pos 7 ∷ []) (9 ∷ 9 ∷ 9 ∷ 9 ∷ 9 ∷ [])
+    (9 ∷ 9 ∷ 9 ∷ 9 ∷ 9 ∷ 9 ∷ [])
     ≡ outcome (gives tt) (negsuc 2 ∷ pos 2 ∷ pos 2 ∷ pos 2 ∷ pos 2 ∷ pos 0 ∷ []) (0 ∷ 0 ∷ 0 ∷ 0 ∷ 0 ∷ []) (0 ∷ 0 ∷ 0 ∷ 0 ∷ 0 ∷ 0 ∷ [])
-unfolding wccCall leftBy kernelSays roomFor soundSides soundGraph soundIds soundSide soundOffsets mirrored every each mem partOf targetsBetween
-    column labelOf first firstFrom chain beside
-p5-call = refl
+unfolding wccCall leftBy kernelSays roomFor soundSides soundGraph soundIds soundSide soundOffsets mirrored every each mem partOf
+    targetsBetween
+    column labelOf first firstFrom chain adjacent
+spare-places = refl
 
 -- one place too few in the last area
 pub too-short : wccCall sheetGraph (pos 7 ∷ pos 7 ∷ pos 7 ∷ pos 7 ∷ pos 7 ∷ []) (9 ∷ 9 ∷ 9 ∷ 9 ∷ 9 ∷ []) (9 ∷ 9 ∷ 9 ∷ 9 ∷ [])
     ≡ outcome (refuses (plain 8)) (pos 0 ∷ pos 0 ∷ pos 0 ∷ pos 0 ∷ pos 0 ∷ []) (0 ∷ 0 ∷ 0 ∷ 0 ∷ 0 ∷ []) (0 ∷ 0 ∷ 0 ∷ 0 ∷ [])
-unfolding wccCall leftBy kernelSays roomFor soundSides soundGraph soundIds soundSide soundOffsets mirrored every each mem partOf targetsBetween
+unfolding wccCall leftBy kernelSays roomFor soundSides soundGraph soundIds soundSide soundOffsets mirrored every each mem partOf
+    targetsBetween
 too-short = refl
 
 -- an unsound graph, with an arc too few stated, comes before an area too short
@@ -40,5 +38,5 @@ unsound-first = refl
 -- arcs 3 to 0, 3 to 2 and 2 to 1: from 0 to 1 leads one arc against its direction and two along theirs; vertex 4 is alone
 pub either-way : labels 5 (partOf 5 (0 ∷ 0 ∷ 0 ∷ 1 ∷ 3 ∷ 3 ∷ []) (1 ∷ 0 ∷ 2 ∷ [])) (pos 10 ∷ pos 20 ∷ pos 30 ∷ pos 40 ∷ pos 50 ∷ [])
     ≡ pos 10 ∷ pos 10 ∷ pos 10 ∷ pos 10 ∷ pos 50 ∷ []
-unfolding column labelOf first firstFrom chain beside mem partOf targetsBetween
+unfolding column labelOf first firstFrom chain adjacent mem partOf targetsBetween
 either-way = refl

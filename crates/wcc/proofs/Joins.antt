@@ -10,16 +10,17 @@ use native.Mathlib.Omega.{arith}
 use lib.IntN.{ℤ}
 use lib.ListN.{length}
 use Rattle.basis.specs.Refusal.{Said}
-use Rattle.basis.specs.Scan.{allBelow, mem}
+use Rattle.basis.specs.Closure.{Linked}
+use Rattle.basis.specs.Scan.{Inside, mem}
+use Rattle.basis.proofs.Closures.{linked-within}
 use Rattle.basis.proofs.Scans.{mem-none-of, mem-head, mem-tail, mem-cases}
 use Rattle.book.specs.Rules.{Done, done, all, openBook, joinEach}
 use Rattle.book.specs.Two.{Areas, areas, two, twoBook}
-use Rattle.book.specs.Series.{Slip, slip, putEach, headIn, headAt}
-use Rattle.book.specs.Series as series
+use Rattle.book.specs.Series.{Slip, slip, putEach, headIn, headAt, Accepted}
 use Rattle.book.proofs.TwoBook.{faithful-two}
 use Rattle.book.proofs.Held.{Held, two-open, held-all, held-each, held-kept, held-head}
-use Rattle.wcc.specs.Component.{Linked, itself, along, back, on, labels}
-use Rattle.wcc.specs.Steps.{headHere, joinArcs, marked, takenOver, Within, Exact}
+use Rattle.wcc.specs.Component.{LinkedAmong, labels}
+use Rattle.wcc.specs.Steps.{headHere, joinArcs, marked, takenOver, Within, Fitting}
 use Rattle.wcc.proofs.Passes.{Heads, labels-are}
 
 -- ---- the joins along the arcs, the latest first
@@ -27,7 +28,7 @@ slipsOf : (ℕ → List ℕ) → ℕ → List Slip
 slipsOf out zero = []
 slipsOf out (suc u) = putEach u (out u) (slipsOf out u)
 
-held-arcs : (n : ℕ) (out : ℕ → List ℕ) → ((u : ℕ) → u < n → allBelow n (out u) ≡ true) → (a : Areas) → Held twoBook n a [] → (k : ℕ) → k ≤ n
+held-arcs : (n : ℕ) (out : ℕ → List ℕ) → Inside n out → (a : Areas) → Held twoBook n a [] → (k : ℕ) → k ≤ n
     → Held twoBook n (joinArcs out k a) (slipsOf out k)
 unfolding joinArcs slipsOf
 held-arcs n out inside a H zero l = H
@@ -37,7 +38,7 @@ held-arcs n out inside a H (suc k) l =
 
 -- and in a book just opened the joins along the arcs of each vertex are all accepted:
 -- the answer that the code does not look at is no refusal
-pub arcs-accepted : (n : ℕ) (out : ℕ → List ℕ) → ((u : ℕ) → u < n → allBelow n (out u) ≡ true) → (a : Areas) → Held twoBook n a [] → (u : ℕ)
+pub arcs-accepted : (n : ℕ) (out : ℕ → List ℕ) → Inside n out → (a : Areas) → Held twoBook n a [] → (u : ℕ)
     → u < n
     → (m : ℕ) × (joinEach twoBook (joinArcs out u a) u (out u) .said ≡ all m)
 arcs-accepted n out inside a H u l =
@@ -94,20 +95,14 @@ module _ (out : ℕ → List ℕ) where
       (part-mem k (out k) (slipsOf out k) x y m)
 
   -- a chain of accepted joins is a chain of arcs, and the other way round
-  joins-linked : (n : ℕ) {u v : ℕ} → series.Linked (slipsOf out n) u v → Linked n out u v
-  joins-linked n (series.Linked.itself v) = itself v
-  joins-linked n (series.Linked.by u v m) = let r = slips-mem n u v m in along (r .0) (r .1)
-  joins-linked n (series.Linked.back p) = back (joins-linked n p)
-  joins-linked n (series.Linked.on p q) = on (joins-linked n p) (joins-linked n q)
+  joins-linked : (n : ℕ) {u v : ℕ} → Linked (Accepted (slipsOf out n)) u v → LinkedAmong n out u v
+  joins-linked n l = linked-within (slips-mem n) l
 
-  linked-joins : (n : ℕ) {u v : ℕ} → Linked n out u v → series.Linked (slipsOf out n) u v
-  linked-joins n (itself v) = series.Linked.itself v
-  linked-joins n (along {u = u} {w = w} l a) = series.Linked.by u w (slips-new n u w l a)
-  linked-joins n (back p) = series.Linked.back (linked-joins n p)
-  linked-joins n (on p q) = series.Linked.on (linked-joins n p) (linked-joins n q)
+  linked-joins : (n : ℕ) {u v : ℕ} → LinkedAmong n out u v → Linked (Accepted (slipsOf out n)) u v
+  linked-joins n l = linked-within (λ u w a. slips-new n u w (a .0) (a .1)) l
 
 -- ---- the heads of the book that the kernel makes of areas ps, ss: opened, then joined along the arcs
-module _ (n : ℕ) (out : ℕ → List ℕ) (ids R : List ℤ) (ps ss : List ℕ) (x : Exact n out ids R ps ss) (d : Said (Unit {0}))
+module _ (n : ℕ) (out : ℕ → List ℕ) (ids R : List ℤ) (ps ss : List ℕ) (x : Fitting n out ids R ps ss) (d : Said (Unit {0}))
     (ps₁ ss₁ ps₂ ss₂ : List ℕ)
     (opened : done d (areas ps₁ ss₁) ≡ openBook twoBook (areas ps ss)) (joined : areas ps₂ ss₂ ≡ joinArcs out n (areas ps₁ ss₁)) where
   kept : Held twoBook n (areas ps₂ ss₂) (slipsOf out n)
@@ -149,5 +144,5 @@ module _ (n : ℕ) (out : ℕ → List ℕ) (ids R : List ℤ) (ps ss : List ℕ
         q ∙ ap₂ (takenOver (headHere ps₂ ss₂)) l (p ∙ ap (λ (k : ℕ). marked (headHere ps₂ ss₂) ids k R) (x .resultRoom))
         ∙ labels-are n out (x .inside) (headHere ps₂ ss₂) heads-are ids R (x .resultRoom)
 
-pub exact-named : (n : ℕ) (out : ℕ → List ℕ) (ids R : List ℤ) (ps ss : List ℕ) → Exact n out ids R ps ss → length ids ≡ length R
-exact-named n out ids R ps ss x = x .named ∙ sym (x .resultRoom)
+pub fitting-named : (n : ℕ) (out : ℕ → List ℕ) (ids R : List ℤ) (ps ss : List ℕ) → Fitting n out ids R ps ss → length ids ≡ length R
+fitting-named n out ids R ps ss x = x .named ∙ sym (x .resultRoom)

@@ -11,6 +11,7 @@ use lib.Signed.{ltZ}
 use borrow.Author.Tests.{eqb-true, le-ltb}
 use Rattle.basis.specs.Area.{padZ}
 use Rattle.basis.specs.Order.{sameZ}
+use Rattle.basis.specs.Closure.{by, back}
 use Rattle.basis.specs.Scan.{mem}
 use Rattle.basis.proofs.Orders.{same-places, less-places, signed-order}
 use Rattle.basis.proofs.Areas.{column-length, column-at}
@@ -18,8 +19,8 @@ use Rattle.graph.specs.Sound.{Graph, outward, inward, names, soundGraph, Sound}
 use Rattle.graph.proofs.Sounds.{sound-of, outward-below, names-length, arcs-agree}
 use Rattle.kernels.specs.Answer.{kernelSays}
 use Rattle.kernels.proofs.Results.{pad-value, pad-behind}
-use Rattle.wcc.specs.Component.{along, back, first, labelOf, wccOf}
-use Rattle.wcc.specs.Promise.{roomFor, leftBy, wccCall}
+use Rattle.wcc.specs.Component.{first, labelOf, wccOf}
+use Rattle.wcc.specs.Call.{roomFor, leftBy, wccCall}
 use Rattle.wcc.specs.Meaning.{LinkedIn, Done, Called}
 use Rattle.wcc.proofs.Calls.{first-result}
 use Rattle.wcc.proofs.Firsts.{first-below, first-linked, first-least, first-same}
@@ -27,7 +28,7 @@ use Rattle.wcc.proofs.Firsts.{first-below, first-linked, first-least, f
 module _ (g : Graph) (s : Sound g) where
   -- the inward arcs are among them
   pub inward-linked : (u w : ℕ) → u < g .vertices → w < g .vertices → mem u (inward g w) ≡ true → LinkedIn g w u
-  inward-linked u w k l m = back (along k (arcs-agree g s u w k l .1 m))
+  inward-linked u w k l m = back (by (k, arcs-agree g s u w k l .1 m))
 
   pub wcc-length : length (wccOf g) ≡ g .vertices
   wcc-length = column-length (labelOf (g .vertices) (outward g) (names g)) 0 (g .vertices)
@@ -93,7 +94,7 @@ module _ (g : Graph) (R : List ℤ) (P S : List ℕ) where
       s = sound-of g t
 
       fits : g .vertices ≤ length R
-      fits = first-result (g .vertices) R P S r R refl
+      fits = first-result (g .vertices) R P S r
 
       at : (v : ℕ) → v < g .vertices → getD (padZ (length R) (wccOf g)) v (pos 0) ≡ getD (wccOf g) v (pos 0)
       at v l = pad-value (pos 0) (g .vertices) (length R) (wccOf g) (wcc-length g s) fits v l

@@ -2,7 +2,6 @@
 use Prim.Native.Nat.{ℕ, zero, suc, _≤_, _<_}
 use mathlib.Core.Path.{_≡_, refl, sym, ap, _∙_}
 use mathlib.Core.Logic.{_↔_, ⊎-elim}
-use mathlib.Core.Bool.{true}
 use mathlib.Core.List.{List}
 use native.Mathlib.Nat.{not-suc-le-zero, le-of-suc-le-suc, eq-or-lt-of-le}
 use native.Mathlib.Decide.{ℕ-discrete}
@@ -10,9 +9,9 @@ use native.Mathlib.Omega.{arith}
 use lib.IntN.{ℤ, pos}
 use lib.ListN.{length, getD, set, length-set}
 use lib.Seq.{getD-set-same, getD-set-other}
-use Rattle.basis.specs.Scan.{allBelow}
+use Rattle.basis.specs.Scan.{Inside}
 use Rattle.basis.proofs.Areas.{column-is}
-use Rattle.wcc.specs.Component.{Linked, first, labelOf, labels}
+use Rattle.wcc.specs.Component.{LinkedAmong, first, labelOf, labels}
 use Rattle.wcc.specs.Steps.{marked, takenOver, Within}
 use Rattle.wcc.proofs.Firsts.{first-below, first-linked, first-least}
 
@@ -86,9 +85,9 @@ module _ (g : ℕ → ℕ) where
 pub record Heads (n : ℕ) (out : ℕ → List ℕ) (g : ℕ → ℕ) : Type 0 where
   pub within : Within n g
   pub settled : (v : ℕ) → v < n → g (g v) ≡ g v
-  pub same : (u v : ℕ) → u < n → v < n → (g u ≡ g v) ↔ Linked n out u v
+  pub same : (u v : ℕ) → u < n → v < n → (g u ≡ g v) ↔ LinkedAmong n out u v
 
-module _ (n : ℕ) (out : ℕ → List ℕ) (inside : (u : ℕ) → u < n → allBelow n (out u) ≡ true) (g : ℕ → ℕ) (H : Heads n out g) (ids R : List ℤ)
+module _ (n : ℕ) (out : ℕ → List ℕ) (inside : Inside n out) (g : ℕ → ℕ) (H : Heads n out g) (ids R : List ℤ)
     (e : length R ≡ n) where
   label-at : (v : ℕ) → v < n → getD (takenOver g n (marked g ids n R)) v (pos 0) ≡ labelOf n out ids v
   unfolding labelOf

@@ -7,33 +7,35 @@ use mathlib.Core.List.{List}
 use lib.IntN.{ℤ, pos}
 use lib.ListN.{length, getD}
 use lib.Signed.{ltZ}
-use Rattle.basis.specs.Refusal.{gives, refuses, plain, unsound, noRoom}
-use Rattle.basis.specs.Area.{cleared, clearedZ}
+use Rattle.basis.specs.Refusal.{gives, unsound, noRoom}
+use Rattle.basis.specs.Area.{cleared}
 use Rattle.graph.specs.Sound.{Graph, outward, names, soundGraph}
 use Rattle.kernels.specs.Result.{ZeroBehind}
-use Rattle.wcc.specs.Component.{Linked}
-use Rattle.wcc.specs.Promise.{Outcome, outcome, roomFor}
+use Rattle.wcc.specs.Component.{LinkedAmong}
+use Rattle.wcc.specs.Call.{Outcome, refusal, roomFor}
 
 -- a chain of the graph's arcs, "arcs followed either way", links two vertices
 abbrev pub LinkedIn : Graph → ℕ → ℕ → Type 0
-LinkedIn g u v = Linked (g .vertices) (outward g) u v
+LinkedIn g u v = LinkedAmong (g .vertices) (outward g) u v
 
 -- a call that gives the labels: each vertex has its label at its place
 pub record Done (g : Graph) (result : List ℤ) (parents sizes : List ℕ) (o : Outcome) : Type 0 where
   pub answer : o .said ≡ gives tt
   -- "Two vertices belong to the same component, and thus have the same label, if there exists a path between these vertices": exactly then
-  pub same : (u v : ℕ) → u < g .vertices → v < g .vertices → (getD (o .result) u (pos 0) ≡ getD (o .result) v (pos 0)) ↔ LinkedIn g u v
+  pub same : (u v : ℕ) → u < g .vertices → v < g .vertices
+      → (getD (o .result) u (pos 0) ≡ getD (o .result) v (pos 0)) ↔ LinkedIn g u v
   -- "the smallest identifier of the component": it is the identifier of a member
-  pub member : (v : ℕ) → v < g .vertices → (u : ℕ) × (u < g .vertices) × LinkedIn g u v × (getD (o .result) v (pos 0) ≡ getD (names g) u (pos 0))
+  pub member : (v : ℕ) → v < g .vertices
+      → (u : ℕ) × (u < g .vertices) × LinkedIn g u v × (getD (o .result) v (pos 0) ≡ getD (names g) u (pos 0))
   -- and no member's is smaller
-  pub least : (u v : ℕ) → u < g .vertices → v < g .vertices → LinkedIn g u v → ltZ (getD (names g) u (pos 0)) (getD (o .result) v (pos 0)) ≡ false
+  pub least : (u v : ℕ) → u < g .vertices → v < g .vertices → LinkedIn g u v
+      → ltZ (getD (names g) u (pos 0)) (getD (o .result) v (pos 0)) ≡ false
   pub behind : ZeroBehind (pos 0) (g .vertices) (length result) (o .result)
   -- "working areas are zero throughout"
   pub zeros : (o .parents ≡ cleared parents) × (o .sizes ≡ cleared sizes)
 
 -- what a call means, refusals included; result, parents and sizes stood in the three areas before it
 pub record Called (g : Graph) (result : List ℤ) (parents sizes : List ℕ) (o : Outcome) : Type 0 where
-  pub notSound : soundGraph g ≡ false → o ≡ outcome (refuses (plain unsound)) (clearedZ result) (cleared parents) (cleared sizes)
-  pub short : soundGraph g ≡ true → roomFor (g .vertices) result parents sizes ≡ false
-      → o ≡ outcome (refuses (plain noRoom)) (clearedZ result) (cleared parents) (cleared sizes)
+  pub notSound : soundGraph g ≡ false → o ≡ refusal unsound result parents sizes
+  pub short : soundGraph g ≡ true → roomFor (g .vertices) result parents sizes ≡ false → o ≡ refusal noRoom result parents sizes
   pub done : soundGraph g ≡ true → roomFor (g .vertices) result parents sizes ≡ true → Done g result parents sizes o

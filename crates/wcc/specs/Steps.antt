@@ -1,14 +1,22 @@
--- What the kernel's private functions do: the joins along the arcs, and the two passes that write the labels.
+-- What the kernel's private functions do and need: the joins along the arcs, and the two passes that write the labels.
 use Prim.Native.Nat.{ℕ, zero, suc, _≤_, _<_}
 use mathlib.Core.Path.{_≡_}
 use mathlib.Core.Bool.{true}
 use mathlib.Core.List.{List}
 use lib.IntN.{ℤ, pos}
 use lib.ListN.{length, getD, set}
-use Rattle.basis.specs.Scan.{allBelow}
+use Rattle.basis.specs.Limits.{mostVertices}
+use Rattle.basis.specs.Scan.{Inside}
 use Rattle.book.specs.Rules.{headOf, joinEach}
 use Rattle.book.specs.Two.{Areas, two, twoBook}
 use Rattle.book.specs.Series.{headIn}
+use Rattle.graph.specs.Sound.{Graph, soundGraph}
+use Rattle.wcc.specs.Call.{roomFor}
+
+-- the areas can be filled: the graph is sound, and each area has room for its vertices
+pub record Ready (g : Graph) (result : List ℤ) (parents sizes : List ℕ) : Type 0 where
+  pub sound : soundGraph g ≡ true
+  pub room : roomFor (g .vertices) result parents sizes ≡ true
 
 -- the head of v in the book that stands in two areas
 unfoldable pub headHere : List ℕ → List ℕ → ℕ → ℕ
@@ -33,10 +41,10 @@ takenOver g (suc v) R = set (takenOver g v R) v (getD (takenOver g v R) (g v) (p
 abbrev pub Within : ℕ → (ℕ → ℕ) → Type 0
 Within n g = (v : ℕ) → v < n → g v < n
 
--- arcs among n vertices, an identifier for each, and one place for each in every area
-pub record Exact (n : ℕ) (out : ℕ → List ℕ) (ids R : List ℤ) (ps ss : List ℕ) : Type 0 where
-  pub few : n ≤ 65536
-  pub inside : (u : ℕ) → u < n → allBelow n (out u) ≡ true
+-- the labels can be written: arcs among n vertices, an identifier for each, and exactly one place for each in every area
+pub record Fitting (n : ℕ) (out : ℕ → List ℕ) (ids R : List ℤ) (ps ss : List ℕ) : Type 0 where
+  pub few : n ≤ mostVertices
+  pub inside : Inside n out
   pub named : length ids ≡ n
   pub resultRoom : length R ≡ n
   pub parentsRoom : length ps ≡ n

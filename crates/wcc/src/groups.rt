@@ -27,7 +27,9 @@ pub(crate) fn join_arcs(
     parents: &mut [usize],
     sizes: &mut [usize],
 )
-    ensures { λ _. ⌜ areas (now (parents .exit)) (now (sizes .exit)) ≡ joinArcs (partOf n (now (offsets .entry)) (now (targets .entry))) n (areas (now (parents .entry)) (now (sizes .entry))) ⌝ }
+    ensures { λ _. ⌜
+        areas (now (parents .exit)) (now (sizes .exit))
+        ≡ joinArcs (partOf n (now (offsets .entry)) (now (targets .entry))) n (areas (now (parents .entry)) (now (sizes .entry))) ⌝ }
 {
     let mut u = 0;
     while u < n {

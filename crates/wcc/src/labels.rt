@@ -6,13 +6,16 @@ ghost use mathlib.Core.Path.{_≡_};
 ghost use lib.ListN.{length};
 ghost use Rattle.graph.specs.Part.{partOf};
 ghost use Rattle.wcc.specs.Component.{labels};
-ghost use Rattle.wcc.specs.Steps.{headHere, marked, takenOver, Within, Exact};
+ghost use Rattle.wcc.specs.Steps.{headHere, marked, takenOver, Within, Fitting};
 
 // Each head gets the smallest identifier of its group: vertices write theirs from the last to the first.
 fn mark(parents: &[usize], sizes: &[usize], ids: &[i64], result: &mut [i64])
     requires { ⌜ Within (length (now result)) (headHere (now parents) (now sizes)) ⌝ }
     requires { ⌜ length (now ids) ≡ length (now result) ⌝ }
-    ensures { λ _. ⌜ now (result .exit) ≡ marked (headHere (now (parents .entry)) (now (sizes .entry))) (now (ids .entry)) (length (now (result .entry))) (now (result .entry)) ⌝ }
+    ensures { λ _. ⌜
+        now (result .exit)
+        ≡ marked (headHere (now (parents .entry)) (now (sizes .entry))) (now (ids .entry)) (length (now (result .entry)))
+        (now (result .entry)) ⌝ }
 {
     let n = result.len();
     let mut i = 0;
@@ -27,7 +30,9 @@ fn mark(parents: &[usize], sizes: &[usize], ids: &[i64], result: &mut [i64])
 // Each vertex takes over its head's label.
 fn take_over(parents: &[usize], sizes: &[usize], result: &mut [i64])
     requires { ⌜ Within (length (now result)) (headHere (now parents) (now sizes)) ⌝ }
-    ensures { λ _. ⌜ now (result .exit) ≡ takenOver (headHere (now (parents .entry)) (now (sizes .entry))) (length (now (result .entry))) (now (result .entry)) ⌝ }
+    ensures { λ _. ⌜
+        now (result .exit)
+        ≡ takenOver (headHere (now (parents .entry)) (now (sizes .entry))) (length (now (result .entry))) (now (result .entry)) ⌝ }
 {
     let mut v = 0;
     while v < result.len() {
@@ -47,7 +52,7 @@ pub(crate) fn label(
     parents: &mut [usize],
     sizes: &mut [usize],
 )
-    requires { ⌜ Exact n (partOf n (now offsets) (now targets)) (now ids) (now result) (now parents) (now sizes) ⌝ }
+    requires { ⌜ Fitting n (partOf n (now offsets) (now targets)) (now ids) (now result) (now parents) (now sizes) ⌝ }
     ensures { λ _. ⌜ now (result .exit) ≡ labels n (partOf n (now (offsets .entry)) (now (targets .entry))) (now (ids .entry)) ⌝ }
 {
     open_book(parents, sizes);

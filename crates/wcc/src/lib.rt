@@ -13,13 +13,11 @@ use kernels::Answer;
 use kernels::refused;
 use labels::label;
 ghost use mathlib.Core.Path.{_≡_};
-ghost use mathlib.Core.Bool.{true};
-ghost use mathlib.Core.List.{[]};
-ghost use Rattle.basis.specs.Refusal.{gives, refuses, plain};
-ghost use Rattle.graph.specs.Sound.{lent, soundGraph};
+ghost use Rattle.basis.specs.Refusal.{gives};
+ghost use Rattle.graph.specs.Sound.{lent};
 ghost use Rattle.kernels.specs.Answer.{says};
-ghost use Rattle.wcc.specs.Component.{wccOf};
-ghost use Rattle.wcc.specs.Promise.{roomFor, outcome, leftBy, wccCall};
+ghost use Rattle.wcc.specs.Call.{outcome, refusal, roomFor, leftBy, wccCall};
+ghost use Rattle.wcc.specs.Steps.{Ready};
 
 // Has each area n places?
 fn room(n: usize, result: &[i64], parents: &[usize], sizes: &[usize]) -> bool
@@ -30,7 +28,9 @@ fn room(n: usize, result: &[i64], parents: &[usize], sizes: &[usize]) -> bool
 
 // A refusal: all areas are zero.
 fn refuse(number: usize, result: &mut [i64], parents: &mut [usize], sizes: &mut [usize]) -> Answer
-    ensures { λ r. ⌜ outcome (says r) (now (result .exit)) (now (parents .exit)) (now (sizes .exit)) ≡ leftBy (refuses (plain number)) [] (now (result .entry)) (now (parents .entry)) (now (sizes .entry)) ⌝ }
+    ensures { λ r. ⌜
+        outcome (says r) (now (result .exit)) (now (parents .exit)) (now (sizes .exit))
+        ≡ refusal number (now (result .entry)) (now (parents .entry)) (now (sizes .entry)) ⌝ }
 {
     clear_signed(result);
     clear(parents);
@@ -50,9 +50,16 @@ fn fill(
     parents: &mut [usize],
     sizes: &mut [usize],
 ) -> Answer
-    requires { ⌜ soundGraph (lent size (now ids) (now «out_offsets») (now «out_targets») (now «in_offsets») (now «in_sources»)) ≡ true ⌝ }
-    requires { ⌜ roomFor (size .vertices) (now result) (now parents) (now sizes) ≡ true ⌝ }
-    ensures { λ r. ⌜ outcome (says r) (now (result .exit)) (now (parents .exit)) (now (sizes .exit)) ≡ leftBy (gives tt) (wccOf (lent size (now (ids .entry)) (now («out_offsets» .entry)) (now («out_targets» .entry)) (now («in_offsets» .entry)) (now («in_sources» .entry)))) (now (result .entry)) (now (parents .entry)) (now (sizes .entry)) ⌝ }
+    requires { ⌜
+        Ready
+        (lent size (now ids) (now «out_offsets») (now «out_targets») (now «in_offsets») (now «in_sources»))
+        (now result) (now parents) (now sizes) ⌝ }
+    ensures { λ r. ⌜
+        outcome (says r) (now (result .exit)) (now (parents .exit)) (now (sizes .exit))
+        ≡ leftBy (gives tt)
+        (lent size (now (ids .entry)) (now («out_offsets» .entry)) (now («out_targets» .entry))
+        (now («in_offsets» .entry)) (now («in_sources» .entry)))
+        (now (result .entry)) (now (parents .entry)) (now (sizes .entry)) ⌝ }
 {
     clear_signed(result);
     label(
@@ -81,7 +88,12 @@ pub fn wcc(
     parents: &mut [usize],
     sizes: &mut [usize],
 ) -> Answer
-    ensures { λ r. ⌜ outcome (says r) (now (result .exit)) (now (parents .exit)) (now (sizes .exit)) ≡ wccCall (lent size (now (ids .entry)) (now («out_offsets» .entry)) (now («out_targets» .entry)) (now («in_offsets» .entry)) (now («in_sources» .entry))) (now (result .entry)) (now (parents .entry)) (now (sizes .entry)) ⌝ }
+    ensures { λ r. ⌜
+        outcome (says r) (now (result .exit)) (now (parents .exit)) (now (sizes .exit))
+        ≡ wccCall
+        (lent size (now (ids .entry)) (now («out_offsets» .entry)) (now («out_targets» .entry))
+        (now («in_offsets» .entry)) (now («in_sources» .entry)))
+        (now (result .entry)) (now (parents .entry)) (now (sizes .entry)) ⌝ }
 {
     if !sound_over(
         size,

@@ -1,35 +1,13 @@
-use mathlib.Core.Path.{_≡_, sym, ap, _∙_}
-use mathlib.Core.Bool.{true}
+use mathlib.Core.Path.{sym}
 use lib.Seq.{length-take-le}
-use denote.Ref.{now}
 use mir.Facts.{toZ-ofZ}
-use Rattle.basis.proofs.Tests.{failed, held}
-use Rattle.graph.specs.Find.{bisected}
-use Rattle.graph.specs.Sound.{Graph, lent, names, soundGraph}
-use Rattle.graph.proofs.Finds.{searched-is}
+use Rattle.basis.proofs.Tests.{held}
 use Rattle.graph.proofs.Sounds.{sound-of}
 use Rattle.graph.proofs.Walks.{check-told}
-use Rattle.bfs.proofs.Calls.{sound-inside, call-unsound, call-low, call-found, call-missing, call-over}
+use Rattle.bfs.proofs.Calls.{call-unsound, call-refused, call-short, call-ready, call-done}
 use borrow.Author.Needs.{needs}
 use Rattle.bfs.proofs.bfs.Statement.{statement}
 use Rattle.bfs.proofs.bfs.Tie as tie
-
-abbrev graphOf : tie.Start → Graph
-graphOf s =
-    lent (s .args .size) (now (s .args .ids)) (now (s .args .out-offsets)) (now (s .args .out-targets)) (now (s .args .in-offsets))
-    (now (s .args .in-sources))
-
-abbrev startOf : tie.Else1 → tie.Start
-startOf c = c .before .before .before .before .before .before .before .before .before .before
-
-soundAt : (c : tie.Else1) → soundGraph (graphOf (startOf c)) ≡ true
-soundAt c = held _ _ (check-told (c .before .before .before .sound-over .ensures)) (c .if1 .left)
-
-foundAt : (c : tie.After-find) → c .find .result ≡ bisected (names (graphOf (startOf (c .before .before))))
-    (startOf (c .before .before) .args .root)
-foundAt c =
-    searched-is (c .find .ensures) ∙ ap (bisected (names (graphOf (startOf (c .before .before)))))
-    (toZ-ofZ (startOf (c .before .before) .fits .root))
 
 sound-over-requires : tie.Need-sound-over-requires
 sound-over-requires c κs = search needs
@@ -45,26 +23,19 @@ same-length-2 c = search needs
 
 returns : tie.Need-returns
 returns c =
-    call-unsound
-    (graphOf (c .before .before .before .before .before .before .before .before .before .before .before .before .before .before .before
-    .before)) _ _ _ _ (c .before .before .before .refuse .ensures)
-    (failed _ _ (check-told (c .before .before .before .before .before .before .before .before .before .sound-over .ensures))
-    (c .before .before .before .before .before .before .if1 .taken))
-    ∙ call-over _ _ _ _ _ (c .before .before .before .before .before .before .before .before .before .sound-over .ensures)
+    call-unsound _ _ _ _ _ _ _ _ _ _ _ _ (c .before .before .before .before .before .before .before .before .before .sound-over .ensures)
+    (c .before .before .before .before .before .before .if1 .taken) (c .before .before .before .refuse .ensures)
 
 slice-aggregate-find : tie.Need-slice-aggregate-find
-slice-aggregate-find c = sym (length-take-le _ _ (sound-of _ (soundAt (c .before)) .idsRoom))
+slice-aggregate-find c =
+    sym (length-take-le _ _
+    (sound-of _ (held _ _ (check-told (c .before .before .before .before .sound-over .ensures)) (c .before .if1 .left)) .idsRoom))
 
 find-requires : tie.Need-find-requires
 find-requires c κs = search needs
 
 enum-known-v : tie.Need-enum-known-v
 enum-known-v c = search needs
-
-from-root-requires : tie.Need-from-root-requires
-from-root-requires c κs =
-    let h = soundAt (c .before .before .before .before .before .before .before) in
-    (sound-inside _ h, call-low _ _ h _ (foundAt (c .before .before .before .before .before)) _ (c .before .before .before .v .given .1))
 
 enum-told : tie.Need-enum-told
 enum-told c = search needs
@@ -80,12 +51,19 @@ same-length-4 c = search needs
 
 returns-2 : tie.Need-returns-2
 returns-2 c =
-    call-found _ _ _ _ _ _ (c .before .before .before .from-root .ensures)
-    (soundAt (c .before .before .before .before .before .before .before .before .before .before .before)) _
-    (foundAt (c .before .before .before .before .before .before .before .before .before))
-    (c .before .before .before .before .before .before .before .v .given .1)
-    ∙ call-over _ _ _ _ _ (c .before .before .before .before .before .before .before .before .before .before .before .before .before .before
-    .sound-over .ensures)
+    call-refused _ _ _ _ _ _ _ _ _ _ _ _ (c .before .before .before .before .before .before .before .before .before .before .before .before
+    .before .sound-over .ensures)
+    (c .before .before .before .before .before .before .before .before .before .before .if1 .left) _
+    (toZ-ofZ (c .before .before .before .before .before .before .before .before .before .before .before .before .before .before .before
+    .before .before .before .before .before .fits .root)) _
+    (c .before .before .before .before .before .before .before .before .find .ensures)
+    (c .before .before .before .before .before .before .enum-told .given .1) (c .before .before .before .refuse2 .ensures)
+
+room-requires : tie.Need-room-requires
+room-requires c κs = search needs
+
+refuse-requires-3 : tie.Need-refuse-requires-3
+refuse-requires-3 c κs = search needs
 
 same-length-5 : tie.Need-same-length-5
 same-length-5 c = search needs
@@ -95,12 +73,43 @@ same-length-6 c = search needs
 
 returns-3 : tie.Need-returns-3
 returns-3 c =
-    call-missing _ _ _ _ _ (c .before .before .before .refuse2 .ensures)
-    (soundAt (c .before .before .before .before .before .before .before .before .before .before)) _
-    (foundAt (c .before .before .before .before .before .before .before .before))
-    (c .before .before .before .before .before .before .enum-told .given .1)
-    ∙ call-over _ _ _ _ _ (c .before .before .before .before .before .before .before .before .before .before .before .before .before
-    .sound-over .ensures)
+    call-short _ _ _ _ _ _ _ _ _ _ _ _ (c .before .before .before .before .before .before .before .before .before .before .before .before
+    .before .before .before .before .before .before .sound-over .ensures)
+    (c .before .before .before .before .before .before .before .before .before .before .before .before .before .before .before .if1 .left) _
+    (toZ-ofZ (c .before .before .before .before .before .before .before .before .before .before .before .before .before .before .before
+    .before .before .before .before .before .before .before .before .before .before .fits .root)) _
+    (c .before .before .before .before .before .before .before .before .before .before .before .before .before .find .ensures) _
+    (c .before .before .before .before .before .before .before .before .before .before .before .v .given .1) _
+    (c .before .before .before .before .before .before .before .room .ensures)
+    (c .before .before .before .before .before .before .if2 .taken) (c .before .before .before .refuse3 .ensures)
+
+fill-requires : tie.Need-fill-requires
+fill-requires c κs =
+    call-ready _ _ _ _ _ _ _ _ _ _
+    (check-told (c .before .before .before .before .before .before .before .before .before .before .before .before .before .before
+    .sound-over .ensures))
+    (c .before .before .before .before .before .before .before .before .before .before .before .if1 .left) _
+    (c .before .before .before .before .before .before .before .before .before .find .ensures) _
+    (c .before .before .before .before .before .before .before .v .given .1) _ (c .before .before .before .room .ensures)
+    (c .before .before .if2 .left)
+
+same-length-7 : tie.Need-same-length-7
+same-length-7 c = search needs
+
+same-length-8 : tie.Need-same-length-8
+same-length-8 c = search needs
+
+returns-4 : tie.Need-returns-4
+returns-4 c =
+    call-done _ _ _ _ _ _ _ _ _ _ _ _ (c .before .before .before .before .before .before .before .before .before .before .before .before
+    .before .before .before .before .before .before .sound-over .ensures)
+    (c .before .before .before .before .before .before .before .before .before .before .before .before .before .before .before .if1 .left) _
+    (toZ-ofZ (c .before .before .before .before .before .before .before .before .before .before .before .before .before .before .before
+    .before .before .before .before .before .before .before .before .before .before .fits .root)) _
+    (c .before .before .before .before .before .before .before .before .before .before .before .before .before .find .ensures) _
+    (c .before .before .before .before .before .before .before .before .before .before .before .v .given .1) _
+    (c .before .before .before .before .before .before .before .room .ensures)
+    (c .before .before .before .before .before .before .if2 .left) (c .before .before .before .fill .ensures)
 
 pub bfs-spec : {M : Type 1} → statement M
 bfs-spec =
@@ -114,12 +123,17 @@ bfs-spec =
     slice-aggregate-find
     find-requires
     enum-known-v
-    from-root-requires
     enum-told
     refuse-requires-2
     same-length-3
     same-length-4
     returns-2
+    room-requires
+    refuse-requires-3
     same-length-5
     same-length-6
-    returns-3)
+    returns-3
+    fill-requires
+    same-length-7
+    same-length-8
+    returns-4)

@@ -1,4 +1,4 @@
-use Rattle.bfs.proofs.Calls.{outcomes}
+use Rattle.bfs.proofs.Calls.{refuse-all}
 use borrow.Author.Needs.{needs}
 use Rattle.bfs.proofs.refuse.Statement.{statement}
 use Rattle.bfs.proofs.refuse.Tie as tie
@@ -19,9 +19,7 @@ same-length-2 : tie.Need-same-length-2
 same-length-2 c = search needs
 
 returns : tie.Need-returns
-returns c =
-    outcomes (c .refused .ensures) (c .before .before .before .before .before .before .clear-signed .ensures)
-    (c .before .before .before .clear .ensures)
+returns c = search refuse-all
 
 pub refuse-spec : {M : Type 1} → statement M
 refuse-spec =

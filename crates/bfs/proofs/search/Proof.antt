@@ -7,7 +7,7 @@ use native.Mathlib.Omega.{arith}
 use Rattle.graph.specs.Part.{partOf}
 use Rattle.bfs.specs.Depth.{infinity}
 use Rattle.bfs.specs.Steps.{board}
-use Rattle.bfs.proofs.Queue.{Base, Serving, serving-ready, serving-begin, serving-level, serving-room}
+use Rattle.bfs.proofs.Queue.{Base, Serving, serving-queued, serving-begin, serving-level, serving-room}
 use Rattle.bfs.proofs.Queue.{serving-tail, serving-deeper, serving-part, serving-more, serving-end}
 use Rattle.bfs.proofs.search.Statement.{statement}
 use Rattle.bfs.proofs.search.Tie as tie
@@ -35,7 +35,7 @@ relax-requires : tie.Need-relax-requires Inv-loop μ-loop
 relax-requires c κs =
     let f = c .before .before .before in
     let s = f .before .before .before .before .before in
-    (serving-ready _ _ _ (base s) _ _ (f .fill-signed .ensures) (s .pre .1 .1), (omega (arith, f .fill-signed .kept .0), omega arith))
+    (serving-queued _ _ _ (base s) _ _ (f .fill-signed .ensures) (s .pre .1 .1), (omega (arith, f .fill-signed .kept .0), omega arith))
 
 loop-holds : tie.Need-loop-holds Inv-loop μ-loop
 loop-holds c =
@@ -63,7 +63,7 @@ walk-requires : tie.Need-walk-requires Inv-loop μ-loop
 walk-requires c κs =
     let a = c .before .before .before .before in
     let l = a .before .before in (
-      l .loop .inv .ready,
+      l .loop .inv .queued,
       (
         rw (c .before .before .neighbours .ensures)
             (serving-part _ _ _ (l .loop .inv) (a .before .loop-test .taken) (a .advance .ensures)),

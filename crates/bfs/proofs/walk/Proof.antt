@@ -16,7 +16,7 @@ abbrev μ-loop : tie.MeasureT-loop
 μ-loop next depth₀ queue₀ tail d end₀ i₀ depth queue end i = length next - i
 
 loop-holds : tie.Need-loop-holds Inv-loop μ-loop
-loop-holds c = (omega arith, record { ready = c .before .before .pre .0; depthLen = refl; queueLen = refl; rest = refl })
+loop-holds c = (omega arith, record { queued = c .before .before .pre .0; depthLen = refl; queueLen = refl; rest = refl })
 
 mul-relax : tie.Need-mul-relax Inv-loop μ-loop
 mul-relax c = search needs
@@ -28,7 +28,7 @@ relax-requires : tie.Need-relax-requires Inv-loop μ-loop
 relax-requires c κs =
     let l = c .before .before .before .before in
     let s = l .before .before .before in
-    (l .loop .inv .1 .ready, (walking-low _ _ _ _ _ (l .loop .inv .1) (s .pre .1 .0) (omega arith), s .pre .1 .1))
+    (l .loop .inv .1 .queued, (walking-low _ _ _ _ _ (l .loop .inv .1) (s .pre .1 .0) (omega arith), s .pre .1 .1))
 
 add-i : tie.Need-add-i Inv-loop μ-loop
 add-i c = search needs

@@ -1,6 +1,6 @@
 use mathlib.Core.Path.{ap, _∙_}
 use mir.Facts.{toZ-ofZ}
-use Rattle.cdlp.specs.Promise.{goodRounds}
+use Rattle.cdlp.specs.Call.{goodRounds}
 use Rattle.cdlp.proofs.Calls.{allowed-negative, allowed-above, allowed-within}
 use Rattle.cdlp.proofs.allowed.Statement.{statement}
 use Rattle.cdlp.proofs.allowed.Tie as tie

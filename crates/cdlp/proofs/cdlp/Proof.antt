@@ -1,7 +1,7 @@
 use mir.Facts.{toZ-ofZ}
 use Rattle.basis.proofs.Tests.{held}
 use Rattle.graph.proofs.Walks.{check-told}
-use Rattle.cdlp.proofs.Calls.{call-unsound, call-outside, call-short, call-done, rounds-cast}
+use Rattle.cdlp.proofs.Calls.{call-unsound, call-refused, call-short, call-done, rounds-cast}
 use borrow.Author.Needs.{needs}
 use Rattle.cdlp.proofs.cdlp.Statement.{statement}
 use Rattle.cdlp.proofs.cdlp.Tie as tie
@@ -46,7 +46,7 @@ same-length-8 : tie.Need-same-length-8
 same-length-8 c = search needs
 
 returns-2 : tie.Need-returns-2
-returns-2 c = search (call-outside, toZ-ofZ)
+returns-2 c = search (call-refused, toZ-ofZ)
 
 room-requires : tie.Need-room-requires
 room-requires c κs = search needs
@@ -75,12 +75,14 @@ cast-fill c =
     (c .before .before .before .before .before .before .if2 .left)
 
 fill-requires : tie.Need-fill-requires
-fill-requires c κs = (
-  held _ _
-      (check-told (c .before .before .before .before .before .before .before .before .before .before .before .before .before .before .before
-      .sound-over .ensures)) (c .before .before .before .before .before .before .before .before .before .before .before .before .if1 .left),
-  held _ _ (c .before .before .before .before .before .room .ensures) (c .before .before .before .before .if3 .left),
-)
+fill-requires c κs =
+    record {
+      sound = held _ _
+          (check-told (c .before .before .before .before .before .before .before .before .before .before .before .before .before .before
+          .before .sound-over .ensures))
+          (c .before .before .before .before .before .before .before .before .before .before .before .before .if1 .left);
+      room = held _ _ (c .before .before .before .before .before .room .ensures) (c .before .before .before .before .if3 .left);
+    }
 
 same-length-13 : tie.Need-same-length-13
 same-length-13 c = search needs

@@ -1,6 +1,6 @@
 use borrow.Author.Needs.{needs}
-use Rattle.wcc.proofs.Calls.{first-result, first-parents, first-sizes, taken-ids}
-use Rattle.wcc.proofs.Calls.{taken-result, taken-parents, taken-sizes, exact-of, fill-all}
+use Rattle.wcc.proofs.Calls.{lent-result, lent-parents, lent-sizes, taken-ids}
+use Rattle.wcc.proofs.Calls.{taken-result, taken-parents, taken-sizes, fitting-of, fill-all}
 use Rattle.wcc.proofs.fill.Statement.{statement}
 use Rattle.wcc.proofs.fill.Tie as tie
 
@@ -11,25 +11,25 @@ slice-aggregate-label : tie.Need-slice-aggregate-label
 slice-aggregate-label c = search taken-ids
 
 slice-relend-prefix-label : tie.Need-slice-relend-prefix-label
-slice-relend-prefix-label c = search first-result
+slice-relend-prefix-label c = search lent-result
 
 slice-aggregate-label-2 : tie.Need-slice-aggregate-label-2
 slice-aggregate-label-2 c = search taken-result
 
 slice-relend-prefix-label-2 : tie.Need-slice-relend-prefix-label-2
-slice-relend-prefix-label-2 c = search first-parents
+slice-relend-prefix-label-2 c = search lent-parents
 
 slice-aggregate-label-3 : tie.Need-slice-aggregate-label-3
 slice-aggregate-label-3 c = search taken-parents
 
 slice-relend-prefix-label-3 : tie.Need-slice-relend-prefix-label-3
-slice-relend-prefix-label-3 c = search first-sizes
+slice-relend-prefix-label-3 c = search lent-sizes
 
 slice-aggregate-label-4 : tie.Need-slice-aggregate-label-4
 slice-aggregate-label-4 c = search taken-sizes
 
 label-requires : tie.Need-label-requires
-label-requires c κs = search exact-of
+label-requires c κs = search fitting-of
 
 clear-requires : tie.Need-clear-requires
 clear-requires c κs = search needs

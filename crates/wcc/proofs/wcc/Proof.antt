@@ -42,11 +42,13 @@ returns-2 : tie.Need-returns-2
 returns-2 c = search call-short
 
 fill-requires : tie.Need-fill-requires
-fill-requires c κs = (
-  held _ _ (check-told (c .before .before .before .before .before .before .before .before .before .before .before .sound-over .ensures))
-      (c .before .before .before .before .before .before .before .before .if1 .left),
-  held _ _ (c .before .before .before .before .room .ensures) (c .before .before .before .if2 .left),
-)
+fill-requires c κs =
+    record {
+      sound = held _ _
+          (check-told (c .before .before .before .before .before .before .before .before .before .before .before .sound-over .ensures))
+          (c .before .before .before .before .before .before .before .before .if1 .left);
+      room = held _ _ (c .before .before .before .before .room .ensures) (c .before .before .before .if2 .left);
+    }
 
 same-length-7 : tie.Need-same-length-7
 same-length-7 c = search needs

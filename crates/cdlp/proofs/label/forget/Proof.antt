@@ -8,7 +8,7 @@ use lib.ListN.{length, getD, drop, length-set}
 use Rattle.basis.proofs.Scans.{below-at}
 use Rattle.cdlp.specs.Rounds.{labelsAt}
 use Rattle.cdlp.specs.Steps.{forgotten}
-use Rattle.cdlp.proofs.Tallies.{forget-more, forget-end}
+use Rattle.cdlp.proofs.Polls.{forget-more, forget-end}
 use Rattle.cdlp.proofs.label.forget.Statement.{statement}
 use Rattle.cdlp.proofs.label.forget.Tie as tie
 

@@ -7,15 +7,16 @@ use denote.Ref.{now}
 use lib.ListN.{length, getD, drop, length-set}
 use Rattle.basis.proofs.Scans.{below-at}
 use Rattle.cdlp.specs.Rounds.{labelsAt}
-use Rattle.cdlp.specs.Steps.{Under, tally, countedAll}
-use Rattle.cdlp.proofs.Tallies.{hear-more, hear-end, under-more}
+use Rattle.basis.specs.Limits.{mostVertices}
+use Rattle.cdlp.specs.Steps.{Under, poll, polledAll}
+use Rattle.cdlp.proofs.Polls.{hear-more, hear-end, under-more}
 use Rattle.cdlp.proofs.label.hear.Statement.{statement}
 use Rattle.cdlp.proofs.label.hear.Tie as tie
 
 abbrev Inv-loop : tie.InvT-loop
 Inv-loop part labels counts₀ best₀ i₀ counts best i =
-    (i ≤ length part) × (length counts ≡ length counts₀) × Under (65536 + i) counts
-    × (countedAll (labelsAt 0 labels (drop i part)) (tally counts best) ≡ countedAll (labelsAt 0 labels part) (tally counts₀ best₀))
+    (i ≤ length part) × (length counts ≡ length counts₀) × Under (mostVertices + i) counts
+    × (polledAll (labelsAt 0 labels (drop i part)) (poll counts best) ≡ polledAll (labelsAt 0 labels part) (poll counts₀ best₀))
 
 abbrev μ-loop : tie.MeasureT-loop
 μ-loop part labels counts₀ best₀ i₀ counts best i = length part - i
@@ -36,12 +37,13 @@ abbrev label : Loop → ℕ
 label l = getD (labelsOf l) (getD (partOf l) (l .loop .i) 0) 0
 
 u-low : (c : tie.In-loop Inv-loop μ-loop) → getD (partOf (c .before)) (c .before .loop .i) 0 < length (labelsOf (c .before))
-u-low c = let l = c .before in below-at (length (labelsOf l)) (partOf l) (startOf l .pre .walk .lowPart) (l .loop .i) (c .loop-test .taken)
+u-low c =
+    let l = c .before in below-at (length (labelsOf l)) (partOf l) (startOf l .pre .labelled .lowPart) (l .loop .i) (c .loop-test .taken)
 
 l-low : (c : tie.In-loop Inv-loop μ-loop) → label (c .before) < length (c .before .loop .counts)
 l-low c =
     let l = c .before in
-    let h = below-at (length (now (startOf l .args .counts))) (labelsOf l) (startOf l .pre .walk .lowLabels)
+    let h = below-at (length (now (startOf l .args .counts))) (labelsOf l) (startOf l .pre .labelled .lowLabels)
     (getD (partOf l) (l .loop .i) 0) (u-low c) in
     rw (l .loop .inv .1) h
 
@@ -90,7 +92,7 @@ loop-again c =
     let n = c .before .before .before .before in (
       omega arith,
       length-set (l .loop .counts) (label l) _ ∙ l .loop .inv .1,
-      under-more 65536 (l .loop .i) (l .loop .counts) (label l) (l-low n) (l .loop .inv .2),
+      under-more mostVertices (l .loop .i) (l .loop .counts) (label l) (l-low n) (l .loop .inv .2),
       hear-more (labelsOf l) (partOf l) (l .loop .i) (l .loop .counts) (l .loop .best) (c .lead .result) _ (n .loop-test .taken)
           (l .loop .inv .3) (c .lead .ensures),
     )
@@ -100,7 +102,7 @@ same-length c = search needs
 
 returns : tie.Need-returns Inv-loop μ-loop
 returns c =
-    let l = c .before in hear-end (labelsOf l) (partOf l) (l .loop .i) (tally (l .loop .counts) (l .loop .best)) _ (c .loop-test .left)
+    let l = c .before in hear-end (labelsOf l) (partOf l) (l .loop .i) (poll (l .loop .counts) (l .loop .best)) _ (c .loop-test .left)
     (l .loop .inv .3)
 
 pub hear-spec : {M : Type 1} → statement M

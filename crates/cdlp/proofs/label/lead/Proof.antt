@@ -1,4 +1,4 @@
-use Rattle.cdlp.proofs.Tallies.{lead-above, lead-below, lead-smaller, lead-stays}
+use Rattle.cdlp.proofs.Polls.{lead-above, lead-below, lead-smaller, lead-stays}
 use Rattle.cdlp.proofs.label.lead.Statement.{statement}
 use Rattle.cdlp.proofs.label.lead.Tie as tie
 

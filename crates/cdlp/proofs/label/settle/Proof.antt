@@ -1,6 +1,6 @@
 use mathlib.Core.Path.{_∙_}
 use borrow.Author.Needs.{needs}
-use Rattle.cdlp.proofs.Tallies.{settle-first, settle-second, walk-in, walk-out, settle-label, settle-counts}
+use Rattle.cdlp.proofs.Polls.{settle-first, settle-second, labelled-in, labelled-out, settle-label, settle-counts}
 use Rattle.cdlp.proofs.label.settle.Statement.{statement}
 use Rattle.cdlp.proofs.label.settle.Tie as tie
 
@@ -12,12 +12,12 @@ hear-requires-2 c κs = search settle-second
 
 forget-requires : tie.Need-forget-requires
 forget-requires c κs =
-    walk-in (c .before .before .before .before .before .before .before .before .before .before .before .before .before .pre)
+    labelled-in (c .before .before .before .before .before .before .before .before .before .before .before .before .before .pre)
     (c .before .before .before .hear2 .kept .1 .1 .0 ∙ c .before .before .before .before .before .before .before .hear .kept .1 .1 .0)
 
 forget-requires-2 : tie.Need-forget-requires-2
 forget-requires-2 c κs =
-    walk-out (c .before .before .before .before .before .before .before .before .before .before .before .before .before .before .before
+    labelled-out (c .before .before .before .before .before .before .before .before .before .before .before .before .before .before .before
     .before .before .pre) (c .before .before .before .forget .kept .1 .1 .0
     ∙ c .before .before .before .before .before .before .before .hear2 .kept .1 .1 .0
     ∙ c .before .before .before .before .before .before .before .before .before .before .before .hear .kept .1 .1 .0)

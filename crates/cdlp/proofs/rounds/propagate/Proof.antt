@@ -1,5 +1,5 @@
 use borrow.Author.Needs.{needs}
-use Rattle.cdlp.proofs.Runs.{run-board, run-nameable, run-named}
+use Rattle.cdlp.proofs.Runs.{run-runnable, run-nameable, run-named}
 use Rattle.cdlp.proofs.rounds.propagate.Statement.{statement}
 use Rattle.cdlp.proofs.rounds.propagate.Tie as tie
 
@@ -10,7 +10,7 @@ clear-requires : tie.Need-clear-requires
 clear-requires c κs = search needs
 
 turns-requires : tie.Need-turns-requires
-turns-requires c κs = search run-board
+turns-requires c κs = search run-runnable
 
 name-requires : tie.Need-name-requires
 name-requires c κs =

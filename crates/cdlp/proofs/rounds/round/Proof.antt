@@ -3,7 +3,7 @@ use mathlib.Core.Path.{_≡_, refl, ap, _∙_}
 use borrow.Author.Needs.{needs}
 use native.Mathlib.Omega.{arith}
 use lib.ListN.{length, length-set}
-use Rattle.cdlp.proofs.Boards.{parts-of, Filled, filled-none, filled-more, filled-all}
+use Rattle.cdlp.proofs.Turns.{two-parts-of, Filled, filled-none, filled-more, filled-all}
 use Rattle.cdlp.proofs.rounds.round.Statement.{statement}
 use Rattle.cdlp.proofs.rounds.round.Tie as tie
 
@@ -30,7 +30,7 @@ neighbours-requires-2 : tie.Need-neighbours-requires-2 Inv-loop μ-loop
 neighbours-requires-2 c κs = search needs
 
 settle-requires : tie.Need-settle-requires Inv-loop μ-loop
-settle-requires c κs = search parts-of
+settle-requires c κs = search two-parts-of
 
 mul-next : tie.Need-mul-next Inv-loop μ-loop
 mul-next c = search needs

@@ -5,7 +5,7 @@ use native.Mathlib.Omega.{arith}
 use denote.Ref.{now}
 use lib.ListN.{length}
 use Rattle.cdlp.specs.Steps.{numbersAfter}
-use Rattle.cdlp.proofs.Boards.{board-on, round-on, round-none}
+use Rattle.cdlp.proofs.Turns.{runnable-on, round-on, round-none}
 use Rattle.cdlp.proofs.rounds.turns.Statement.{statement}
 use Rattle.cdlp.proofs.rounds.turns.Tie as tie
 
@@ -21,7 +21,7 @@ loop-holds : tie.Need-loop-holds Inv-loop μ-loop
 loop-holds c = (omega arith, refl, refl, refl, search round-none)
 
 round-requires : tie.Need-round-requires Inv-loop μ-loop
-round-requires c κs = search board-on
+round-requires c κs = search runnable-on
 
 copy-requires : tie.Need-copy-requires Inv-loop μ-loop
 copy-requires c κs = search needs

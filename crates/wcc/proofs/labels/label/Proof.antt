@@ -1,5 +1,5 @@
 use borrow.Author.Needs.{needs}
-use Rattle.wcc.proofs.Joins.{exact-named, mark-within, take-within, labelled}
+use Rattle.wcc.proofs.Joins.{fitting-named, mark-within, take-within, labelled}
 use Rattle.wcc.proofs.labels.label.Statement.{statement}
 use Rattle.wcc.proofs.labels.label.Tie as tie
 
@@ -10,7 +10,7 @@ join-arcs-requires : tie.Need-join-arcs-requires
 join-arcs-requires c κs = search needs
 
 mark-requires : tie.Need-mark-requires
-mark-requires c κs = (search mark-within, search exact-named)
+mark-requires c κs = (search mark-within, search fitting-named)
 
 take-over-requires : tie.Need-take-over-requires
 take-over-requires c κs = search take-within

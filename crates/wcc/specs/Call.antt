@@ -5,8 +5,8 @@ use mathlib.Core.List.{List}
 use lib.IntN.{ℤ, pos}
 use lib.ListN.{length}
 use lib.Dec.{leb}
-use Rattle.basis.specs.Refusal.{Said}
-use Rattle.basis.specs.Area.{leaves, cleared}
+use Rattle.basis.specs.Refusal.{Said, refuses, plain}
+use Rattle.basis.specs.Area.{leaves, cleared, clearedZ}
 use Rattle.graph.specs.Sound.{Graph, soundGraph}
 use Rattle.kernels.specs.Answer.{kernelSays}
 use Rattle.wcc.specs.Component.{wccOf}
@@ -22,15 +22,19 @@ pub record Outcome : Type 0 where
 abbrev pub outcome : Said (Unit {0}) → List ℤ → List ℕ → List ℕ → Outcome
 outcome said result parents sizes = record { said = said; result = result; parents = parents; sizes = sizes }
 
+-- "fill every area lent for writing with zero": a refusal with its number
+abbrev pub refusal : ℕ → List ℤ → List ℕ → List ℕ → Outcome
+refusal number result parents sizes = outcome (refuses (plain number)) (clearedZ result) (cleared parents) (cleared sizes)
+
 -- "each result or working area needs n places"
 unfoldable pub roomFor : ℕ → List ℤ → List ℕ → List ℕ → Bool
 roomFor n result parents sizes = leb n (length result) && leb n (length parents) && leb n (length sizes)
 
 -- with an answer: the labels in the result area with zeros behind them, or zeros where refused; "working areas are zero throughout"
-unfoldable pub leftBy : Said (Unit {0}) → List ℤ → List ℤ → List ℕ → List ℕ → Outcome
-leftBy said labels result parents sizes = outcome said (leaves said (pos 0) (length result) labels) (cleared parents) (cleared sizes)
+unfoldable pub leftBy : Said (Unit {0}) → Graph → List ℤ → List ℕ → List ℕ → Outcome
+leftBy said g result parents sizes = outcome said (leaves said (pos 0) (length result) (wccOf g)) (cleared parents) (cleared sizes)
 
 -- "Kernels check 9, then 10 or 11, then 8", of which WCC has no parameter to check
 unfoldable pub wccCall : Graph → List ℤ → List ℕ → List ℕ → Outcome
 wccCall g result parents sizes =
-    leftBy (kernelSays (soundGraph g) true 0 (roomFor (g .vertices) result parents sizes)) (wccOf g) result parents sizes
+    leftBy (kernelSays (soundGraph g) true 0 (roomFor (g .vertices) result parents sizes)) g result parents sizes

@@ -1,0 +1,13 @@
+use borrow.Author.Needs.{needs}
+use Rattle.bfs.proofs.Calls.{room-all}
+use Rattle.bfs.proofs.room.Statement.{statement}
+use Rattle.bfs.proofs.room.Tie as tie
+
+lesser-requires : tie.Need-lesser-requires
+lesser-requires c κs = search needs
+
+returns : tie.Need-returns
+returns c = search room-all
+
+pub room-spec : {M : Type 1} → statement M
+room-spec = tie.close (tie.spec lesser-requires returns)
