@@ -1,6 +1,5 @@
--- Laws of `every`, `each` and `mem`: what they say at an index, and what a scanning loop needs at its start, at a turn,
--- where it breaks off and at its end.
--- Assumes nothing.
+-- Laws of `every`, `each`, `mem` and `bit`: what they say at an index, and what a scanning loop needs at its start, at a turn, where it
+-- breaks off and at its end. Assumes nothing.
 use Prim.Native.Nat.{ℕ, zero, suc, _+_, _≤_, _<_}
 use mathlib.Core.Path.{_≡_, refl, sym, ap, _∙_}
 use mathlib.Core.Logic.{_⊎_, inl, inr, ⊎-elim}
@@ -12,7 +11,7 @@ use native.Mathlib.Numerals.{add-one}
 use lib.ListN.{length, getD}
 use lib.Dec.{eqb, ltb}
 use borrow.Author.Tests.{eq-eqb, ne-eqb, eqb-true, ltb-true, lt-ltb}
-use Rattle.basis.specs.Scan.{every, each, allBelow, mem}
+use Rattle.basis.specs.Scan.{every, each, allBelow, mem, bit}
 use Rattle.basis.proofs.Tests.{clash, false-of, same-test, and-first, and-second, and-both}
 use Rattle.basis.proofs.Tests.{or-first, or-second, or-cases, or-assoc, and-assoc}
 
@@ -148,3 +147,8 @@ mem-append x (y ∷ a) b = ap (λ (t : Bool). eqb x y || t) (mem-append x a b) �
 
 pub below-mem : (n : ℕ) (l : List ℕ) → allBelow n l ≡ true → (x : ℕ) → mem x l ≡ true → x < n
 below-mem n l h x m = ltb-true x n (each-mem (λ x. ltb x n) l h x m)
+
+-- ---- a test as a number
+pub bit-le : (b : Bool) → bit b ≤ 1
+bit-le true = omega arith
+bit-le false = omega arith

@@ -16,9 +16,9 @@ use Rattle.book.specs.declared.JoinedEach.{JoinedEach}
 use Rattle.book.specs.declared.Headed.{Headed}
 use Rattle.book.specs.declared.Compared.{Compared}
 use Rattle.book.specs.declared.Reading.{Reading}
-use Rattle.book.specs.Rules.{Found, Heads, Step, already, merge, Joining, merged, same, Machine, Done}
-use Rattle.book.specs.Rules.{done, headsOf, linkHeads, decide, openBook, writeBook, joinBook, Each}
-use Rattle.book.specs.Rules.{all, stopped, EachDone, eachDone, counted, behind, andOn, joinEach}
+use Rattle.book.specs.Rules.{Found, Heads, Step, already, merge, Joining, merged, same, Machine, Outcome}
+use Rattle.book.specs.Rules.{outcome, headsOf, linkHeads, decide, openBook, writeBook, joinBook, Each}
+use Rattle.book.specs.Rules.{all, stopped, EachOutcome, eachOutcome, counted, behind, andOn, joinEach}
 use Rattle.book.specs.Says.{saysOpened, saysJoined, saysJoinedEach, saysHeaded, saysCompared, saysReading}
 use Rattle.book.proofs.Calls.{heads-inside}
 use Rattle.book.proofs.Joins.{link-already}
@@ -100,8 +100,8 @@ module _ (M : Machine) (a : M .Area) where
   unfolding openBook
   open-unchanged r e = go (M .view a .fit) e
     where
-      left : Bool → Done (Unit {0}) (M .Area)
-      left t = cond t (done (gives tt) (M .opened a)) (done (refuses (plain noRoom)) a)
+      left : Bool → Outcome (Unit {0}) (M .Area)
+      left t = cond t (outcome (gives tt) (M .opened a)) (outcome (refuses (plain noRoom)) a)
 
       go : (t : Bool) → left t .said ≡ refuses r → left t .area ≡ a
       go true e = refused-given (sym e)
@@ -147,13 +147,13 @@ module _ (M : Machine) (u : ℕ) where
     each-said same e = ap (λ (d : Said Joining). andOn d (joinBook M a u w .area) (joinEach M (joinBook M a u w .area) u ws)) e
 
     pub each-stopped : (r : Refusal) → joinBook M a u w .said ≡ refuses r
-        → joinEach M a u (w ∷ ws) ≡ eachDone (stopped 0 0 r) (joinBook M a u w .area)
+        → joinEach M a u (w ∷ ws) ≡ eachOutcome (stopped 0 0 r) (joinBook M a u w .area)
     unfolding joinEach andOn
     each-stopped r e = ap (λ (d : Said Joining). andOn d (joinBook M a u w .area) (joinEach M (joinBook M a u w .area) u ws)) e
 
   -- where they stop, those before the refused one stand, it changes nothing, and none behind it is made
   pub each-stands : (a : M .Area) (ws : List ℕ) (k m : ℕ) (r : Refusal) → joinEach M a u ws .said ≡ stopped k m r
-      → joinEach M a u (take k ws) ≡ eachDone (all m) (joinEach M a u ws .area)
+      → joinEach M a u (take k ws) ≡ eachOutcome (all m) (joinEach M a u ws .area)
   unfolding joinEach behind
   each-stands a [] k m r e = no-case cc
   each-stands a (w ∷ ws) k m r e = first (joinBook M a u w .said) refl (λ i n q f. each-stands b ws i n q f)
@@ -162,33 +162,33 @@ module _ (M : Machine) (u : ℕ) where
       b = joinBook M a u w .area
 
       Stands : Type 0
-      Stands = joinEach M a u (take k (w ∷ ws)) ≡ eachDone (all m) (joinEach M a u (w ∷ ws) .area)
+      Stands = joinEach M a u (take k (w ∷ ws)) ≡ eachOutcome (all m) (joinEach M a u (w ∷ ws) .area)
 
       Behind : Type 0
       Behind = (i n : ℕ) (q : Refusal) → joinEach M b u ws .said ≡ stopped i n q
-          → joinEach M b u (take i ws) ≡ eachDone (all n) (joinEach M b u ws .area)
+          → joinEach M b u (take i ws) ≡ eachOutcome (all n) (joinEach M b u ws .area)
 
       rest : (j : Joining) → joinBook M a u w .said ≡ gives j → Behind → (x : Each) → joinEach M b u ws .said ≡ x → Stands
       rest j d ih (all n) f =
           let z : all (n + mergesBy j) ≡ stopped k m r = ap (counted 1 (mergesBy j)) (sym f)
-          ∙ sym (ap (λ (y : EachDone (M .Area)). y .said) (each-said a w ws j d)) ∙ e in
+          ∙ sym (ap (λ (y : EachOutcome (M .Area)). y .said) (each-said a w ws j d)) ∙ e in
           no-case cc
       rest j d ih (stopped i n q) f =
           let z : stopped (i + 1) (n + mergesBy j) q ≡ stopped k m r
-          = ap (counted 1 (mergesBy j)) (sym f) ∙ sym (ap (λ (y : EachDone (M .Area)). y .said) (each-said a w ws j d)) ∙ e in
+          = ap (counted 1 (mergesBy j)) (sym f) ∙ sym (ap (λ (y : EachOutcome (M .Area)). y .said) (each-said a w ws j d)) ∙ e in
           let p : i + 1 ≡ k = cc in
           let t : k ≡ suc i = omega arith in
           let o : n + mergesBy j ≡ m = cc in
           ap (λ (y : ℕ). joinEach M a u (take y (w ∷ ws))) t ∙ each-said a w (take i ws) j d ∙ ap (behind 1 (mergesBy j)) (ih i n q f)
-          ∙ ap₂ (λ (y : ℕ) (c : M .Area). eachDone (all y) c) o (sym (ap (λ (y : EachDone (M .Area)). y .area) (each-said a w ws j d)))
+          ∙ ap₂ (λ (y : ℕ) (c : M .Area). eachOutcome (all y) c) o (sym (ap (λ (y : EachOutcome (M .Area)). y .area) (each-said a w ws j d)))
 
       first : (d : Said Joining) → joinBook M a u w .said ≡ d → Behind → Stands
       first (gives j) d ih = rest j d ih (joinEach M b u ws .said) refl
       first (refuses q) d ih =
           let s = each-stopped a w ws q d in
-          let z : stopped 0 0 q ≡ stopped k m r = sym (ap (λ (y : EachDone (M .Area)). y .said) s) ∙ e in
+          let z : stopped 0 0 q ≡ stopped k m r = sym (ap (λ (y : EachOutcome (M .Area)). y .said) s) ∙ e in
           let p : k ≡ 0 = cc in
           let o : _≡_ {A = ℕ} 0 m = cc in
           ap (λ (y : ℕ). joinEach M a u (take y (w ∷ ws))) p
-          ∙ ap₂ (λ (y : ℕ) (c : M .Area). eachDone (all y) c) o
-          (sym (ap (λ (y : EachDone (M .Area)). y .area) s ∙ join-unchanged M a u w q d))
+          ∙ ap₂ (λ (y : ℕ) (c : M .Area). eachOutcome (all y) c) o
+          (sym (ap (λ (y : EachOutcome (M .Area)). y .area) s ∙ join-unchanged M a u w q d))

@@ -13,14 +13,14 @@ use Rattle.basis.specs.Area.{column}
 use Rattle.basis.proofs.Areas.{column-end, fill-end}
 use Rattle.book.specs.declared.Headed.{Headed}
 use Rattle.book.specs.declared.Reading.{Reading}
-use Rattle.book.specs.Rules.{done, openBook, headOf, groupSize}
+use Rattle.book.specs.Rules.{outcome, openBook, headOf, groupSize}
 use Rattle.book.specs.Two.{areas, fits, two, twoBook}
 use Rattle.book.specs.Says.{saysHeaded, saysReading}
 use Rattle.book.proofs.Checks.{fits-same, fits-within}
 use Rattle.book.proofs.Calls.{size-below, size-is, limit-size}
 
 module _ (ps ss : List ℕ) (t : Bool) (e : t ≡ fits ps ss) where
-  pub open-unlent : (x : Refusal) → not t ≡ true → x ≡ plain noRoom → done (refuses x) (areas ps ss) ≡ openBook twoBook (areas ps ss)
+  pub open-unlent : (x : Refusal) → not t ≡ true → x ≡ plain noRoom → outcome (refuses x) (areas ps ss) ≡ openBook twoBook (areas ps ss)
   unfolding openBook two
   open-unlent x f p = rw (failed t _ e f, p)
 
@@ -29,12 +29,12 @@ module _ (ps ss : List ℕ) (t : Bool) (e : t ≡ fits ps ss) where
 
   pub open-ready : (i : ℕ) (p s : List ℕ) → not t ≡ false → length ps ≤ i → i ≤ length ps → p ≡ column (λ v. v) 0 i ++ drop i ps
       → s ≡ column (λ v. 1) 0 i ++ drop i ss
-      → done (gives tt) (areas p s) ≡ openBook twoBook (areas ps ss)
+      → outcome (gives tt) (areas p s) ≡ openBook twoBook (areas ps ss)
   unfolding openBook two
   open-ready i p s f l k a b =
       let q : i ≡ length ps = omega arith in
       let z = open-lengths f in
-      rw (held t _ e f) (ap₂ (λ p s. done (gives tt) (areas p s)) (column-end (λ v. v) i (length ps) ps p q l a)
+      rw (held t _ e f) (ap₂ (λ p s. outcome (gives tt) (areas p s)) (column-end (λ v. v) i (length ps) ps p q l a)
       (fill-end 1 i ss s (omega arith) (omega arith) b ∙ ap (λ (m : ℕ). replicate m 1) z))
 
 -- the head whose size is read is in the area

@@ -19,12 +19,13 @@ use Rattle.book.specs.Rules.{Machine, walkFrom, headOf, pair, headsOf, s
 use Rattle.book.specs.Rules.{groupSize, tally, isStop, groupCount, largest, stepLimit, above, mergeHeads, linkHeads, decide}
 use Rattle.basis.proofs.Tests.{clash}
 use Rattle.basis.specs.Scan.{bit}
+use Rattle.basis.proofs.Scans.{bit-le}
 use Rattle.basis.specs.Closure.{Linked, back, on}
 use Rattle.basis.proofs.Closures.{linked-keeps}
 use Rattle.book.specs.Series.{Slip, slip, Accepted}
 use Rattle.book.proofs.Calls.{head-walk, heads-walks, heads-missing, heads-missing2, same-is, size-is, count-is, limit-is}
 use Rattle.book.proofs.Joins.{above-larger, above-smaller, mergeable-of, merge-above, merge-below, link-already, link-merges}
-use Rattle.book.proofs.Tally.{bit-le, tally-apart, tally-le}
+use Rattle.book.proofs.Tally.{tally-apart, tally-le}
 use Rattle.book.proofs.Faithful.{Mergeable, Faithful}
 use Rattle.book.proofs.Forest.{reach-walk, reach-head, Forest, forest-open, forest-already, forest-merged, Whose}
 

@@ -17,9 +17,9 @@ use Rattle.basis.proofs.Tests.{held}
 use Rattle.book.specs.declared.Joined.{Joined}
 use Rattle.book.specs.declared.Pair.{Pair}
 use Rattle.book.specs.declared.joining.Carried.{Carried}
-use Rattle.book.specs.Rules.{mostMoves, stop, to, heads, Step, already, merge, Joining, merged, same, Machine, Done, done}
+use Rattle.book.specs.Rules.{mostMoves, stop, to, heads, Step, already, merge, Joining, merged, same, Machine, Outcome, outcome}
 use Rattle.book.specs.Rules.{above, mergeable, mergeHeads, walkFrom, headsOf, linkHeads, decide, writeBook}
-use Rattle.book.specs.Rules.{joinBook, Each, all, stopped, EachDone, eachDone, counted, behind, andOn, joinEach}
+use Rattle.book.specs.Rules.{joinBook, Each, all, stopped, EachOutcome, eachOutcome, counted, behind, andOn, joinEach}
 use Rattle.book.specs.Two.{Areas, areas, nextIn, fits, two, twoBook}
 use Rattle.book.specs.Says.{saysJoined}
 use Rattle.book.specs.Steps.{saysWalked, saysPair, linkTwo, Walking, saysCarried, carriedOn}
@@ -34,27 +34,27 @@ use Rattle.book.proofs.Joins.{merge-above, merge-below, link-already, l
 
 -- ---- a join whose heads are not found is refused
 module _ (M : Machine) (a : M .Area) (u : ℕ) where
-  join-lost : (w : ℕ) (r : Refusal) → refuses r ≡ headsOf (M .view a) u w → done (refuses r) a ≡ joinBook M a u w
+  join-lost : (w : ℕ) (r : Refusal) → refuses r ≡ headsOf (M .view a) u w → outcome (refuses r) a ≡ joinBook M a u w
   unfolding joinBook decide writeBook
   join-lost w r e = ap (λ s. writeBook M (onward s (linkHeads (M .view a))) a) e
 
   -- where every join of u is refused, the first one of a list is
-  each-lost : (r : Refusal) → ((w : ℕ) → done (refuses r) a ≡ joinBook M a u w) → (ws : List ℕ) → (length ws ≡ 0 → ⊥)
-      → eachDone (stopped 0 0 r) a ≡ joinEach M a u ws
+  each-lost : (r : Refusal) → ((w : ℕ) → outcome (refuses r) a ≡ joinBook M a u w) → (ws : List ℕ) → (length ws ≡ 0 → ⊥)
+      → eachOutcome (stopped 0 0 r) a ≡ joinEach M a u ws
   unfolding joinEach andOn
   each-lost r h [] e = absurd (e refl)
-  each-lost r h (w ∷ ws) e = ap (λ (d : Done Joining (M .Area)). andOn (d .said) (d .area) (joinEach M (d .area) u ws)) (h w)
+  each-lost r h (w ∷ ws) e = ap (λ (d : Outcome Joining (M .Area)). andOn (d .said) (d .area) (joinEach M (d .area) u ws)) (h w)
 
 -- ---- the code's `join_each`
 module _ (ps ss : List ℕ) (u : ℕ) (t : Bool) (e : t ≡ fits ps ss) where
   module _ (ws : List ℕ) (k : length ws ≡ 0 → ⊥) (x : Refusal) where
-    pub each-unlent : not t ≡ true → x ≡ plain noRoom → eachDone (stopped 0 0 x) (areas ps ss) ≡ joinEach twoBook (areas ps ss) u ws
+    pub each-unlent : not t ≡ true → x ≡ plain noRoom → eachOutcome (stopped 0 0 x) (areas ps ss) ≡ joinEach twoBook (areas ps ss) u ws
     unfolding two
     each-unlent f p =
         each-lost twoBook (areas ps ss) u x (λ w. join-lost twoBook (areas ps ss) u w x (heads-unlent (two ps ss) u w t e x f p)) ws k
 
     pub each-missing : not t ≡ false → length ps ≤ u → x ≡ plain notThere
-        → eachDone (stopped 0 0 x) (areas ps ss) ≡ joinEach twoBook (areas ps ss) u ws
+        → eachOutcome (stopped 0 0 x) (areas ps ss) ≡ joinEach twoBook (areas ps ss) u ws
     unfolding two
     each-missing f l p =
         each-lost twoBook (areas ps ss) u x (λ w. join-lost twoBook (areas ps ss) u w x (heads-missing (two ps ss) u w t e x f l p)) ws k
@@ -62,15 +62,15 @@ module _ (ps ss : List ℕ) (u : ℕ) (t : Bool) (e : t ≡ fits ps ss) where
   pub walking-start : (at : ℕ) → not t ≡ false → u < length ps → saysWalked at ≡ walkFrom (nextIn ps) (length ps) u → Walking ps ss u at
   walking-start at f l p = record { lent = held t _ e f; inside = l; walk = p }
 
-pub each-none : (a : Areas) (u : ℕ) (ws : List ℕ) → length ws ≡ 0 → eachDone (all 0) a ≡ joinEach twoBook a u ws
+pub each-none : (a : Areas) (u : ℕ) (ws : List ℕ) → length ws ≡ 0 → eachOutcome (all 0) a ≡ joinEach twoBook a u ws
 unfolding joinEach
 each-none a u [] e = refl
 each-none a u (w ∷ ws) e = absurd (omega arith)
 
 -- series behind series
-pub behind-none : {B : Type 0} (e : EachDone B) → behind 0 0 e ≡ e
+pub behind-none : {B : Type 0} (e : EachOutcome B) → behind 0 0 e ≡ e
 unfolding behind
-behind-none e = ap (λ (x : Each). eachDone x (e .area)) (go (e .said))
+behind-none e = ap (λ (x : Each). eachOutcome x (e .area)) (go (e .said))
   where
     go : (x : Each) → counted 0 0 x ≡ x
     go (all m) = let p : m + 0 ≡ m = omega arith in ap all p
@@ -79,9 +79,9 @@ behind-none e = ap (λ (x : Each). eachDone x (e .area)) (go (e .said))
         let q : k + 0 ≡ k = omega arith in
         ap₂ (λ x y. stopped x y r) q p
 
-behind-more : (k m j l : ℕ) (e : EachDone Areas) → behind k m (behind j l e) ≡ behind (k + j) (m + l) e
+behind-more : (k m j l : ℕ) (e : EachOutcome Areas) → behind k m (behind j l e) ≡ behind (k + j) (m + l) e
 unfolding behind
-behind-more k m j l e = ap (λ (x : Each). eachDone x (e .area)) (go (e .said))
+behind-more k m j l e = ap (λ (x : Each). eachOutcome x (e .area)) (go (e .said))
   where
     go : (x : Each) → counted k m (counted j l x) ≡ counted (k + j) (m + l) x
     go (all n) = let p : n + l + m ≡ n + (m + l) = omega arith in ap all p
@@ -91,19 +91,19 @@ behind-more k m j l e = ap (λ (x : Each). eachDone x (e .area)) (go (e .said))
         ap₂ (λ x y. stopped x y r) q p
 
 -- a turn of the loop, where i members were joined and m of the joins merged, and its end
-module _ (a : EachDone Areas) (b : Areas) (u : ℕ) (ws : List ℕ) (i m : ℕ) (f : behind i m (joinEach twoBook b u (drop i ws)) ≡ a) where
-  pub each-end : length ws ≤ i → eachDone (all m) b ≡ a
+module _ (a : EachOutcome Areas) (b : Areas) (u : ℕ) (ws : List ℕ) (i m : ℕ) (f : behind i m (joinEach twoBook b u (drop i ws)) ≡ a) where
+  pub each-end : length ws ≤ i → eachOutcome (all m) b ≡ a
   unfolding joinEach behind
   each-end l =
       let p : m ≡ 0 + m = omega arith in
-      ap (λ (k : ℕ). eachDone (all k) b) p ∙ ap (λ (x : List ℕ). behind i m (joinEach twoBook b u x)) (sym (drop-of-length-le ws l)) ∙ f
+      ap (λ (k : ℕ). eachOutcome (all k) b) p ∙ ap (λ (x : List ℕ). behind i m (joinEach twoBook b u x)) (sym (drop-of-length-le ws l)) ∙ f
 
-  module _ (l : i < length ws) (c : Areas) (r : Carried) (e : done (saysCarried r) c ≡ joinBook twoBook b u (getD ws i 0)) where
+  module _ (l : i < length ws) (c : Areas) (r : Carried) (e : outcome (saysCarried r) c ≡ joinBook twoBook b u (getD ws i 0)) where
     turned : (s : Said Joining) → saysCarried r ≡ s → behind i m (andOn s c (joinEach twoBook c u (drop (i + 1) ws))) ≡ a
     unfolding joinEach
     turned s q =
         rw add-one (ap (λ (x : Said Joining). behind i m (andOn x c (joinEach twoBook c u (drop (suc i) ws)))) (sym q)
-        ∙ ap (λ (d : Done Joining Areas). behind i m (andOn (d .said) (d .area) (joinEach twoBook (d .area) u (drop (suc i) ws)))) e
+        ∙ ap (λ (d : Outcome Joining Areas). behind i m (andOn (d .said) (d .area) (joinEach twoBook (d .area) u (drop (suc i) ws)))) e
         ∙ ap (λ (x : List ℕ). behind i m (joinEach twoBook b u x)) (sym (drop-cons ws i 0 l)) ∙ f)
 
     pub each-merged : (on : ℕ) → r ≡ Carried.Merged on → behind (i + 1) (m + 1) (joinEach twoBook c u (drop (i + 1) ws)) ≡ a
@@ -117,12 +117,12 @@ module _ (a : EachDone Areas) (b : Areas) (u : ℕ) (ws : List ℕ) (i m : ℕ) 
         ap (λ (k : ℕ). behind (i + 1) k (joinEach twoBook c u (drop (i + 1) ws))) z ∙ sym (behind-more i m 1 0 _)
         ∙ turned (gives same) (ap saysCarried q)
 
-    pub each-refused : (number : ℕ) (x : Refusal) → r ≡ Carried.Refused number → x ≡ plain number → eachDone (stopped i m x) c ≡ a
+    pub each-refused : (number : ℕ) (x : Refusal) → r ≡ Carried.Refused number → x ≡ plain number → eachOutcome (stopped i m x) c ≡ a
     unfolding andOn behind
     each-refused number x q p =
         let k : i ≡ 0 + i = omega arith in
         let n : m ≡ 0 + m = omega arith in
-        ap₂ (λ (y z : ℕ). eachDone (stopped y z x) c) k n ∙ ap (λ (y : Refusal). eachDone (stopped (0 + i) (0 + m) y) c) p
+        ap₂ (λ (y z : ℕ). eachOutcome (stopped y z x) c) k n ∙ ap (λ (y : Refusal). eachOutcome (stopped (0 + i) (0 + m) y) c) p
         ∙ turned (refuses (plain number)) (ap saysCarried q)
 
 -- the walk that is carried on
@@ -137,9 +137,9 @@ module _ (ps ss : List ℕ) (u at : ℕ) (r : Carried) (x : Walking ps ss u (car
 abbrev Hung : List ℕ → ℕ → ℕ → List ℕ → Type 0
 Hung ps g h ps₁ = (ps₁ ≡ set ps h g) ⊎ (ps₁ ≡ set ps g h)
 
-module _ (ps ss : List ℕ) (g h : ℕ) (ps₁ ss₁ : List ℕ) (e : done (gives merged) (areas ps₁ ss₁) ≡ linkTwo ps ss g h) where
+module _ (ps ss : List ℕ) (g h : ℕ) (ps₁ ss₁ : List ℕ) (e : outcome (gives merged) (areas ps₁ ss₁) ≡ linkTwo ps ss g h) where
   written : (d : Said Step) → linkHeads (two ps ss) (heads g h) ≡ d
-      → done (gives merged) (areas ps₁ ss₁) ≡ writeBook twoBook d (areas ps ss)
+      → outcome (gives merged) (areas ps₁ ss₁) ≡ writeBook twoBook d (areas ps ss)
   unfolding linkTwo
   written d q = e ∙ ap (λ d. writeBook twoBook d (areas ps ss)) q
 
@@ -153,10 +153,10 @@ module _ (ps ss : List ℕ) (g h : ℕ) (ps₁ ss₁ : List ℕ) (e : done (give
       b : ℕ
       b = two ps ss .size h
 
-      parents-of : Done Joining Areas → List ℕ
+      parents-of : Outcome Joining Areas → List ℕ
       parents-of d = d .area .parents
 
-      said-of : Done Joining Areas → Said Joining
+      said-of : Outcome Joining Areas → Said Joining
       said-of d = d .said
 
       above? : (g ≡ h → ⊥) → mergeable (two ps ss .count) a b ≡ true → (t : Bool) → above a b g h ≡ t → (g ≡ h → ⊥) × Hung ps g h ps₁
@@ -179,13 +179,13 @@ size-refusal true k x z y e = refused-given (sym e)
 size-refusal false true x z y e = refused-given (sym e)
 size-refusal false false x z y e = cc
 
-link-refusal : (ps ss : List ℕ) (g h : ℕ) (c : Areas) (y : Refusal) → done (refuses y) c ≡ linkTwo ps ss g h → y ≡ plain unsound
+link-refusal : (ps ss : List ℕ) (g h : ℕ) (c : Areas) (y : Refusal) → outcome (refuses y) c ≡ linkTwo ps ss g h → y ≡ plain unsound
 unfolding linkTwo writeBook linkHeads
 link-refusal ps ss g h c y e =
     let a = two ps ss .size g in
     let b = two ps ss .size h in
     size-refusal (eqb g h) (mergeable (two ps ss .count) a b) already (mergeHeads a b g h) y
-    (go (linkHeads (two ps ss) (heads g h)) (sym (ap (λ (d : Done Joining Areas). d .said) e)))
+    (go (linkHeads (two ps ss) (heads g h)) (sym (ap (λ (d : Outcome Joining Areas). d .said) e)))
   where
     go : (d : Said Step) → writeBook twoBook d (areas ps ss) .said ≡ refuses y → d ≡ refuses y
     go (gives already) q = refused-given (sym q)
@@ -224,14 +224,14 @@ module _ (ps ss : List ℕ) (u at : ℕ) (x : Walking ps ss u at) where
         }
 
     -- a join that does not merge leaves the areas, and so the walk
-    walking-kept : (s : Said Joining) (d : Said Step) → done s (areas ps₁ ss₁) ≡ writeBook twoBook d (areas ps ss) → (s ≡ gives merged → ⊥)
+    walking-kept : (s : Said Joining) (d : Said Step) → outcome s (areas ps₁ ss₁) ≡ writeBook twoBook d (areas ps ss) → (s ≡ gives merged → ⊥)
         → Walking ps₁ ss₁ u at
     unfolding writeBook
-    walking-kept s (gives already) e h = kept (ap (λ (b : Done Joining Areas). b .area) e)
-    walking-kept s (gives (merge top under total)) e h = absurd (h (ap (λ (b : Done Joining Areas). b .said) e))
-    walking-kept s (refuses r) e h = kept (ap (λ (b : Done Joining Areas). b .area) e)
+    walking-kept s (gives already) e h = kept (ap (λ (b : Outcome Joining Areas). b .area) e)
+    walking-kept s (gives (merge top under total)) e h = absurd (h (ap (λ (b : Outcome Joining Areas). b .said) e))
+    walking-kept s (refuses r) e h = kept (ap (λ (b : Outcome Joining Areas). b .area) e)
 
-    module _ (r : Joined) (g h : ℕ) (e : done (saysJoined r) (areas ps₁ ss₁) ≡ linkTwo ps ss g h) where
+    module _ (r : Joined) (g h : ℕ) (e : outcome (saysJoined r) (areas ps₁ ss₁) ≡ linkTwo ps ss g h) where
       pub walking-already : r ≡ Joined.Already → Walking ps₁ ss₁ u at
       unfolding linkTwo
       walking-already f = walking-kept (saysJoined r) _ e (λ q. (let z : _≡_ {A = ℕ} 0 1 = cc in omega arith))
@@ -241,20 +241,20 @@ module _ (ps ss : List ℕ) (u at : ℕ) (x : Walking ps ss u at) where
       walking-refused y f = walking-kept (saysJoined r) _ e (λ q. refused-given (sym (ap saysJoined f) ∙ q))
 
   module _ (w : ℕ) where
-    pub next-missing : length ps ≤ w → done (refuses (plain notThere)) (areas ps ss) ≡ joinBook twoBook (areas ps ss) u w
+    pub next-missing : length ps ≤ w → outcome (refuses (plain notThere)) (areas ps ss) ≡ joinBook twoBook (areas ps ss) u w
     unfolding two
     next-missing l =
         join-lost twoBook (areas ps ss) u w (plain notThere) (heads-missing2 (two ps ss) u w true (sym (x .lent)) _ refl (x .inside) l refl)
 
     module _ (l : w < length ps) where
-      pub next-late : mostMoves < at / mostVertices → done (refuses (plain unsound)) (areas ps ss) ≡ joinBook twoBook (areas ps ss) u w
+      pub next-late : mostMoves < at / mostVertices → outcome (refuses (plain unsound)) (areas ps ss) ≡ joinBook twoBook (areas ps ss) u w
       unfolding two
       next-late m =
           join-lost twoBook (areas ps ss) u w (plain unsound)
           (heads-late (two ps ss) true (sym (x .lent)) refl u w (x .inside) l at (x .walk) _ m refl)
 
       module _ (m : at / mostVertices ≤ mostMoves) (to : ℕ) (q : saysWalked to ≡ walkFrom (nextIn ps) (length ps) w) where
-        pub next-late2 : mostMoves < to / mostVertices → done (refuses (plain unsound)) (areas ps ss) ≡ joinBook twoBook (areas ps ss) u w
+        pub next-late2 : mostMoves < to / mostVertices → outcome (refuses (plain unsound)) (areas ps ss) ≡ joinBook twoBook (areas ps ss) u w
         unfolding two
         next-late2 n =
             join-lost twoBook (areas ps ss) u w (plain unsound)
@@ -276,32 +276,32 @@ module _ (ps ss : List ℕ) (u at : ℕ) (x : Walking ps ss u at) where
 
           -- what the link says is what the join says
           module _ (ps₁ ss₁ : List ℕ) (r : Joined)
-              (e : done (saysJoined r) (areas ps₁ ss₁) ≡ linkTwo ps ss (at % mostVertices) (to % mostVertices)) where
-            said : (s : Joined) → r ≡ s → done (saysJoined s) (areas ps₁ ss₁) ≡ linkTwo ps ss (at % mostVertices) (to % mostVertices)
-            said s f = ap (λ (y : Joined). done (saysJoined y) (areas ps₁ ss₁)) (sym f) ∙ e
+              (e : outcome (saysJoined r) (areas ps₁ ss₁) ≡ linkTwo ps ss (at % mostVertices) (to % mostVertices)) where
+            said : (s : Joined) → r ≡ s → outcome (saysJoined s) (areas ps₁ ss₁) ≡ linkTwo ps ss (at % mostVertices) (to % mostVertices)
+            said s f = ap (λ (y : Joined). outcome (saysJoined y) (areas ps₁ ss₁)) (sym f) ∙ e
 
-            linked : (s : Joined) → r ≡ s → done (saysJoined s) (areas ps₁ ss₁) ≡ joinBook twoBook (areas ps ss) u w
+            linked : (s : Joined) → r ≡ s → outcome (saysJoined s) (areas ps₁ ss₁) ≡ joinBook twoBook (areas ps ss) u w
             linked s f = two-linked ps ss u w _ both _ _ refl _ (said s f)
 
-            pub next-merged : r ≡ Joined.Merged → done (gives merged) (areas ps₁ ss₁) ≡ joinBook twoBook (areas ps ss) u w
+            pub next-merged : r ≡ Joined.Merged → outcome (gives merged) (areas ps₁ ss₁) ≡ joinBook twoBook (areas ps ss) u w
             next-merged = linked Joined.Merged
 
-            pub next-already : r ≡ Joined.Already → done (gives same) (areas ps₁ ss₁) ≡ joinBook twoBook (areas ps ss) u w
+            pub next-already : r ≡ Joined.Already → outcome (gives same) (areas ps₁ ss₁) ≡ joinBook twoBook (areas ps ss) u w
             next-already = linked Joined.Already
 
             pub next-refused : (y : Refusal) → r ≡ Joined.Refused y
-                → done (refuses (plain unsound)) (areas ps₁ ss₁) ≡ joinBook twoBook (areas ps ss) u w
+                → outcome (refuses (plain unsound)) (areas ps₁ ss₁) ≡ joinBook twoBook (areas ps ss) u w
             next-refused y f =
-                ap (λ (z : Refusal). done (refuses z) (areas ps₁ ss₁))
+                ap (λ (z : Refusal). outcome (refuses z) (areas ps₁ ss₁))
                 (sym (link-refusal ps ss (at % mostVertices) (to % mostVertices) (areas ps₁ ss₁) y (said (Joined.Refused y) f)))
                 ∙ linked (Joined.Refused y) f
 
           -- where they merge, u's head stays or goes under the other
           module _ (ps₁ ss₁ : List ℕ) (i : length ps₁ ≡ length ps) (j : length ss₁ ≡ length ss) (r : Joined) (f : r ≡ Joined.Merged)
-              (e : done (saysJoined r) (areas ps₁ ss₁) ≡ linkTwo ps ss (at % mostVertices) (to % mostVertices)) where
+              (e : outcome (saysJoined r) (areas ps₁ ss₁) ≡ linkTwo ps ss (at % mostVertices) (to % mostVertices)) where
             shape : (at % mostVertices ≡ to % mostVertices → ⊥) × Hung ps (at % mostVertices) (to % mostVertices) ps₁
             shape = merges ps ss (at % mostVertices) (to % mostVertices) ps₁ ss₁
-                (ap (λ (y : Joined). done (saysJoined y) (areas ps₁ ss₁)) (sym f) ∙ e)
+                (ap (λ (y : Joined). outcome (saysJoined y) (areas ps₁ ss₁)) (sym f) ∙ e)
 
             first-over : Mergeable (two ps ss) (at % mostVertices) (to % mostVertices) 1
             unfolding two

@@ -12,7 +12,7 @@ use Rattle.basis.specs.declared.refusal.Refusal.{Refusal}
 use Rattle.basis.specs.Refusal.{gives, refuses, plain, unsound, check, onward}
 use Rattle.basis.proofs.Tests.{and-second, and-both, and-off, same-test, failed, held}
 use Rattle.book.specs.declared.Pair.{Pair}
-use Rattle.book.specs.Rules.{View, Heads, heads, Step, already, merge, Joining, same, Done, done, above}
+use Rattle.book.specs.Rules.{View, Heads, heads, Step, already, merge, Joining, same, Outcome, outcome, above}
 use Rattle.book.specs.Rules.{mergeable, mergeHeads, linkHeads, headsOf, decide, writeBook, joinBook}
 use Rattle.book.specs.Two.{Areas, areas, two, twoBook}
 use Rattle.book.specs.Steps.{saysPair, linkTwo, hangTwo}
@@ -90,12 +90,12 @@ module _ (w : View) (g h : ℕ) where
 
 -- ---- the code's `link`
 module _ (ps ss : List ℕ) (g h : ℕ) where
-  pub two-already : g ≡ h → done (gives same) (areas ps ss) ≡ linkTwo ps ss g h
+  pub two-already : g ≡ h → outcome (gives same) (areas ps ss) ≡ linkTwo ps ss g h
   unfolding linkTwo writeBook
   two-already e = rw (link-already (two ps ss) g h e)
 
   module _ (apart : g ≡ h → ⊥) (t : Bool) (e : t ≡ mergeable (length ps) (getD ss g 0) (getD ss h 0)) where
-    pub two-unsound : (x : Refusal) → not t ≡ true → x ≡ plain unsound → done (refuses x) (areas ps ss) ≡ linkTwo ps ss g h
+    pub two-unsound : (x : Refusal) → not t ≡ true → x ≡ plain unsound → outcome (refuses x) (areas ps ss) ≡ linkTwo ps ss g h
     unfolding linkTwo writeBook two
     two-unsound x f p = rw (link-unsound (two ps ss) g h apart (failed t _ e f), p)
 
@@ -108,19 +108,19 @@ module _ (ps ss : List ℕ) (g h : ℕ) where
     unfolding linkTwo two
     two-merges f s q = sym (ap (λ d. writeBook twoBook d (areas ps ss)) (link-merges (two ps ss) g h apart (held t _ e f) ∙ ap gives q))
 
-    pub two-above : (k : Bool) (d : Done Joining Areas) → not t ≡ false → k ≡ above (getD ss g 0) (getD ss h 0) g h → k ≡ true
+    pub two-above : (k : Bool) (d : Outcome Joining Areas) → not t ≡ false → k ≡ above (getD ss g 0) (getD ss h 0) g h → k ≡ true
         → d ≡ hangTwo ps ss g h (getD ss g 0 + getD ss h 0) → d ≡ linkTwo ps ss g h
     unfolding hangTwo
     two-above k d f p q r = r ∙ two-merges f _ (merge-above (getD ss g 0) (getD ss h 0) g h (sym p ∙ q))
 
-    pub two-below : (k : Bool) (d : Done Joining Areas) → not t ≡ false → k ≡ above (getD ss g 0) (getD ss h 0) g h → k ≡ false
+    pub two-below : (k : Bool) (d : Outcome Joining Areas) → not t ≡ false → k ≡ above (getD ss g 0) (getD ss h 0) g h → k ≡ false
         → d ≡ hangTwo ps ss h g (getD ss g 0 + getD ss h 0) → d ≡ linkTwo ps ss g h
     unfolding hangTwo
     two-below k d f p q r = r ∙ two-merges f _ (merge-below (getD ss g 0) (getD ss h 0) g h (sym p ∙ q))
 
 -- ---- the code's `join`
 module _ (ps ss : List ℕ) (u v : ℕ) (r : Pair) (e : saysPair r ≡ headsOf (two ps ss) u v) where
-  pub two-refused : (x : Refusal) → r ≡ Pair.Refused x → done (refuses x) (areas ps ss) ≡ joinBook twoBook (areas ps ss) u v
+  pub two-refused : (x : Refusal) → r ≡ Pair.Refused x → outcome (refuses x) (areas ps ss) ≡ joinBook twoBook (areas ps ss) u v
   unfolding joinBook decide writeBook
   two-refused x f = ap (λ s. writeBook twoBook (onward s (linkHeads (two ps ss))) (areas ps ss)) (sym (ap saysPair f) ∙ e)
 
@@ -128,7 +128,7 @@ module _ (ps ss : List ℕ) (u v : ℕ) (r : Pair) (e : saysPair r ≡ headsOf (
     both : headsOf (two ps ss) u v ≡ gives (heads g h)
     both = sym e ∙ ap saysPair f
 
-    pub two-linked : (d : Done Joining Areas) → d ≡ linkTwo ps ss g h → d ≡ joinBook twoBook (areas ps ss) u v
+    pub two-linked : (d : Outcome Joining Areas) → d ≡ linkTwo ps ss g h → d ≡ joinBook twoBook (areas ps ss) u v
     unfolding joinBook linkTwo decide
     two-linked d a = a ∙ sym (ap (λ s. writeBook twoBook (onward s (linkHeads (two ps ss))) (areas ps ss)) both)
 

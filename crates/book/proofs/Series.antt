@@ -15,7 +15,7 @@ use Rattle.basis.proofs.Tests.{and-first, and-second}
 use Rattle.basis.specs.declared.refusal.Refusal.{Refusal}
 use Rattle.basis.specs.Refusal.{Said, gives, refuses, plain, notThere}
 use Rattle.basis.specs.Scan.{each, allBelow}
-use Rattle.book.specs.Rules.{mostMoves, View, Machine, found, Step, Joining, merged, same, done, Each, all, stopped, EachDone}
+use Rattle.book.specs.Rules.{mostMoves, View, Machine, found, Step, Joining, merged, same, outcome, Each, all, stopped, EachOutcome}
 use Rattle.book.specs.Rules.{counted, behind, joinEach, walkFrom, openBook, joinBook, writeBook, decide, largest}
 use Rattle.book.specs.Series.{Call, Answer, State, state, slip, Accepted, Kept, Demand3, putEach, mergesOf, after, afterJoin}
 use Rattle.book.specs.Series.{afterEach, joinings, answer, run, headIn, movesIn, headAt, movesAt, members, shown}
@@ -40,7 +40,7 @@ AllAccepted M n s =
     × (after M s (Call.joiningEach u ws) ≡ run M s (joinings u ws))
 
 -- areas that are well lent are opened
-pub open-is : (M : Machine) (a : M .Area) → M .view a .fit ≡ true → openBook M a ≡ done (gives tt) (M .opened a)
+pub open-is : (M : Machine) (a : M .Area) → M .view a .fit ≡ true → openBook M a ≡ outcome (gives tt) (M .opened a)
 unfolding openBook
 open-is M a f = simp f
 
@@ -73,7 +73,7 @@ module _ (M : Machine) where
     each-ends r e =
         let b = joinBook M (s .area) u w .area in
         let z : s .merges + 0 ≡ s .merges = omega arith in
-        ap (λ (d : EachDone (M .Area)). afterEach u (w ∷ ws) (d .said) (d .area) s) (each-stopped M u (s .area) w ws r e)
+        ap (λ (d : EachOutcome (M .Area)). afterEach u (w ∷ ws) (d .said) (d .area) s) (each-stopped M u (s .area) w ws r e)
         ∙ ap (state b (s .latest) (s .slips)) z
         ∙ ap (λ (d : Said Joining). afterJoin u w d b s) (sym e)
 
@@ -100,7 +100,7 @@ module _ (M : Machine) where
     each-goes j e =
         let b = joinBook M (s .area) u w .area in
         let x = joinEach M b u ws in
-        ap (λ (d : EachDone (M .Area)). afterEach u (w ∷ ws) (d .said) (d .area) s) (each-said M u (s .area) w ws j e)
+        ap (λ (d : EachOutcome (M .Area)). afterEach u (w ∷ ws) (d .said) (d .area) s) (each-said M u (s .area) w ws j e)
         ∙ put-first j (x .said) b (x .area)
         ∙ ap (λ (d : Said Joining). afterEach u ws (x .said) (x .area) (afterJoin u w d b s)) (sym e)
         ∙ ap (λ (a : M .Area). afterEach u ws (joinEach M a u ws .said) (joinEach M a u ws .area) (after M s (Call.joining u w)))
@@ -119,17 +119,17 @@ module _ (M : Machine) (L : Faithful M) (n : ℕ) where
       kept : u < n → v < n → Joins n (M .view (s .area)) (s .slips) (s .merges) (W .forest .head) u v
           → Whole M n (after M s (Call.joining u v))
       kept k l (inl t) =
-          let e : joinBook M (s .area) u v ≡ done (gives same) (s .area) = unfold joinBook writeBook in
+          let e : joinBook M (s .area) u v ≡ outcome (gives same) (s .area) = unfold joinBook writeBook in
           ap (λ d. writeBook M d (s .area)) (t .0) in
           rw e (sound-already n w _ _ W u v k l (t .1))
       kept k l (inr t) =
-          let e : joinBook M (s .area) u v ≡ done (gives merged) (M .merged (t .0) (t .1) (w .size (t .0) + w .size (t .1)) (s .area))
+          let e : joinBook M (s .area) u v ≡ outcome (gives merged) (M .merged (t .0) (t .1) (w .size (t .0) + w .size (t .1)) (s .area))
           = unfold joinBook writeBook in ap (λ d. writeBook M d (s .area)) (t .2) in
           rw e (sound-merged M L n (s .area) _ _ W u v k l (t .0) (t .1) (t .3) (t .4) (t .5))
 
       out : (n ≤ u) ⊎ (n ≤ v) → Whole M n (after M s (Call.joining u v))
       out o =
-          let e : joinBook M (s .area) u v ≡ done (refuses (plain notThere)) (s .area) = unfold joinBook writeBook in
+          let e : joinBook M (s .area) u v ≡ outcome (refuses (plain notThere)) (s .area) = unfold joinBook writeBook in
           ap (λ d. writeBook M d (s .area)) (join-outside n w _ _ W u v o) in
           rw e W
 
@@ -278,7 +278,7 @@ module _ (M : Machine) (L : Faithful M) (n : ℕ) where
       let q : joinEach M (joinBook M (s .area) u w .area) u ws .said
       ≡ all (ih .0) = ap (λ (a : M .Area). joinEach M a u ws .said) (sym (join-area M s u w)) ∙ ih .1 in (
         ih .0 + mergesBy j,
-        ap (λ (d : EachDone (M .Area)). d .said) (each-said M u (s .area) w ws j e) ∙ ap (counted 1 (mergesBy j)) q,
+        ap (λ (d : EachOutcome (M .Area)). d .said) (each-said M u (s .area) w ws j e) ∙ ap (counted 1 (mergesBy j)) q,
         each-goes M s u w ws j e ∙ ih .2,
       )
 

@@ -26,10 +26,6 @@ unfolding tally
 tally-le p zero = omega arith
 tally-le p (suc n) = cond-le (p n) (tally p n) n (tally-le p n)
 
-pub bit-le : (b : Bool) → bit b ≤ 1
-bit-le true = omega arith
-bit-le false = omega arith
-
 cond-bit : (b : Bool) (t : ℕ) → cond b (suc t) t ≡ bit b + t
 cond-bit true t = omega arith
 cond-bit false t = omega arith

@@ -163,17 +163,17 @@ pub record Machine : Type 1 where
   pub merged : ℕ → ℕ → ℕ → Area → Area
 
 -- what a call says, and the areas as it leaves them
-pub record Done (A B : Type 0) : Type 0 where
+pub record Outcome (A B : Type 0) : Type 0 where
   pub said : Said A
   pub area : B
 
 -- the same, by its fields in order
-abbrev pub done : {A B : Type 0} → Said A → B → Done A B
-done s a = record { said = s; area = a }
+abbrev pub outcome : {A B : Type 0} → Said A → B → Outcome A B
+outcome s a = record { said = s; area = a }
 
 -- "opening again starts a new series", whatever the areas hold; "Refused book calls change nothing"
-unfoldable pub openBook : (M : Machine) → M .Area → Done (Unit {0}) (M .Area)
-openBook M a = cond (M .view a .fit) (done (gives tt) (M .opened a)) (done (refuses (plain noRoom)) a)
+unfoldable pub openBook : (M : Machine) → M .Area → Outcome (Unit {0}) (M .Area)
+openBook M a = cond (M .view a .fit) (outcome (gives tt) (M .opened a)) (outcome (refuses (plain noRoom)) a)
 
 -- what an accepted join says: that it merged two groups, or found one
 pub data Joining : Type 0 where
@@ -181,13 +181,13 @@ pub data Joining : Type 0 where
   same : Joining
 
 -- what a join writes: where it finds one group or is refused "nothing changes"
-unfoldable pub writeBook : (M : Machine) → Said Step → M .Area → Done Joining (M .Area)
-writeBook M (gives already) a = done (gives same) a
-writeBook M (gives (merge top under total)) a = done (gives merged) (M .merged top under total a)
-writeBook M (refuses r) a = done (refuses r) a
+unfoldable pub writeBook : (M : Machine) → Said Step → M .Area → Outcome Joining (M .Area)
+writeBook M (gives already) a = outcome (gives same) a
+writeBook M (gives (merge top under total)) a = outcome (gives merged) (M .merged top under total a)
+writeBook M (refuses r) a = outcome (refuses r) a
 
 -- a join of u and v
-unfoldable pub joinBook : (M : Machine) → M .Area → ℕ → ℕ → Done Joining (M .Area)
+unfoldable pub joinBook : (M : Machine) → M .Area → ℕ → ℕ → Outcome Joining (M .Area)
 joinBook M a u v = writeBook M (decide (M .view a) u v) a
 
 -- ---- joining one vertex with each of a list
@@ -199,13 +199,13 @@ pub data Each : Type 0 where
   stopped : ℕ → ℕ → Refusal → Each
 
 -- what it says, and the areas as it leaves them
-pub record EachDone (B : Type 0) : Type 0 where
+pub record EachOutcome (B : Type 0) : Type 0 where
   pub said : Each
   pub area : B
 
 -- the same, by its fields in order
-abbrev pub eachDone : {B : Type 0} → Each → B → EachDone B
-eachDone e a = record { said = e; area = a }
+abbrev pub eachOutcome : {B : Type 0} → Each → B → EachOutcome B
+eachOutcome e a = record { said = e; area = a }
 
 -- the numbers of a series that stands behind k accepted joins, m of which merged two groups
 abbrev pub counted : ℕ → ℕ → Each → Each
@@ -213,16 +213,16 @@ counted k m (all merges) = all (merges + m)
 counted k m (stopped joined merges r) = stopped (joined + k) (merges + m) r
 
 -- such a series behind them
-unfoldable pub behind : {B : Type 0} → ℕ → ℕ → EachDone B → EachDone B
-behind k m e = eachDone (counted k m (e .said)) (e .area)
+unfoldable pub behind : {B : Type 0} → ℕ → ℕ → EachOutcome B → EachOutcome B
+behind k m e = eachOutcome (counted k m (e .said)) (e .area)
 
 -- a join that left the area a, and the series behind it: "Refused book calls change nothing", and nothing is joined behind a refused join
-unfoldable pub andOn : {B : Type 0} → Said Joining → B → EachDone B → EachDone B
+unfoldable pub andOn : {B : Type 0} → Said Joining → B → EachOutcome B → EachOutcome B
 andOn (gives merged) a e = behind 1 1 e
 andOn (gives same) a e = behind 1 0 e
-andOn (refuses r) a e = eachDone (stopped 0 0 r) a
+andOn (refuses r) a e = eachOutcome (stopped 0 0 r) a
 
 -- "WCC stands on this book": u joined with each vertex of a list, one after the other, up to the first join that is refused
-unfoldable pub joinEach : (M : Machine) → M .Area → ℕ → List ℕ → EachDone (M .Area)
-joinEach M a u [] = eachDone (all 0) a
+unfoldable pub joinEach : (M : Machine) → M .Area → ℕ → List ℕ → EachOutcome (M .Area)
+joinEach M a u [] = eachOutcome (all 0) a
 joinEach M a u (w ∷ ws) = let d = joinBook M a u w in andOn (d .said) (d .area) (joinEach M (d .area) u ws)

@@ -7,7 +7,7 @@ use lib.ListN.{length}
 use lib.Dec.{leb}
 use Rattle.basis.specs.Limits.{mostVertices}
 use Rattle.basis.specs.Refusal.{Said, gives, refuses, plain, unsound, check}
-use Rattle.book.specs.Rules.{Found, found, mostMoves, walkFrom, Heads, heads, Joining, merged, same, merge, Done}
+use Rattle.book.specs.Rules.{Found, found, mostMoves, walkFrom, Heads, heads, Joining, merged, same, merge, Outcome}
 use Rattle.book.specs.Rules.{linkHeads, writeBook}
 use Rattle.book.specs.Two.{Areas, areas, nextIn, fits, two, twoBook}
 use Rattle.book.specs.declared.Pair.{Pair}
@@ -23,11 +23,11 @@ saysPair (Pair.Heads g h) = gives (heads g h)
 saysPair (Pair.Refused r) = refuses r
 
 -- the end of a join whose heads are found
-unfoldable pub linkTwo : List ℕ → List ℕ → ℕ → ℕ → Done Joining Areas
+unfoldable pub linkTwo : List ℕ → List ℕ → ℕ → ℕ → Outcome Joining Areas
 linkTwo ps ss g h = writeBook twoBook (linkHeads (two ps ss) (heads g h)) (areas ps ss)
 
 -- the head `under` goes under the head `top`, whose size becomes `total`
-unfoldable pub hangTwo : List ℕ → List ℕ → ℕ → ℕ → ℕ → Done Joining Areas
+unfoldable pub hangTwo : List ℕ → List ℕ → ℕ → ℕ → ℕ → Outcome Joining Areas
 hangTwo ps ss top under total = writeBook twoBook (gives (merge top under total)) (areas ps ss)
 
 -- areas that are well lent, a vertex u of them, and the number of its walk

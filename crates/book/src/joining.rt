@@ -14,7 +14,7 @@ use basis::refusal::UNSOUND;
 ghost use mathlib.Core.Path.{_≡_};
 ghost use Prim.Native.Nat.{_<_};
 ghost use lib.ListN.{length};
-ghost use Rattle.book.specs.Rules.{done, eachDone, joinBook, joinEach, above, mergeable};
+ghost use Rattle.book.specs.Rules.{outcome, eachOutcome, joinBook, joinEach, above, mergeable};
 ghost use Rattle.book.specs.Two.{areas, twoBook};
 ghost use Rattle.book.specs.Says.{saysJoined, saysJoinedEach};
 ghost use Rattle.book.specs.Steps.{linkTwo, hangTwo, Walking, saysCarried, carriedOn};
@@ -29,7 +29,7 @@ fn hang(
 ) -> Joined
     requires { ⌜ (under < length (now parents)) × (top < length (now sizes)) ⌝ }
     ensures { λ r. ⌜
-        done (saysJoined r) (areas (now (parents .exit)) (now (sizes .exit)))
+        outcome (saysJoined r) (areas (now (parents .exit)) (now (sizes .exit)))
         ≡ hangTwo (now (parents .entry)) (now (sizes .entry)) top under total ⌝ }
 {
     parents[under] = top;
@@ -70,7 +70,7 @@ fn may_merge(n: usize, a: usize, b: usize) -> bool
 fn link(parents: &mut [usize], sizes: &mut [usize], g: usize, h: usize) -> Joined
     requires { ⌜ (length (now sizes) ≡ length (now parents)) × (g < length (now parents)) × (h < length (now parents)) ⌝ }
     ensures { λ r. ⌜
-        done (saysJoined r) (areas (now (parents .exit)) (now (sizes .exit)))
+        outcome (saysJoined r) (areas (now (parents .exit)) (now (sizes .exit)))
         ≡ linkTwo (now (parents .entry)) (now (sizes .entry)) g h ⌝ }
 {
     if g == h {
@@ -90,7 +90,7 @@ fn link(parents: &mut [usize], sizes: &mut [usize], g: usize, h: usize) -> Joine
 // The groups of two vertices become one, where they are two.
 pub fn join(parents: &mut [usize], sizes: &mut [usize], u: usize, v: usize) -> Joined
     ensures { λ r. ⌜
-        done (saysJoined r) (areas (now (parents .exit)) (now (sizes .exit)))
+        outcome (saysJoined r) (areas (now (parents .exit)) (now (sizes .exit)))
         ≡ joinBook twoBook (areas (now (parents .entry)) (now (sizes .entry))) u v ⌝ }
 {
     match heads(parents, sizes, u, v) {
@@ -111,7 +111,7 @@ enum Carried {
 fn join_next(parents: &mut [usize], sizes: &mut [usize], u: usize, at: usize, w: usize) -> Carried
     requires { ⌜ Walking (now parents) (now sizes) u at ⌝ }
     ensures { λ r. ⌜
-        (done (saysCarried r) (areas (now (parents .exit)) (now (sizes .exit)))
+        (outcome (saysCarried r) (areas (now (parents .exit)) (now (sizes .exit)))
         ≡ joinBook twoBook (areas (now (parents .entry)) (now (sizes .entry))) u w)
         × Walking (now (parents .exit)) (now (sizes .exit)) u (carriedOn at r) ⌝ }
 {
@@ -149,7 +149,7 @@ pub fn join_each(
     others: &[usize],
 ) -> JoinedEach
     ensures { λ r. ⌜
-        eachDone (saysJoinedEach r) (areas (now (parents .exit)) (now (sizes .exit)))
+        eachOutcome (saysJoinedEach r) (areas (now (parents .exit)) (now (sizes .exit)))
         ≡ joinEach twoBook (areas (now (parents .entry)) (now (sizes .entry))) u (now (others .entry)) ⌝ }
 {
     if others.len() == 0 {

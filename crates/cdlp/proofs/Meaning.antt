@@ -23,7 +23,7 @@ use Rattle.kernels.proofs.Results.{pad-value, pad-behind}
 use Rattle.cdlp.specs.Label.{times, standing, mostCommon, smallestOr, nextLabel}
 use Rattle.cdlp.specs.Rounds.{around, labelsAt, nextAt, oneRound, rounds, cdlpOf}
 use Rattle.cdlp.specs.Call.{mostRounds, goodRounds, roomFor, leftBy, cdlpCall}
-use Rattle.cdlp.specs.Meaning.{bearers, frequency, Next, Labels, Done, Called, heardOnce}
+use Rattle.cdlp.specs.Meaning.{bearers, frequency, NextLabel, Labels, Done, Called, heardOnce}
 use Rattle.cdlp.proofs.Labels.{Chosen, next-chosen, times-append, next-twice}
 use Rattle.cdlp.proofs.Lists.{labels-append}
 use Rattle.cdlp.proofs.Runs.{cdlp-length}
@@ -100,7 +100,7 @@ module _ (g : Graph) (k : ℕ) where
     heard-most [] e x = rw e (omega arith)
     heard-most (l ∷ ls) e x = settled g k v h (λ n. no-case (let z : l ∷ ls ≡ [] = sym e ∙ n in cc)) .most x
 
-    next-label : Next g (label g k) v (label g (suc k) v)
+    next-label : NextLabel g (label g k) v (label g (suc k) v)
     next-label =
         record {
           kept = λ a b. alone g k v h (unfold around in ap₂ (λ (s t : List ℕ). s ++ t) a b);
@@ -113,7 +113,7 @@ module _ (g : Graph) (k : ℕ) where
 -- labels that agree on the vertices
 labels-same : (g : Graph) (k : ℕ) (L M : ℕ → ℤ) → ((v : ℕ) → v < g .vertices → M v ≡ L v) → Labels g k L → Labels g k M
 labels-same g zero L M e h = λ v l. e v l ∙ h v l
-labels-same g (suc k) L M e h = (h .0, h .1, λ v l. subst (Next g (h .0) v) (sym (e v l)) (h .2 v l))
+labels-same g (suc k) L M e h = (h .0, h .1, λ v l. subst (NextLabel g (h .0) v) (sym (e v l)) (h .2 v l))
 
 -- the labels after k rounds are those of the rule
 pub rounds-labels : (g : Graph) (k : ℕ) → Labels g k (label g k)
@@ -125,7 +125,7 @@ heard-first : (L : ℕ → ℤ) (u : ℕ) (us : List ℕ) → 0 < bearers L (L u
 unfolding bearers
 heard-first L u us = rw (signed-order .same-refl (L u)) (omega arith)
 
-next-one : (g : Graph) (L : ℕ → ℤ) (v : ℕ) (x y : ℤ) → Next g L v x → Next g L v y → x ≡ y
+next-one : (g : Graph) (L : ℕ → ℤ) (v : ℕ) (x y : ℤ) → NextLabel g L v x → NextLabel g L v y → x ≡ y
 next-one g L v x y a b = by (inward g v) (outward g v) refl refl
   where
     by-heard : (u : ℕ) → 0 < frequency g L v (L u) → x ≡ y
@@ -148,7 +148,7 @@ bearers-same n L M e l (u ∷ us) h =
     ap₂ (λ (z : ℤ) (k : ℕ). bit (sameZ l z) + k) (e u (below-first n u us h)) (bearers-same n L M e l us (below-rest n u us h))
 
 next-same : (g : Graph) → Sound g → (L M : ℕ → ℤ) → ((u : ℕ) → u < g .vertices → L u ≡ M u) → (v : ℕ) → v < g .vertices → (x : ℤ)
-    → Next g L v x → Next g M v x
+    → NextLabel g L v x → NextLabel g M v x
 next-same g s L M e v h x a =
     let same : (y : ℤ) → frequency g L v y ≡ frequency g M v y = λ y.
     ap₂ (λ (i j : ℕ). i + j) (bearers-same (g .vertices) L M e y (inward g v) (inward-below g s v h))

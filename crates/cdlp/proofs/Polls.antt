@@ -12,7 +12,7 @@ use lib.Dec.{eqb, ltb}
 use borrow.Author.Tests.{eq-eqb, ne-eqb, ltb-true, ltb-false, lt-ltb, le-ltb}
 use Rattle.basis.proofs.Orders.{number-order}
 use Rattle.basis.specs.Scan.{allBelow, bit}
-use Rattle.basis.proofs.Scans.{below-first, below-rest, below-append}
+use Rattle.basis.proofs.Scans.{below-first, below-rest, below-append, bit-le}
 use Rattle.basis.proofs.Areas.{replicate-at}
 use Rattle.cdlp.specs.declared.label.Best.{Best}
 use Rattle.cdlp.specs.Label.{times, mostCommon, standing, smallestOr, nextLabel}
@@ -247,10 +247,6 @@ times-le : (x : ℕ) (ls : List ℕ) → times eqb x ls ≤ length ls
 unfolding times
 times-le x [] = omega arith
 times-le x (l ∷ ls) = let r = times-le x ls in let o = bit-le (eqb x l) in omega arith
-  where
-    bit-le : (t : Bool) → bit t ≤ 1
-    bit-le true = omega arith
-    bit-le false = omega arith
 
 set-zero : (C : List ℕ) (l : ℕ) → getD (set C l 0) l 0 ≡ 0
 set-zero [] l = refl

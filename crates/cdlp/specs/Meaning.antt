@@ -25,7 +25,7 @@ abbrev pub frequency : Graph → (ℕ → ℤ) → ℕ → ℤ → ℕ
 frequency g L v l = bearers L l (inward g v) + bearers L l (outward g v)
 
 -- l is the label of v in the round that comes after the labels L
-pub record Next (g : Graph) (L : ℕ → ℤ) (v : ℕ) (l : ℤ) : Type 0 where
+pub record NextLabel (g : Graph) (L : ℕ → ℤ) (v : ℕ) (l : ℤ) : Type 0 where
   -- "In case a vertex has no neighbors, it retains its current label"
   pub kept : inward g v ≡ [] → outward g v ≡ [] → l ≡ L v
   -- "selects the label which is most common"
@@ -36,7 +36,7 @@ pub record Next (g : Graph) (L : ℕ → ℤ) (v : ℕ) (l : ℤ) : Type 0 where
 -- L gives the vertices of g their labels after k rounds: "labels start as identifiers", and "Each round uses only the round before"
 abbrev pub Labels : Graph → ℕ → (ℕ → ℤ) → Type 0
 Labels g zero L = (v : ℕ) → v < g .vertices → L v ≡ getD (names g) v (pos 0)
-Labels g (suc k) L = (before : ℕ → ℤ) × Labels g k before × ((v : ℕ) → v < g .vertices → Next g before v (L v))
+Labels g (suc k) L = (before : ℕ → ℤ) × Labels g k before × ((v : ℕ) → v < g .vertices → NextLabel g before v (L v))
 
 -- a call that gives the labels after k rounds: each vertex has its label at its place
 pub record Done (g : Graph) (k : ℕ) (R : List ℤ) (L N C : List ℕ) (o : Outcome) : Type 0 where

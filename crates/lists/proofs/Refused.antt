@@ -42,4 +42,5 @@ vertices-refusal most s = file-refusal identOf vertexFile most vertexTest vertex
 
 pub edges-refusal : (undirected : Bool) (most : ℕ) (place : ℤ → Found) (s : List ℕ)
     → Either Any (FileRefusal edgeFile most) (edgesOf undirected most place s)
-edges-refusal undirected most place s = file-refusal (twoOf identOf identOf) edgeFile most (edgeTest undirected place) (edge-low undirected place) s
+edges-refusal undirected most place s =
+    file-refusal (twoOf identOf identOf) edgeFile most (edgeTest undirected place) (edge-low undirected place) s

@@ -23,7 +23,8 @@ pub record LoadRefusal (limits : Limits) (r : Refusal) : Type 0 where
   pub inLines : r .line ≤ limits .vertices + limits .edges + 1
 
 module _ (limits : Limits) where
-  of-file : {A : Type 0} (file most : ℕ) → file ≤ 2 → most ≤ limits .vertices + limits .edges → (x : Said A) → Either Any (FileRefusal file most) x
+  of-file : {A : Type 0} (file most : ℕ) → file ≤ 2 → most ≤ limits .vertices + limits .edges → (x : Said A)
+      → Either Any (FileRefusal file most) x
       → Either Any (LoadRefusal limits) x
   of-file file most k l x h =
       either-refused Any

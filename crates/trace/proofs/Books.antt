@@ -9,7 +9,7 @@ use lib.Dec.{leb, ltb, eqb}
 use borrow.Author.Tests.{ltb-true}
 use Rattle.basis.specs.Limits.{mostVertices}
 use Rattle.basis.specs.Refusal.{Said, gives, refuses, plain, noRoom, unsound, notThere, check}
-use Rattle.book.specs.Rules.{Next, stop, to, Found, found, follow, Heads, Step, already, merge, merged, same, Done, done}
+use Rattle.book.specs.Rules.{Next, stop, to, Found, found, follow, Heads, Step, already, merge, merged, same, Outcome, outcome}
 use Rattle.book.specs.Rules.{mostMoves, walk, walkFrom, headOf, pair, headsOf, sameGroup, groupSize, tally, isStop, groupCount}
 use Rattle.book.specs.Rules.{largest, stepLimit, mergeable, mergeHeads, linkHeads, decide, openBook, writeBook, joinBook}
 use Rattle.book.specs.Two.{Areas, areas, nextIn, fits, two, twoBook}
@@ -121,7 +121,7 @@ module _ (ps ss : List ℕ) where
   open-readable = go (two ps ss .fit)
     where
       go : (t : Bool)
-          → Readable wide (cond t (done (gives tt) (twoBook .opened (areas ps ss))) (done (refuses (plain noRoom)) (areas ps ss)) .said)
+          → Readable wide (cond t (outcome (gives tt) (twoBook .opened (areas ps ss))) (outcome (refuses (plain noRoom)) (areas ps ss)) .said)
           nothing
       go true = readable-given tt (omega arith)
       go false = readable-plain noRoom (omega arith) (omega arith) (omega arith)
@@ -148,7 +148,7 @@ module _ (ps ss : List ℕ) where
   join-readable u v = written-readable _ (onward-readable (headsOf (two ps ss) u v) (heads-readable u v) (λ p e. link-readable p))
 
 -- a call that may write tells its answer and the areas
-module _ {A : Type 0} (value : A → ℕ) (d : Done A Areas) (s : Said A) (ps ss : List ℕ) (e : done s (areas ps ss) ≡ d) where
+module _ {A : Type 0} (value : A → ℕ) (d : Outcome A Areas) (s : Said A) (ps ss : List ℕ) (e : outcome s (areas ps ss) ≡ d) where
   pub book-readable : Readable wide (d .said) value → Readable wide s value
   book-readable h = readable-by (ap (λ x. x .said) e) h
 

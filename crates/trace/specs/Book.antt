@@ -2,7 +2,7 @@
 use Prim.Native.Nat.{ℕ, _+_, _*_}
 use mathlib.Core.Bool.{Bool, true, false}
 use mathlib.Core.List.{List}
-use Rattle.book.specs.Rules.{Found, Joining, merged, same, Done}
+use Rattle.book.specs.Rules.{Found, Joining, merged, same, Outcome}
 use Rattle.book.specs.Two.{Areas}
 use Rattle.trace.specs.Code.{coded}
 
@@ -35,5 +35,5 @@ abbrev pub bookTold : ℕ → List ℕ → List ℕ → BookTold
 bookTold answer parents sizes = record { answer = answer; parents = parents; sizes = sizes }
 
 -- what a call that may write leaves
-unfoldable pub bookTells : {A : Type 0} → (A → ℕ) → Done A Areas → BookTold
+unfoldable pub bookTells : {A : Type 0} → (A → ℕ) → Outcome A Areas → BookTold
 bookTells value d = bookTold (coded (d .said) value) (d .area .parents) (d .area .sizes)

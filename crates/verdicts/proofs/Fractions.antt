@@ -77,9 +77,11 @@ module _ (g : Graph) (F S W : List ℕ) {a : Said (Unit {0})} {F′ S′ W′ : 
   -- in one of the two result areas
   abbrev RanIn : (ℕ → ℕ) → List ℕ → List ℕ → Type 0
   RanIn f l l′ =
-      Ran 0 true 0 (column f 0 (g .vertices)) (g .vertices) (length (g .ids)) (soundGraph g) (lcc.roomFor (g .vertices) F S W) (length l) a l′
+      Ran 0 true 0 (column f 0 (g .vertices)) (g .vertices) (length (g .ids)) (soundGraph g) (lcc.roomFor (g .vertices) F S W) (length l) a
+      l′
 
-  ran-in : (f : ℕ → ℕ) (l l′ : List ℕ) → l′ ≡ leaves (kernelSays (soundGraph g) true 0 (lcc.roomFor (g .vertices) F S W)) 0 (length l) (column f 0 (g .vertices))
+  ran-in : (f : ℕ → ℕ) (l l′ : List ℕ) → l′ ≡ leaves (kernelSays (soundGraph g) true 0 (lcc.roomFor (g .vertices) F S W)) 0 (length l)
+      (column f 0 (g .vertices))
       → (lcc.roomFor (g .vertices) F S W ≡ true → g .vertices ≤ length l) → RanIn f l l′
   unfolding lcc.lccCall lcc.leftBy
   ran-in f l l′ p o =

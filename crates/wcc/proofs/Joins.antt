@@ -14,7 +14,7 @@ use Rattle.basis.specs.Closure.{Linked}
 use Rattle.basis.specs.Scan.{Inside, mem}
 use Rattle.basis.proofs.Closures.{linked-within}
 use Rattle.basis.proofs.Scans.{mem-none-of, mem-head, mem-tail, mem-cases}
-use Rattle.book.specs.Rules.{Done, done, all, openBook, joinEach}
+use Rattle.book.specs.Rules.{Outcome, outcome, all, openBook, joinEach}
 use Rattle.book.specs.Two.{Areas, areas, two, twoBook}
 use Rattle.book.specs.Series.{Slip, slip, putEach, headIn, headAt, Accepted}
 use Rattle.book.proofs.TwoBook.{faithful-two}
@@ -104,11 +104,11 @@ module _ (out : ℕ → List ℕ) where
 -- ---- the heads of the book that the kernel makes of areas ps, ss: opened, then joined along the arcs
 module _ (n : ℕ) (out : ℕ → List ℕ) (ids R : List ℤ) (ps ss : List ℕ) (x : Fitting n out ids R ps ss) (d : Said (Unit {0}))
     (ps₁ ss₁ ps₂ ss₂ : List ℕ)
-    (opened : done d (areas ps₁ ss₁) ≡ openBook twoBook (areas ps ss)) (joined : areas ps₂ ss₂ ≡ joinArcs out n (areas ps₁ ss₁)) where
+    (opened : outcome d (areas ps₁ ss₁) ≡ openBook twoBook (areas ps ss)) (joined : areas ps₂ ss₂ ≡ joinArcs out n (areas ps₁ ss₁)) where
   kept : Held twoBook n (areas ps₂ ss₂) (slipsOf out n)
   kept =
       subst (λ (a : Areas). Held twoBook n a (slipsOf out n))
-      (sym (joined ∙ ap (λ (d : Done (Unit {0}) Areas). joinArcs out n (d .area)) opened))
+      (sym (joined ∙ ap (λ (d : Outcome (Unit {0}) Areas). joinArcs out n (d .area)) opened))
       (held-arcs n out (x .inside) (openBook twoBook (areas ps ss) .area) (two-open ps ss n (x .few) (x .parentsRoom) (x .sizesRoom)) n
       (omega arith))
 
