@@ -180,7 +180,8 @@ module _ (M : Machine) (u : ℕ) where
           let t : k ≡ suc i = omega arith in
           let o : n + mergesBy j ≡ m = cc in
           ap (λ (y : ℕ). joinEach M a u (take y (w ∷ ws))) t ∙ each-said a w (take i ws) j d ∙ ap (behind 1 (mergesBy j)) (ih i n q f)
-          ∙ ap₂ (λ (y : ℕ) (c : M .Area). eachOutcome (all y) c) o (sym (ap (λ (y : EachOutcome (M .Area)). y .area) (each-said a w ws j d)))
+          ∙ ap₂ (λ (y : ℕ) (c : M .Area). eachOutcome (all y) c) o
+          (sym (ap (λ (y : EachOutcome (M .Area)). y .area) (each-said a w ws j d)))
 
       first : (d : Said Joining) → joinBook M a u w .said ≡ d → Behind → Stands
       first (gives j) d ih = rest j d ih (joinEach M b u ws .said) refl

@@ -224,7 +224,8 @@ module _ (ps ss : List ℕ) (u at : ℕ) (x : Walking ps ss u at) where
         }
 
     -- a join that does not merge leaves the areas, and so the walk
-    walking-kept : (s : Said Joining) (d : Said Step) → outcome s (areas ps₁ ss₁) ≡ writeBook twoBook d (areas ps ss) → (s ≡ gives merged → ⊥)
+    walking-kept : (s : Said Joining) (d : Said Step) → outcome s (areas ps₁ ss₁) ≡ writeBook twoBook d (areas ps ss)
+        → (s ≡ gives merged → ⊥)
         → Walking ps₁ ss₁ u at
     unfolding writeBook
     walking-kept s (gives already) e h = kept (ap (λ (b : Outcome Joining Areas). b .area) e)
@@ -254,7 +255,8 @@ module _ (ps ss : List ℕ) (u at : ℕ) (x : Walking ps ss u at) where
           (heads-late (two ps ss) true (sym (x .lent)) refl u w (x .inside) l at (x .walk) _ m refl)
 
       module _ (m : at / mostVertices ≤ mostMoves) (to : ℕ) (q : saysWalked to ≡ walkFrom (nextIn ps) (length ps) w) where
-        pub next-late2 : mostMoves < to / mostVertices → outcome (refuses (plain unsound)) (areas ps ss) ≡ joinBook twoBook (areas ps ss) u w
+        pub next-late2 : mostMoves < to / mostVertices
+            → outcome (refuses (plain unsound)) (areas ps ss) ≡ joinBook twoBook (areas ps ss) u w
         unfolding two
         next-late2 n =
             join-lost twoBook (areas ps ss) u w (plain unsound)

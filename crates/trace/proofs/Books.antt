@@ -121,7 +121,8 @@ module _ (ps ss : List ℕ) where
   open-readable = go (two ps ss .fit)
     where
       go : (t : Bool)
-          → Readable wide (cond t (outcome (gives tt) (twoBook .opened (areas ps ss))) (outcome (refuses (plain noRoom)) (areas ps ss)) .said)
+          → Readable wide (cond t (outcome (gives tt) (twoBook .opened (areas ps ss))) (outcome (refuses (plain noRoom)) (areas ps ss))
+          .said)
           nothing
       go true = readable-given tt (omega arith)
       go false = readable-plain noRoom (omega arith) (omega arith) (omega arith)
