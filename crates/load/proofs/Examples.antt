@@ -1,5 +1,4 @@
 -- Loads by computation: the sheet's graph of 01, a small undirected one, and some that are refused.
--- Bytes: 45 `-`, 48 to 57 the digits, 32 a space, 10 LF.
 use mathlib.Core.Path.{_≡_, refl}
 use mathlib.Core.List.{List, [], _∷_}
 use Prim.Native.Nat.{ℕ}
@@ -7,6 +6,7 @@ use lib.IntN.{pos, negsuc}
 use Rattle.basis.specs.Refusal.{gives, refuses, at, plain}
 use Rattle.basis.specs.Scan.{each, mem}
 use Rattle.basis.specs.Area.{column}
+use Rattle.text.specs.Bytes.{bytes}
 use Rattle.text.specs.Word.{within}
 use Rattle.text.specs.Line.{lineBy, twoOf}
 use Rattle.text.specs.File.{linesFrom, valuesFrom}
@@ -14,14 +14,12 @@ use Rattle.graph.specs.Find.{placeFrom}
 use Rattle.lists.specs.Files.{edgeTest}
 use Rattle.load.specs.Load.{roomOf, arcsRead, listsRead, loaded, outcome, outcomeOf, loadCall, library}
 
--- -3 / 2 / 5 / 9 / 20
+-- the vertices of the sheet's graph, and its edges
 vertices : List ℕ
-vertices = 45 ∷ 51 ∷ 10 ∷ 50 ∷ 10 ∷ 53 ∷ 10 ∷ 57 ∷ 10 ∷ 50 ∷ 48 ∷ 10 ∷ []
+vertices = bytes "-3\n2\n5\n9\n20\n"
 
--- 2 5 / 2 9 / 5 2 / 5 9 / 9 20
 edges : List ℕ
-edges =
-    50 ∷ 32 ∷ 53 ∷ 10 ∷ 50 ∷ 32 ∷ 57 ∷ 10 ∷ 53 ∷ 32 ∷ 50 ∷ 10 ∷ 53 ∷ 32 ∷ 57 ∷ 10 ∷ 57 ∷ 32 ∷ 50 ∷ 48 ∷ 10 ∷ []
+edges = bytes "2 5\n2 9\n5 2\n5 9\n9 20\n"
 
 directed : loadCall library 1 (roomOf 6 7 6 6 5) vertices edges
     ≡ outcome (gives (record { vertices = 5; arcs = 5 }))
@@ -46,12 +44,12 @@ larger-first : loaded library 0 (roomOf 5 6 9 6 9) vertices edges ≡ refuses (a
 unfolding vertices edges each mem within lineBy twoOf placeFrom linesFrom valuesFrom edgeTest arcsRead listsRead loaded
 larger-first = refl
 
--- 1 / 2 / 3, with the edges 1 2 / 1 3: each stores two arcs
+-- three vertices with two edges, each of which stores two arcs
 three : List ℕ
-three = 49 ∷ 10 ∷ 50 ∷ 10 ∷ 51 ∷ 10 ∷ []
+three = bytes "1\n2\n3\n"
 
 star : List ℕ
-star = 49 ∷ 32 ∷ 50 ∷ 10 ∷ 49 ∷ 32 ∷ 51 ∷ 10 ∷ []
+star = bytes "1 2\n1 3\n"
 
 undirected : loadCall library 0 (roomOf 3 4 5 4 4) three star
     ≡ outcome (gives (record { vertices = 3; arcs = 4 }))
@@ -74,7 +72,7 @@ unknown-mode : loaded library 2 (roomOf 3 4 4 4 4) three star ≡ refuses (plain
 unfolding three star loaded
 unknown-mode = refl
 
-too-many : loaded (record { vertices = 2; edges = 2 }) 0 (roomOf 3 4 4 4 4) (49 ∷ 10 ∷ 50 ∷ 10 ∷ 45 ∷ []) star ≡ refuses (at 1 1 3)
+too-many : loaded (record { vertices = 2; edges = 2 }) 0 (roomOf 3 4 4 4 4) (bytes "1\n2\n-") star ≡ refuses (at 1 1 3)
 unfolding star each mem within lineBy twoOf placeFrom linesFrom valuesFrom edgeTest arcsRead listsRead loaded
 too-many = refl
 
@@ -83,10 +81,10 @@ unfolding three star each mem within lineBy twoOf placeFrom linesFrom valuesFrom
 no-room = refl
 
 -- 1 4 names a vertex that isn't there (7); 1 2 twice is not above (4)
-not-there : loaded library 0 (roomOf 3 4 4 4 4) three (49 ∷ 32 ∷ 52 ∷ 10 ∷ []) ≡ refuses (at 7 2 1)
+not-there : loaded library 0 (roomOf 3 4 4 4 4) three (bytes "1 4\n") ≡ refuses (at 7 2 1)
 unfolding three each mem within lineBy twoOf placeFrom linesFrom valuesFrom edgeTest arcsRead listsRead loaded
 not-there = refl
 
-twice : loaded library 0 (roomOf 3 4 4 4 4) three (49 ∷ 32 ∷ 50 ∷ 10 ∷ 49 ∷ 32 ∷ 50 ∷ 10 ∷ []) ≡ refuses (at 4 2 2)
+twice : loaded library 0 (roomOf 3 4 4 4 4) three (bytes "1 2\n1 2\n") ≡ refuses (at 4 2 2)
 unfolding three each mem within lineBy twoOf placeFrom linesFrom valuesFrom edgeTest arcsRead listsRead loaded
 twice = refl
