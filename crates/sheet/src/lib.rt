@@ -12,8 +12,7 @@ use plan::check;
 use plan::sections::Checked;
 use plan::sections::Plan;
 ghost use mathlib.Core.Path.{_≡_};
-ghost use lib.ListN.{length};
-ghost use Rattle.load.specs.Load.{says, roomOf, outcome};
+ghost use Rattle.load.specs.Load.{says, roomIn, outcome};
 ghost use Rattle.write.specs.Put.{written, putAt};
 ghost use Rattle.sheet.specs.Desk.{modeNumber, loadOf, planText, deskOutput};
 ghost use Rattle.sheet.specs.Steps.{Placed};
@@ -40,8 +39,8 @@ fn load_sections(
         outcome (says r) (now (ids .exit)) (now («out_offsets» .exit)) (now («out_targets» .exit))
         (now («in_offsets» .exit)) (now («in_sources» .exit))
         ≡ loadOf (now (s .entry)) plan
-        (roomOf (length (now (ids .entry))) (length (now («out_offsets» .entry))) (length (now («out_targets» .entry)))
-        (length (now («in_offsets» .entry))) (length (now («in_sources» .entry)))) ⌝ }
+        (roomIn (now (ids .entry)) (now («out_offsets» .entry)) (now («out_targets» .entry))
+        (now («in_offsets» .entry)) (now («in_sources» .entry))) ⌝ }
 {
     let vertices = plan.vertices;
     let edges = plan.edges;

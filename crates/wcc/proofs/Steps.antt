@@ -8,7 +8,7 @@ use lib.IntN.{ℤ, pos}
 use lib.ListN.{length, getD, set}
 use Rattle.basis.specs.declared.refusal.Refusal.{Refusal}
 use Rattle.book.specs.declared.Headed.{Headed}
-use Rattle.book.specs.Rules.{headOf, Each, EachDone, eachDone, joinEach}
+use Rattle.book.specs.Rules.{headOf, Each, EachOutcome, eachOutcome, joinEach}
 use Rattle.book.specs.Two.{Areas, two, twoBook}
 use Rattle.book.specs.Says.{saysHeaded}
 use Rattle.book.specs.Series.{headIn}
@@ -31,10 +31,10 @@ module _ (out : ℕ → List ℕ) (a : Areas) where
   arcs-none = refl
 
   pub arcs-more : (b c : Areas) (u : ℕ) (ws : List ℕ) (e : Each) → b ≡ joinArcs out u a → ws ≡ out u
-      → eachDone e c ≡ joinEach twoBook b u ws → c ≡ joinArcs out (u + 1) a
+      → eachOutcome e c ≡ joinEach twoBook b u ws → c ≡ joinArcs out (u + 1) a
   unfolding joinArcs
   arcs-more b c u ws s e q f =
-      rw add-one (ap (λ (d : EachDone Areas). d .area) f ∙ ap₂ (λ (x : Areas) (l : List ℕ). joinEach twoBook x u l .area) e q)
+      rw add-one (ap (λ (d : EachOutcome Areas). d .area) f ∙ ap₂ (λ (x : Areas) (l : List ℕ). joinEach twoBook x u l .area) e q)
 
   pub arcs-end : (b : Areas) (u n : ℕ) → u ≤ n → n ≤ u → b ≡ joinArcs out u a → b ≡ joinArcs out n a
   arcs-end b u n l k e = let q : u ≡ n = omega arith in e ∙ ap (λ (x : ℕ). joinArcs out x a) q
