@@ -17,7 +17,7 @@ use Rattle.basis.specs.Area.{cleared, clearedZ}
 use Rattle.basis.proofs.Tests.{clash, and-first, and-second, held}
 use Rattle.basis.proofs.Orders.{leb-min}
 use Rattle.graph.specs.declared.Size.{Size}
-use Rattle.graph.specs.Sound.{Graph, lent, soundGraph, Sound}
+use Rattle.graph.specs.Sound.{Graph, lent, soundGraph}
 use Rattle.graph.specs.Walk.{checked}
 use Rattle.graph.proofs.Walks.{check-told, check-area}
 use Rattle.graph.proofs.Sounds.{sound-of}
