@@ -22,7 +22,7 @@ use Rattle.graph.specs.declared.find.Found.the-variants.{At, Missing}
 use Rattle.graph.specs.Part.{partOf}
 use Rattle.graph.specs.Find.{Searched, placeIn, isThere}
 use Rattle.graph.specs.Sound.{Graph, outward, names, lent, soundGraph}
-use Rattle.graph.specs.Walk.{checked}
+use Rattle.graph.specs.Walk.{arcsChecked}
 use Rattle.graph.proofs.Walks.{check-told, check-area}
 use Rattle.graph.proofs.Sounds.{sound-of, names-length, outward-below, vertex-found}
 use Rattle.graph.proofs.Finds.{place-at, searched-is}
@@ -109,7 +109,7 @@ call-over g root D Q Q₁ q = rw (q, length-replicate {A = ℕ} (length Q) 0)
 
 -- Q₁ is the queue that it left; z is the root as it is handed on
 module _ (size : Size) (ids : List ℤ) (oo ot io is : List ℕ) (root : ℤ) (D : List ℤ) (Q Q₁ : List ℕ) (o : Outcome)
-    (s : Bool) (e : checked s Q₁ ≡ checked (soundGraph (lent size ids oo ot io is)) (cleared Q)) where
+    (s : Bool) (e : arcsChecked s Q₁ ≡ arcsChecked (soundGraph (lent size ids oo ot io is)) (cleared Q)) where
   abbrev graph : Graph
   graph = lent size ids oo ot io is
 

@@ -16,7 +16,7 @@ use Rattle.book.specs.declared.JoinedEach.{JoinedEach}
 use Rattle.book.specs.declared.Headed.{Headed}
 use Rattle.book.specs.declared.Compared.{Compared}
 use Rattle.book.specs.declared.Reading.{Reading}
-use Rattle.book.specs.Rules.{Found, Heads, Step, already, merge, Joining, merged, same, Machine, Outcome}
+use Rattle.book.specs.Rules.{WalkEnd, Heads, Step, already, merge, Joining, merged, same, Machine, Outcome}
 use Rattle.book.specs.Rules.{outcome, headsOf, linkHeads, decide, openBook, writeBook, joinBook, Each}
 use Rattle.book.specs.Rules.{all, stopped, EachOutcome, eachOutcome, counted, behind, andOn, joinEach}
 use Rattle.book.specs.Says.{saysOpened, saysJoined, saysJoinedEach, saysHeaded, saysCompared, saysReading}
@@ -59,7 +59,7 @@ joinedEach-back (JoinedEach.Stopped joined merges r) = refl
 pub one-joinedEach : (a b : JoinedEach) → saysJoinedEach a ≡ saysJoinedEach b → a ≡ b
 one-joinedEach = one-of saysJoinedEach joinedEach joinedEach-back
 
-abbrev headed : Said Found → Headed
+abbrev headed : Said WalkEnd → Headed
 headed (gives f) = Headed.Head (f .head) (f .moves)
 headed (refuses r) = Headed.Refused r
 
@@ -125,7 +125,7 @@ module _ (M : Machine) (a : M .Area) where
           → writeBook M (onward (headsOf (M .view a) v v) (linkHeads (M .view a))) a .area ≡ a
       go (gives p) e =
           let t = heads-inside (M .view a) v v (p .first) (p .second) e .3 in
-          let q : p .first ≡ p .second = ap (λ (f : Found). f .head) (given-one (sym (t .2) ∙ t .3)) in
+          let q : p .first ≡ p .second = ap (λ (f : WalkEnd). f .head) (given-one (sym (t .2) ∙ t .3)) in
           ap (λ s. writeBook M (onward s (linkHeads (M .view a))) a .area) e
           ∙ ap (λ d. writeBook M d a .area) (link-already (M .view a) (p .first) (p .second) q)
       go (refuses r) e = ap (λ s. writeBook M (onward s (linkHeads (M .view a))) a .area) e

@@ -9,7 +9,7 @@ use Rattle.basis.specs.Limits.{mostVertices}
 use Rattle.basis.proofs.Tests.{failed, held}
 use Rattle.basis.specs.declared.refusal.Refusal.{Refusal}
 use Rattle.basis.specs.Refusal.{gives, refuses, plain, noRoom}
-use Rattle.basis.specs.Area.{column}
+use Rattle.basis.specs.Area.{column, ownNumbers}
 use Rattle.basis.proofs.Areas.{column-end, fill-end}
 use Rattle.book.specs.declared.Headed.{Headed}
 use Rattle.book.specs.declared.Reading.{Reading}
@@ -27,7 +27,7 @@ module _ (ps ss : List ℕ) (t : Bool) (e : t ≡ fits ps ss) where
   pub open-lengths : not t ≡ false → length ss ≡ length ps
   open-lengths f = fits-same ps ss (held t _ e f)
 
-  pub open-ready : (i : ℕ) (p s : List ℕ) → not t ≡ false → length ps ≤ i → i ≤ length ps → p ≡ column (λ v. v) 0 i ++ drop i ps
+  pub open-ready : (i : ℕ) (p s : List ℕ) → not t ≡ false → length ps ≤ i → i ≤ length ps → p ≡ ownNumbers i ++ drop i ps
       → s ≡ column (λ v. 1) 0 i ++ drop i ss
       → outcome (gives tt) (areas p s) ≡ openBook twoBook (areas ps ss)
   unfolding openBook two

@@ -14,7 +14,7 @@ use Rattle.book.specs.declared.Headed.{Headed}
 use Rattle.book.specs.declared.Pair.{Pair}
 use Rattle.book.specs.declared.Reading.{Reading}
 use Rattle.basis.specs.Refusal.{gives, refuses, plain, notThere, onward}
-use Rattle.book.specs.Rules.{mostMoves, stop, View, found, heads, Step, already, merge}
+use Rattle.book.specs.Rules.{mostMoves, stop, View, walkEnd, heads, Step, already, merge}
 use Rattle.book.specs.Rules.{Machine, walkFrom, headOf, pair, headsOf, sameGroup}
 use Rattle.book.specs.Rules.{groupSize, tally, isStop, groupCount, largest, stepLimit, above, mergeHeads, linkHeads, decide}
 use Rattle.basis.proofs.Tests.{clash}
@@ -68,14 +68,14 @@ module _ (n : ℕ) (w : View) (js : List Slip) (m : ℕ) (S : Sound n w js m) wh
         pow-mono {i = 17} {j = S .forest .depth v} (omega arith),
       ))
 
-  pub walk-is : (v : ℕ) → v < n → walkFrom (w .next) (w .count) v ≡ gives (found (S .forest .head v) (S .forest .depth v))
+  pub walk-is : (v : ℕ) → v < n → walkFrom (w .next) (w .count) v ≡ gives (walkEnd (S .forest .head v) (S .forest .depth v))
   unfolding walkFrom
   walk-is v l =
       let e : 0 + S .forest .depth v ≡ S .forest .depth v = omega arith in
       rw (S .count) (reach-walk (w .next) n (S .forest .depth v) mostMoves 0 v (S .forest .head v) (S .forest .reach v l) (depth-le v l)
-      ∙ ap (λ (k : ℕ). gives (found (S .forest .head v) k)) e)
+      ∙ ap (λ (k : ℕ). gives (walkEnd (S .forest .head v) k)) e)
 
-  pub head-answer : (v : ℕ) → v < n → headOf w v ≡ gives (found (S .forest .head v) (S .forest .depth v))
+  pub head-answer : (v : ℕ) → v < n → headOf w v ≡ gives (walkEnd (S .forest .head v) (S .forest .depth v))
   head-answer v l = head-walk w v (S .fit) (in-area v l) ∙ walk-is v l
 
   pub heads-answer : (u v : ℕ) → u < n → v < n → headsOf w u v ≡ gives (heads (S .forest .head u) (S .forest .head v))

@@ -15,7 +15,7 @@ use Rattle.basis.proofs.Tests.{and-first, and-second, and-both, and-off, failed
 use Rattle.book.specs.declared.Headed.{Headed}
 use Rattle.book.specs.declared.Pair.{Pair}
 use Rattle.book.specs.declared.Reading.{Reading}
-use Rattle.book.specs.Rules.{mostMoves, stop, View, Found, found, Heads, heads, walkFrom, headOf, pair, headsOf, oneHead}
+use Rattle.book.specs.Rules.{mostMoves, stop, View, WalkEnd, walkEnd, Heads, heads, walkFrom, headOf, pair, headsOf, oneHead}
 use Rattle.book.specs.Rules.{sameGroup, sizeAt, groupSize, tally, isStop, groupCount, largest, limitOf, stepLimit}
 use Rattle.book.specs.Two.{nextIn}
 use Rattle.book.specs.Says.{saysHeaded, saysReading}
@@ -30,7 +30,7 @@ module _ (w : View) (v : ℕ) where
   head-walk a d = check-on (w .fit) noRoom _ a ∙ check-on (ltb v (w .count)) notThere _ (lt-ltb v (w .count) d)
 
   -- a head that is given was walked to
-  pub head-inside : (f : Found) → headOf w v ≡ gives f → (w .fit ≡ true) × (v < w .count) × (walkFrom (w .next) (w .count) v ≡ gives f)
+  pub head-inside : (f : WalkEnd) → headOf w v ≡ gives f → (w .fit ≡ true) × (v < w .count) × (walkFrom (w .next) (w .count) v ≡ gives f)
   unfolding headOf
   head-inside f e =
       let l = check-passed (w .fit) noRoom _ f e in
@@ -47,7 +47,7 @@ module _ (w : View) (v : ℕ) where
     head-missing x f l p =
         ap refuses p ∙ sym (check-on (w .fit) noRoom _ (held t _ e f) ∙ check-off (ltb v (w .count)) notThere _ (le-ltb v (w .count) l))
 
-    pub head-walked : (s : Said Found) → not t ≡ false → v < w .count → s ≡ walkFrom (w .next) (w .count) v → s ≡ headOf w v
+    pub head-walked : (s : Said WalkEnd) → not t ≡ false → v < w .count → s ≡ walkFrom (w .next) (w .count) v → s ≡ headOf w v
     head-walked s f l p = p ∙ sym (head-walk (held t _ e f) l)
 
 -- ---- the heads of two vertices
@@ -59,20 +59,21 @@ module _ (w : View) (u v : ℕ) where
       check-on (w .fit) noRoom _ a ∙ check-on (ltb u (w .count)) notThere _ (lt-ltb u (w .count) d)
       ∙ check-on (ltb v (w .count)) notThere _ (lt-ltb v (w .count) e)
 
-  pair-passed : (s t : Said Found) (g h : ℕ) → pair s t ≡ gives (heads g h) → (k l : ℕ) × (s ≡ gives (found g k)) × (t ≡ gives (found h l))
+  pair-passed : (s t : Said WalkEnd) (g h : ℕ) → pair s t ≡ gives (heads g h)
+      → (k l : ℕ) × (s ≡ gives (walkEnd g k)) × (t ≡ gives (walkEnd h l))
   pair-passed (gives f) (gives x) g h e =
       let q = given-one e in (
         f .moves,
         x .moves,
-        ap (λ (p : Heads). gives (found (p .first) (f .moves))) q,
-        ap (λ (p : Heads). gives (found (p .second) (x .moves))) q,
+        ap (λ (p : Heads). gives (walkEnd (p .first) (f .moves))) q,
+        ap (λ (p : Heads). gives (walkEnd (p .second) (x .moves))) q,
       )
   pair-passed (gives f) (refuses r) g h e = refused-given e
   pair-passed (refuses r) t g h e = refused-given e
 
   pub heads-inside : (g h : ℕ) → headsOf w u v ≡ gives (heads g h)
       → (w .fit ≡ true) × (u < w .count) × (v < w .count)
-      × ((k l : ℕ) × (walkFrom (w .next) (w .count) u ≡ gives (found g k)) × (walkFrom (w .next) (w .count) v ≡ gives (found h l)))
+      × ((k l : ℕ) × (walkFrom (w .next) (w .count) u ≡ gives (walkEnd g k)) × (walkFrom (w .next) (w .count) v ≡ gives (walkEnd h l)))
   unfolding headsOf
   heads-inside g h e =
       let l = check-passed (w .fit) noRoom _ _ e in
@@ -89,8 +90,8 @@ module _ (w : View) (u v : ℕ) where
       → (g < w .count) × (w .next g ≡ stop) × (h < w .count) × (w .next h ≡ stop)
   heads-below g h e =
       let t = heads-inside g h e in
-      let a = walkFrom-in (w .next) (w .count) u (found g (t .3 .0)) (t .1) (t .3 .2) in
-      let b = walkFrom-in (w .next) (w .count) v (found h (t .3 .1)) (t .2) (t .3 .3) in
+      let a = walkFrom-in (w .next) (w .count) u (walkEnd g (t .3 .0)) (t .1) (t .3 .2) in
+      let b = walkFrom-in (w .next) (w .count) v (walkEnd h (t .3 .1)) (t .2) (t .3 .3) in
       (a .0, a .1, b .0, b .1)
 
   module _ (t : Bool) (e : t ≡ w .fit) where
@@ -110,7 +111,7 @@ module _ (w : View) (u v : ℕ) where
         ∙ sym (check-on (w .fit) noRoom _ (held t _ e f) ∙ check-on (ltb u (w .count)) notThere _ (lt-ltb u (w .count) d)
         ∙ check-off (ltb v (w .count)) notThere _ (le-ltb v (w .count) l))
 
-    pub heads-walked : (s z : Said Found) → not t ≡ false → u < w .count → v < w .count → s ≡ walkFrom (w .next) (w .count) u
+    pub heads-walked : (s z : Said WalkEnd) → not t ≡ false → u < w .count → v < w .count → s ≡ walkFrom (w .next) (w .count) u
         → z ≡ walkFrom (w .next) (w .count) v
         → pair s z ≡ headsOf w u v
     heads-walked s z f a b p q = sym (heads-walks (held t _ e f) a b ∙ ap₂ pair (sym p) (sym q))
@@ -139,7 +140,7 @@ module _ (w : View) (v : ℕ) where
   size-refused r x e f = ap (λ s. onward s (sizeAt w)) (sym (ap saysHeaded f) ∙ e)
 
   module _ (r : Headed) (e : saysHeaded r ≡ headOf w v) (h k : ℕ) (f : r ≡ Headed.Head h k) where
-    size-at : groupSize w v ≡ sizeAt w (found h k)
+    size-at : groupSize w v ≡ sizeAt w (walkEnd h k)
     unfolding groupSize
     size-at = ap (λ s. onward s (sizeAt w)) (sym e ∙ ap saysHeaded f)
 
@@ -160,8 +161,8 @@ module _ (w : View) (v : ℕ) where
     -- the head that is read is in the area
     pub size-below : (w .fit ≡ true) × (h < w .count)
     size-below =
-        let t = head-inside w v (found h k) (sym e ∙ ap saysHeaded f) in
-        (t .0, walkFrom-in (w .next) (w .count) v (found h k) (t .1) (t .2) .0)
+        let t = head-inside w v (walkEnd h k) (sym e ∙ ap saysHeaded f) in
+        (t .0, walkFrom-in (w .next) (w .count) v (walkEnd h k) (t .1) (t .2) .0)
 
   -- a size that is given is one of a group of the book
   pub size-inside : (s : ℕ) → groupSize w v ≡ gives s → (w .fit ≡ true) × (0 < s) × (s ≤ w .count)

@@ -10,7 +10,7 @@ use lib.Dec.{leb}
 use borrow.Author.Tests.{le-leb, lt-leb}
 use Rattle.basis.specs.Limits.{mostVertices}
 use Rattle.basis.specs.Refusal.{gives, refuses, plain, unsound, check}
-use Rattle.book.specs.Rules.{mostMoves, Next, stop, to, Found, found, walk, walkFrom}
+use Rattle.book.specs.Rules.{mostMoves, Next, stop, to, WalkEnd, walkEnd, walk, walkFrom}
 use Rattle.book.specs.Two.{areas, nextIn, two}
 use Rattle.book.specs.Steps.{saysWalked, Walking}
 use Rattle.basis.proofs.Saids.{refused-given, given-one, check-on, check-off}
@@ -23,15 +23,15 @@ use Rattle.book.proofs.TwoBook.{faithful-two}
 
 module _ (next : ℕ → Next) (n : ℕ) where
   -- what a walk gives is reached
-  abbrev Reached : ℕ → ℕ → ℕ → Found → Type 0
+  abbrev Reached : ℕ → ℕ → ℕ → WalkEnd → Type 0
   Reached left moves at f = (k : ℕ) × (k ≤ left) × (f .moves ≡ moves + k) × Reach next n at (f .head) k
 
-  reach-here : (left moves at : ℕ) (f : Found) → at < n → walk next n left moves at ≡ gives f → next at ≡ stop → Reached left moves at f
+  reach-here : (left moves at : ℕ) (f : WalkEnd) → at < n → walk next n left moves at ≡ gives f → next at ≡ stop → Reached left moves at f
   reach-here left moves at f l e q =
-      let i : found at moves ≡ f = given-one (sym (walk-head next n left moves at q) ∙ e) in
-      (0, omega arith, omega (arith, ap (λ (x : Found). x .moves) i), (l, ap (λ (x : Found). x .head) i, q))
+      let i : walkEnd at moves ≡ f = given-one (sym (walk-head next n left moves at q) ∙ e) in
+      (0, omega arith, omega (arith, ap (λ (x : WalkEnd). x .moves) i), (l, ap (λ (x : WalkEnd). x .head) i, q))
 
-  walk-reach : (left moves at : ℕ) (f : Found) → at < n → walk next n left moves at ≡ gives f → Reached left moves at f
+  walk-reach : (left moves at : ℕ) (f : WalkEnd) → at < n → walk next n left moves at ≡ gives f → Reached left moves at f
   walk-reach zero moves at f l e = go (next at) refl
     where
       go : (x : Next) → next at ≡ x → Reached zero moves at f
@@ -61,32 +61,32 @@ module _ (next : ℕ → Next) (n : ℕ) where
 module _ (next next′ : ℕ → Next) (n top under : ℕ) (top-in : top < n) (top-head : next top ≡ stop) (under-head : next under ≡ stop)
     (apart : top ≡ under → ⊥)
     (at : next′ under ≡ to top) (off : (x : ℕ) → (x ≡ under → ⊥) → next′ x ≡ next x) (v g k : ℕ) (v-in : v < n)
-    (e : walkFrom next n v ≡ gives (found g k)) where
-  walk-other : (g ≡ under → ⊥) → walkFrom next′ n v ≡ gives (found g k)
+    (e : walkFrom next n v ≡ gives (walkEnd g k)) where
+  walk-other : (g ≡ under → ⊥) → walkFrom next′ n v ≡ gives (walkEnd g k)
   unfolding walkFrom
   walk-other d =
-      let r = walk-reach next n mostMoves 0 v (found g k) v-in e in
+      let r = walk-reach next n mostMoves 0 v (walkEnd g k) v-in e in
       reach-walk next′ n (r .0) mostMoves 0 v g (reach-other next next′ n top under top-in top-head under-head apart at off (r .0) v g d
       (r .3))
       (r .1)
-      ∙ ap (λ (x : ℕ). gives (found g x)) (sym (r .2))
+      ∙ ap (λ (x : ℕ). gives (walkEnd g x)) (sym (r .2))
 
-  walk-under : g ≡ under → walkFrom next′ n v ≡ check (leb (k + 1) mostMoves) unsound (gives (found top (k + 1)))
+  walk-under : g ≡ under → walkFrom next′ n v ≡ check (leb (k + 1) mostMoves) unsound (gives (walkEnd top (k + 1)))
   unfolding walkFrom
   walk-under q = go (decLt k mostMoves)
     where
       on : Reach next′ n v top (k + 1)
       on =
-          let r = walk-reach next n mostMoves 0 v (found g k) v-in e in
+          let r = walk-reach next n mostMoves 0 v (walkEnd g k) v-in e in
           let i : suc (r .0) ≡ k + 1 = omega (arith, r .2) in
           subst (λ (y : ℕ). Reach next′ n v top y) i
           (reach-under next next′ n top under top-in top-head under-head apart at off (r .0) v
           (subst (λ (y : ℕ). Reach next n v y (r .0)) q (r .3)))
 
-      go : Dec (k < mostMoves) → walk next′ n mostMoves 0 v ≡ check (leb (k + 1) mostMoves) unsound (gives (found top (k + 1)))
+      go : Dec (k < mostMoves) → walk next′ n mostMoves 0 v ≡ check (leb (k + 1) mostMoves) unsound (gives (walkEnd top (k + 1)))
       go (yes y) =
           let i : 0 + (k + 1) ≡ k + 1 = omega arith in
-          reach-walk next′ n (k + 1) mostMoves 0 v top on (omega arith) ∙ ap (λ (x : ℕ). gives (found top x)) i
+          reach-walk next′ n (k + 1) mostMoves 0 v top on (omega arith) ∙ ap (λ (x : ℕ). gives (walkEnd top x)) i
           ∙ sym (check-on (leb (k + 1) mostMoves) unsound _ (le-leb (k + 1) mostMoves (omega arith)))
       go (no d) =
           reach-late next′ n (k + 1) mostMoves 0 v top on (omega arith)
@@ -95,7 +95,7 @@ module _ (next next′ : ℕ → Next) (n top under : ℕ) (top-in : top < n) (t
 -- ---- the same of two areas, of a walk in one number
 module _ (ps ss : List ℕ) (u at : ℕ) (x : Walking ps ss u at) (m : at / mostVertices ≤ mostMoves) (t d : ℕ)
     (k : Mergeable (two ps ss) t d 1) where
-  ended : walkFrom (nextIn ps) (length ps) u ≡ gives (found (at % mostVertices) (at / mostVertices))
+  ended : walkFrom (nextIn ps) (length ps) u ≡ gives (walkEnd (at % mostVertices) (at / mostVertices))
   ended = sym (x .walk) ∙ walked-ends at m
 
   pub carried-other : (at % mostVertices ≡ d → ⊥) → saysWalked at ≡ walkFrom (nextIn (set ps d t)) (length (set ps d t)) u

@@ -10,7 +10,7 @@ use lib.Dec.{eqb}
 use borrow.Author.Tests.{eq-eqb, ne-eqb}
 use Rattle.basis.specs.Refusal.{gives}
 use Rattle.basis.proofs.Tests.{no-case}
-use Rattle.book.specs.Rules.{Next, stop, to, found, isStop, tally, walk}
+use Rattle.book.specs.Rules.{Next, stop, to, walkEnd, isStop, tally, walk}
 use Rattle.basis.specs.Scan.{bit}
 use Rattle.basis.specs.Closure.{Linked, itself, by, back, on}
 use Rattle.basis.proofs.Closures.{linked-within}
@@ -29,7 +29,7 @@ module _ (next : ℕ → Next) (n : ℕ) where
   reach-in zero v h r = r .0
   reach-in (suc k) v h r = r .1
 
-  pub reach-walk : (k left m v h : ℕ) → Reach next n v h k → k ≤ left → walk next n left m v ≡ gives (found h (m + k))
+  pub reach-walk : (k left m v h : ℕ) → Reach next n v h k → k ≤ left → walk next n left m v ≡ gives (walkEnd h (m + k))
   reach-walk zero left m v h r l =
       let e : m ≡ m + 0 = omega arith in
       let q : v ≡ h = r .1 in
@@ -38,7 +38,7 @@ module _ (next : ℕ → Next) (n : ℕ) where
   reach-walk (suc k) (suc left) m v h r l =
       let e : m + 1 + k ≡ m + suc k = omega arith in
       walk-move next n left m v (r .0) (r .2) (reach-in k (r .0) h (r .3)) ∙ reach-walk k left (m + 1) (r .0) h (r .3) (omega arith)
-      ∙ ap (λ (k : ℕ). gives (found h k)) e
+      ∙ ap (λ (k : ℕ). gives (walkEnd h k)) e
 
   pub reach-head : (k v h : ℕ) → Reach next n v h k → (h < n) × (next h ≡ stop)
   reach-head zero v h r = let q : v ≡ h = r .1 in (rw q at (r .0), rw q at (r .2))

@@ -9,7 +9,7 @@ use lib.ListN.{length}
 use Rattle.basis.specs.Limits.{mostVertices}
 use Rattle.basis.specs.Refusal.{gives}
 use Rattle.basis.specs.Scan.{allBelow}
-use Rattle.book.specs.Rules.{Machine, found, Each, all, openBook, joinEach, headOf}
+use Rattle.book.specs.Rules.{Machine, walkEnd, Each, all, openBook, joinEach, headOf}
 use Rattle.book.specs.Two.{areas, two, twoBook}
 use Rattle.book.specs.Series.{Call, Answer, Slip, State, state, Kept, putEach, after}
 use Rattle.book.specs.Series.{afterEach, joinings, answer, run, headAt, movesAt}
@@ -54,10 +54,11 @@ module _ (M : Machine) (L : Faithful M) (n : ℕ) (a : M .Area) (js : List Slip)
       subst (Kept M n) (H .now) (subst (λ (k : ℕ). Kept M k (run M (H .start) (Call.opening ∷ H .calls))) (H .count)
       (demand3 M L (H .start) (H .fit) (H .calls)))
 
-  pub held-head : (v : ℕ) → v < n → headOf (M .view a) v ≡ gives (found (headAt (M .view a) v) (movesAt (M .view a) v))
+  pub held-head : (v : ℕ) → v < n → headOf (M .view a) v ≡ gives (walkEnd (headAt (M .view a) v) (movesAt (M .view a) v))
   unfolding answer
   held-head v l =
-      let e : Answer.heads (headOf (M .view a) v) ≡ Answer.heads (gives (found (headAt (M .view a) v) (movesAt (M .view a) v))) = held-kept
+      let e : Answer.heads (headOf (M .view a) v) ≡ Answer.heads
+      (gives (walkEnd (headAt (M .view a) v) (movesAt (M .view a) v))) = held-kept
       .headed v l in cc
 
   -- joins of a vertex of the book with others are accepted

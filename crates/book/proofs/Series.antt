@@ -15,7 +15,7 @@ use Rattle.basis.proofs.Tests.{and-first, and-second}
 use Rattle.basis.specs.declared.refusal.Refusal.{Refusal}
 use Rattle.basis.specs.Refusal.{Said, gives, refuses, plain, notThere}
 use Rattle.basis.specs.Scan.{each, allBelow}
-use Rattle.book.specs.Rules.{mostMoves, View, Machine, found, Step, Joining, merged, same, outcome, Each, all, stopped, EachOutcome}
+use Rattle.book.specs.Rules.{mostMoves, View, Machine, walkEnd, Step, Joining, merged, same, outcome, Each, all, stopped, EachOutcome}
 use Rattle.book.specs.Rules.{counted, behind, joinEach, walkFrom, openBook, joinBook, writeBook, decide, largest}
 use Rattle.book.specs.Series.{Call, Answer, State, state, slip, Accepted, Kept, Demand3, putEach, mergesOf, after, afterJoin}
 use Rattle.book.specs.Series.{afterEach, joinings, answer, run, headIn, movesIn, headAt, movesAt, members, shown}
@@ -236,7 +236,7 @@ module _ (M : Machine) (n : ℕ) (s : State (M .Area)) (W : Whole M n s) where
 
   kept-settled : (v : ℕ) → v < n → headAt (M .view (s .area)) (headAt (M .view (s .area)) v) ≡ headAt (M .view (s .area)) v
   kept-settled v l =
-      let e : walkFrom (M .view (s .area) .next) (M .view (s .area) .count) (W .forest .head v) ≡ gives (found (W .forest .head v) 0)
+      let e : walkFrom (M .view (s .area) .next) (M .view (s .area) .count) (W .forest .head v) ≡ gives (walkEnd (W .forest .head v) 0)
       = unfold walkFrom in walk-head (M .view (s .area) .next) (M .view (s .area) .count) mostMoves 0 (W .forest .head v)
       (head-in n _ _ _ W v l .1) in
       rw (head-is v l) (ap headIn e)
@@ -248,7 +248,7 @@ module _ (M : Machine) (n : ℕ) (s : State (M .Area)) (W : Whole M n s) where
     fit = W .fit;
     count = W .count;
     headed = λ v l. ap Answer.heads (head-answer n _ _ _ W v l
-        ∙ ap₂ (λ (h k : ℕ). gives (found h k)) (sym (head-is v l)) (sym (moves-are v l)));
+        ∙ ap₂ (λ (h k : ℕ). gives (walkEnd h k)) (sym (head-is v l)) (sym (moves-are v l)));
     inside = λ v l. omega (arith, head-is v l, head-in n _ _ _ W v l .0);
     settled = kept-settled;
     linked = kept-linked;

@@ -5,7 +5,7 @@ use native.Mathlib.Omega.{arith}
 use lib.ListN.{length, getD, set, replicate, length-set, length-replicate, getD-replicate}
 use lib.Seq.{getD-set-same, getD-set-other}
 use Rattle.book.specs.Rules.{to}
-use Rattle.basis.specs.Area.{column}
+use Rattle.basis.specs.Area.{ownNumbers}
 use Rattle.basis.proofs.Areas.{column-length, column-at}
 use Rattle.book.specs.Two.{nextIn, fits, two, twoBook}
 use Rattle.book.specs.Series.{Demand3Two}
@@ -20,11 +20,11 @@ faithful-two = record {
   fit-within = λ a f. fits-within (a .parents) (a .sizes) f;
   opened-fit = λ a f.
       let n = length (a .parents) in
-      let e : length (column (λ v. v) 0 n) ≡ n = column-length (λ v. v) 0 n in
-      fits-of (column (λ v. v) 0 n) (replicate n 1) (omega (arith, e, fits-within (a .parents) (a .sizes) f))
+      let e : length (ownNumbers n) ≡ n = column-length (λ v. v) 0 n in
+      fits-of (ownNumbers n) (replicate n 1) (omega (arith, e, fits-within (a .parents) (a .sizes) f))
       (length-replicate {A = ℕ} n 1 ∙ sym e);
   opened-count = λ a. column-length (λ v. v) 0 (length (a .parents));
-  opened-next = λ a v l. next-head (column (λ v. v) 0 (length (a .parents))) v (column-at (λ v. v) (length (a .parents)) v 0 l);
+  opened-next = λ a v l. next-head (ownNumbers (length (a .parents))) v (column-at (λ v. v) (length (a .parents)) v 0 l);
   opened-size = λ a v l. getD-replicate {A = ℕ} (length (a .parents)) v 1 0 l;
   merged-fit = λ a t d s. unfold fits in simp length-set;
   merged-count = λ a t d s. length-set (a .parents) d t;

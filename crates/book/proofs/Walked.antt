@@ -11,7 +11,7 @@ use Rattle.basis.specs.Limits.{mostVertices}
 use Rattle.basis.specs.declared.refusal.Refusal.{Refusal}
 use Rattle.basis.specs.Refusal.{gives, refuses, plain, unsound, check}
 use Rattle.basis.proofs.Tests.{held}
-use Rattle.book.specs.Rules.{mostMoves, View, found, heads, walk, walkFrom, headOf, headsOf}
+use Rattle.book.specs.Rules.{mostMoves, View, walkEnd, heads, walk, walkFrom, headOf, headsOf}
 use Rattle.book.specs.Two.{nextIn, fits}
 use Rattle.book.specs.Steps.{saysWalked}
 use Rattle.basis.proofs.Saids.{check-on, check-off}
@@ -25,17 +25,17 @@ module _ (a : ℕ) where
   unfolding saysWalked
   walked-late l = check-off (leb (a / mostVertices) mostMoves) unsound _ (lt-leb (a / mostVertices) mostMoves l)
 
-  pub walked-ends : a / mostVertices ≤ mostMoves → saysWalked a ≡ gives (found (a % mostVertices) (a / mostVertices))
+  pub walked-ends : a / mostVertices ≤ mostMoves → saysWalked a ≡ gives (walkEnd (a % mostVertices) (a / mostVertices))
   unfolding saysWalked
   walked-ends l = check-on (leb (a / mostVertices) mostMoves) unsound _ (le-leb (a / mostVertices) mostMoves l)
 
 pub walked-of : (at moves : ℕ) → at < mostVertices
-    → saysWalked (moves * mostVertices + at) ≡ check (leb moves mostMoves) unsound (gives (found at moves))
+    → saysWalked (moves * mostVertices + at) ≡ check (leb moves mostMoves) unsound (gives (walkEnd at moves))
 unfolding saysWalked
 walked-of at moves k =
     let p : (moves * mostVertices + at) / mostVertices ≡ moves = omega arith in
     let q : (moves * mostVertices + at) % mostVertices ≡ at = omega arith in
-    ap₂ (λ h k. check (leb k mostMoves) unsound (gives (found h k))) q p
+    ap₂ (λ h k. check (leb k mostMoves) unsound (gives (walkEnd h k))) q p
 
 -- ---- the code's loop, where the rest of the walk from `at` is the walk from v
 module _ (ps : List ℕ) (v at moves : ℕ) (e : walkFrom (nextIn ps) (length ps) v
@@ -73,7 +73,7 @@ module _ (w : View) (t : Bool) (e : t ≡ w .fit) (f : not t ≡ false) where
     pub head-late : (x : Refusal) → mostMoves < a / mostVertices → x ≡ plain unsound → refuses x ≡ headOf w v
     head-late x m q = head-walked w v t e (refuses x) f l (ap refuses q ∙ sym (walked-late a m) ∙ p)
 
-    pub head-ends : a / mostVertices ≤ mostMoves → gives (found (a % mostVertices) (a / mostVertices)) ≡ headOf w v
+    pub head-ends : a / mostVertices ≤ mostMoves → gives (walkEnd (a % mostVertices) (a / mostVertices)) ≡ headOf w v
     head-ends m = head-walked w v t e _ f l (sym (walked-ends a m) ∙ p)
 
   module _ (u v : ℕ) (k : u < w .count) (l : v < w .count) (a : ℕ) (p : saysWalked a ≡ walkFrom (w .next) (w .count) u) where
@@ -83,11 +83,12 @@ module _ (w : View) (t : Bool) (e : t ≡ w .fit) (f : not t ≡ false) where
     module _ (m : a / mostVertices ≤ mostMoves) (b : ℕ) (q : saysWalked b ≡ walkFrom (w .next) (w .count) v) where
       pub heads-late2 : (x : Refusal) → mostMoves < b / mostVertices → x ≡ plain unsound → refuses x ≡ headsOf w u v
       heads-late2 x n r =
-          heads-walked w u v t e (gives (found (a % mostVertices) (a / mostVertices))) (refuses x) f k l (sym (walked-ends a m) ∙ p)
+          heads-walked w u v t e (gives (walkEnd (a % mostVertices) (a / mostVertices))) (refuses x) f k l (sym (walked-ends a m) ∙ p)
           (ap refuses r ∙ sym (walked-late b n) ∙ q)
 
       pub heads-end : b / mostVertices ≤ mostMoves → gives (heads (a % mostVertices) (b % mostVertices)) ≡ headsOf w u v
       heads-end n =
-          heads-walked w u v t e (gives (found (a % mostVertices) (a / mostVertices))) (gives (found (b % mostVertices) (b / mostVertices)))
+          heads-walked w u v t e (gives (walkEnd (a % mostVertices) (a / mostVertices)))
+          (gives (walkEnd (b % mostVertices) (b / mostVertices)))
           f k l
           (sym (walked-ends a m) ∙ p) (sym (walked-ends b n) ∙ q)

@@ -7,11 +7,11 @@ use lib.Dec.{ltb}
 use borrow.Author.Tests.{ltb-true, lt-ltb, le-ltb, eq-eqb, ne-eqb}
 use Rattle.basis.proofs.Saids.{refused-given, check-on, check-off, check-passed}
 use Rattle.basis.specs.Refusal.{gives, refuses, plain, unsound, check}
-use Rattle.book.specs.Rules.{mostMoves, Next, stop, to, Found, found, walk, walkFrom}
+use Rattle.book.specs.Rules.{mostMoves, Next, stop, to, WalkEnd, walkEnd, walk, walkFrom}
 use Rattle.book.specs.Two.{nextIn}
 
 module _ (next : ℕ → Next) (n : ℕ) where
-  pub walk-head : (left moves at : ℕ) → next at ≡ stop → walk next n left moves at ≡ gives (found at moves)
+  pub walk-head : (left moves at : ℕ) → next at ≡ stop → walk next n left moves at ≡ gives (walkEnd at moves)
   unfolding walk
   walk-head zero moves at e = simp e
   walk-head (suc left) moves at e = simp e
@@ -33,12 +33,12 @@ module _ (next : ℕ → Next) (n : ℕ) where
   walk-out (suc left) moves at p e l =
       step-check left moves at p e ∙ check-off (ltb p n) unsound (walk next n left (moves + 1) p) (le-ltb p n l)
 
-  head-here : (left moves at : ℕ) (f : Found) → at < n → walk next n left moves at ≡ gives f → next at ≡ stop
+  head-here : (left moves at : ℕ) (f : WalkEnd) → at < n → walk next n left moves at ≡ gives f → next at ≡ stop
       → (f .head < n) × (next (f .head) ≡ stop)
   head-here left moves at f l e q = let i : at ≡ f .head = cc (walk-head left moves at q) in (rw i at l, rw i at q)
 
   -- where a walk ends there is a head, in the area
-  pub walk-in : (left moves at : ℕ) (f : Found) → at < n → walk next n left moves at ≡ gives f → (f .head < n) × (next (f .head) ≡ stop)
+  pub walk-in : (left moves at : ℕ) (f : WalkEnd) → at < n → walk next n left moves at ≡ gives f → (f .head < n) × (next (f .head) ≡ stop)
   walk-in zero moves at f l e = go (next at) refl
     where
       go : (x : Next) → next at ≡ x → (f .head < n) × (next (f .head) ≡ stop)
@@ -53,7 +53,7 @@ module _ (next : ℕ → Next) (n : ℕ) where
           let t = check-passed (ltb p n) unsound (walk next n left (moves + 1) p) f (sym (step-check left moves at p q) ∙ e) in
           ih p (ltb-true p n (t .0)) (t .1)
 
-  pub walkFrom-in : (v : ℕ) (f : Found) → v < n → walkFrom next n v ≡ gives f → (f .head < n) × (next (f .head) ≡ stop)
+  pub walkFrom-in : (v : ℕ) (f : WalkEnd) → v < n → walkFrom next n v ≡ gives f → (f .head < n) × (next (f .head) ≡ stop)
   unfolding walkFrom
   walkFrom-in v f l e = walk-in mostMoves 0 v f l e
 

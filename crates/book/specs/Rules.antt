@@ -22,16 +22,16 @@ pub record View : Type 0 where
 -- ---- the walk
 
 -- "head, with the number of moves from parent to parent that reach it"
-pub record Found : Type 0 where
+pub record WalkEnd : Type 0 where
   pub head : ℕ
   pub moves : ℕ
 
 -- the same, by its fields in order
-abbrev pub found : ℕ → ℕ → Found
-found h k = record { head = h; moves = k }
+abbrev pub walkEnd : ℕ → ℕ → WalkEnd
+walkEnd h k = record { head = h; moves = k }
 
 -- one look at the parent: what is said here, at a head, or further on
-abbrev pub follow : Next → Said Found → (ℕ → Said Found) → Said Found
+abbrev pub follow : Next → Said WalkEnd → (ℕ → Said WalkEnd) → Said WalkEnd
 follow stop here on = here
 follow (to p) here on = on p
 
@@ -40,18 +40,19 @@ abbrev pub mostMoves : ℕ
 mostMoves = 16
 
 -- "a walk the call needs leaves the area or doesn't end in 16 steps": from `at` in an area of n, `left` moves allowed and `moves` made
-unfoldable pub walk : (ℕ → Next) → ℕ → ℕ → ℕ → ℕ → Said Found
-walk next n zero moves at = follow (next at) (gives (found at moves)) (λ p. refuses (plain unsound))
-walk next n (suc left) moves at = follow (next at) (gives (found at moves)) (λ p. check (ltb p n) unsound (walk next n left (moves + 1) p))
+unfoldable pub walk : (ℕ → Next) → ℕ → ℕ → ℕ → ℕ → Said WalkEnd
+walk next n zero moves at = follow (next at) (gives (walkEnd at moves)) (λ p. refuses (plain unsound))
+walk next n (suc left) moves at =
+    follow (next at) (gives (walkEnd at moves)) (λ p. check (ltb p n) unsound (walk next n left (moves + 1) p))
 
 -- the walk from v, of at most so many moves
-unfoldable pub walkFrom : (ℕ → Next) → ℕ → ℕ → Said Found
+unfoldable pub walkFrom : (ℕ → Next) → ℕ → ℕ → Said WalkEnd
 walkFrom next n v = walk next n mostMoves 0 v
 
 -- ---- calls that read; "Checks: 8, then 10, then 9"
 
 -- "head, with the number of moves"
-unfoldable pub headOf : View → ℕ → Said Found
+unfoldable pub headOf : View → ℕ → Said WalkEnd
 headOf w v = check (w .fit) noRoom (check (ltb v (w .count)) notThere (walkFrom (w .next) (w .count) v))
 
 -- "finds both heads"
@@ -64,7 +65,7 @@ abbrev pub heads : ℕ → ℕ → Heads
 heads g h = record { first = g; second = h }
 
 -- two walks that both end give both heads
-abbrev pub pair : Said Found → Said Found → Said Heads
+abbrev pub pair : Said WalkEnd → Said WalkEnd → Said Heads
 pair (gives f) (gives g) = gives (heads (f .head) (g .head))
 pair (gives f) (refuses r) = refuses r
 pair (refuses r) s = refuses r
@@ -86,7 +87,7 @@ unfoldable pub sameGroup : View → ℕ → ℕ → Said Bool
 sameGroup w u v = onward (headsOf w u v) oneHead
 
 -- "when size or step limit finds a head size of 0 or above the length"
-abbrev pub sizeAt : View → Found → Said ℕ
+abbrev pub sizeAt : View → WalkEnd → Said ℕ
 sizeAt w f = check (ltb 0 (w .size (f .head)) && leb (w .size (f .head)) (w .count)) unsound (gives (w .size (f .head)))
 
 -- "group size"

@@ -2,7 +2,7 @@
 use mathlib.Core.Bool.{Bool, true, false}
 use Prim.Native.Nat.{ℕ}
 use Rattle.basis.specs.Refusal.{Said, gives, refuses}
-use Rattle.book.specs.Rules.{Found, found, Joining, merged, same, Each, all, stopped}
+use Rattle.book.specs.Rules.{WalkEnd, walkEnd, Joining, merged, same, Each, all, stopped}
 use Rattle.book.specs.declared.Opened.{Opened}
 use Rattle.book.specs.declared.Joined.{Joined}
 use Rattle.book.specs.declared.JoinedEach.{JoinedEach}
@@ -27,8 +27,8 @@ saysJoinedEach (JoinedEach.All merges) = all merges
 saysJoinedEach (JoinedEach.Stopped joined merges r) = stopped joined merges r
 
 -- the head and the moves
-abbrev pub saysHeaded : Headed → Said Found
-saysHeaded (Headed.Head h moves) = gives (found h moves)
+abbrev pub saysHeaded : Headed → Said WalkEnd
+saysHeaded (Headed.Head h moves) = gives (walkEnd h moves)
 saysHeaded (Headed.Refused r) = refuses r
 
 -- whether the two are of one group

@@ -10,7 +10,7 @@ use Rattle.basis.specs.Refusal.{Said, gives, refuses}
 use Rattle.basis.specs.Limits.{mostVertices}
 use Rattle.basis.specs.Scan.{allBelow}
 use Rattle.basis.specs.Closure.{Linked}
-use Rattle.book.specs.Rules.{View, Machine, Found, found, Joining, merged, same, Each, all, stopped, tally, walkFrom, openBook}
+use Rattle.book.specs.Rules.{View, Machine, WalkEnd, walkEnd, Joining, merged, same, Each, all, stopped, tally, walkFrom, openBook}
 use Rattle.book.specs.Rules.{joinBook, joinEach, headOf, sameGroup, groupSize, groupCount, stepLimit}
 use Rattle.book.specs.Two.{Areas, twoBook}
 
@@ -30,7 +30,7 @@ pub data Answer : Type 0 where
   opens : Said (Unit {0}) → Answer
   joins : Said Joining → Answer
   joinsEach : Each → Answer
-  heads : Said Found → Answer
+  heads : Said WalkEnd → Answer
   compares : Said Bool → Answer
   reads : Said ℕ → Answer
 
@@ -122,12 +122,12 @@ abbrev pub Accepted : List Slip → ℕ → ℕ → Type 0
 Accepted js u v = List·Memᴰ (slip u v) js
 
 -- the head of a vertex and the moves to it, as its walk from parent to parent finds them
-abbrev pub headIn : Said Found → ℕ
+abbrev pub headIn : Said WalkEnd → ℕ
 headIn (gives f) = f .head
 headIn (refuses r) = 0
 
 -- the moves of a walk that was made, 0 of one that was refused
-abbrev pub movesIn : Said Found → ℕ
+abbrev pub movesIn : Said WalkEnd → ℕ
 movesIn (gives f) = f .moves
 movesIn (refuses r) = 0
 
@@ -170,7 +170,7 @@ pub record Kept (M : Machine) (n : ℕ) (s : State (M .Area)) : Type 0 where
   pub compared : (u v : ℕ) → u < n → v < n
       → answer M s (comparing u v) ≡ compares (gives (eqb (headAt (shown M s) u) (headAt (shown M s) v)))
   -- "the same head": the head call gives it, with the moves of the walk to it
-  pub headed : (v : ℕ) → v < n → answer M s (heading v) ≡ heads (gives (found (headAt (shown M s) v) (movesAt (shown M s) v)))
+  pub headed : (v : ℕ) → v < n → answer M s (heading v) ≡ heads (gives (walkEnd (headAt (shown M s) v) (movesAt (shown M s) v)))
   -- a head is a vertex of the book, and its own head
   pub inside : (v : ℕ) → v < n → headAt (shown M s) v < n
   pub settled : (v : ℕ) → v < n → headAt (shown M s) (headAt (shown M s) v) ≡ headAt (shown M s) v

@@ -7,15 +7,15 @@ use lib.ListN.{length}
 use lib.Dec.{leb}
 use Rattle.basis.specs.Limits.{mostVertices}
 use Rattle.basis.specs.Refusal.{Said, gives, refuses, plain, unsound, check}
-use Rattle.book.specs.Rules.{Found, found, mostMoves, walkFrom, Heads, heads, Joining, merged, same, merge, Outcome}
+use Rattle.book.specs.Rules.{WalkEnd, walkEnd, mostMoves, walkFrom, Heads, heads, Joining, merged, same, merge, Outcome}
 use Rattle.book.specs.Rules.{linkHeads, writeBook}
 use Rattle.book.specs.Two.{Areas, areas, nextIn, fits, two, twoBook}
 use Rattle.book.specs.declared.Pair.{Pair}
 use Rattle.book.specs.declared.joining.Carried.{Carried}
 
 -- the number of a walk: 65,536 times its moves, and its head; above 16 moves it does not end
-unfoldable pub saysWalked : ℕ → Said Found
-saysWalked a = check (leb (a / mostVertices) mostMoves) unsound (gives (found (a % mostVertices) (a / mostVertices)))
+unfoldable pub saysWalked : ℕ → Said WalkEnd
+saysWalked a = check (leb (a / mostVertices) mostMoves) unsound (gives (walkEnd (a % mostVertices) (a / mostVertices)))
 
 -- the heads of two vertices
 abbrev pub saysPair : Pair → Said Heads

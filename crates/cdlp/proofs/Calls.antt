@@ -18,7 +18,7 @@ use Rattle.basis.proofs.Tests.{clash, and-first, and-second, held}
 use Rattle.basis.proofs.Orders.{leb-min}
 use Rattle.graph.specs.declared.Size.{Size}
 use Rattle.graph.specs.Sound.{Graph, lent, soundGraph}
-use Rattle.graph.specs.Walk.{checked}
+use Rattle.graph.specs.Walk.{arcsChecked}
 use Rattle.graph.proofs.Walks.{check-told, check-area}
 use Rattle.graph.proofs.Sounds.{sound-of}
 use Rattle.kernels.proofs.Results.{front-padded, front-cleared}
@@ -152,7 +152,7 @@ call-over g z R L N C C₁ q = rw (q, length-replicate {A = ℕ} (length C) 0)
 
 -- C₁ are the counts that it left; z′ is z as it is handed on
 module _ (size : Size) (ids : List ℤ) (oo ot io is : List ℕ) (z : ℤ) (R : List ℤ) (L N C C₁ : List ℕ) (o : Outcome)
-    (s : Bool) (e : checked s C₁ ≡ checked (soundGraph (lent size ids oo ot io is)) (cleared C)) where
+    (s : Bool) (e : arcsChecked s C₁ ≡ arcsChecked (soundGraph (lent size ids oo ot io is)) (cleared C)) where
   abbrev graph : Graph
   graph = lent size ids oo ot io is
 

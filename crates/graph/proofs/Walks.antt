@@ -23,7 +23,7 @@ use Rattle.basis.proofs.Orders.{rising-lt, risingBy-of}
 use Rattle.basis.proofs.Areas.{copied-length, copied-at}
 use Rattle.graph.specs.Part.{partOf}
 use Rattle.graph.specs.Sound.{soundPart, other, soundParts, mirrored, bothWays, Side}
-use Rattle.graph.specs.Walk.{Ways, Checked, checked, isNext, arcsWalked, allWalked, atEnds}
+use Rattle.graph.specs.Walk.{Ways, ArcsChecked, arcsChecked, isNext, arcsWalked, allWalked, atEnds}
 use Rattle.graph.proofs.Sounds.{side-of, offset-most, part-slice, part-rises}
 use Rattle.graph.proofs.Sounds.{part-others, other-below, mirrored-at, mirrored-of}
 
@@ -159,7 +159,7 @@ record Cursors (n : ℕ) (out : ℕ → List ℕ) (off src : List ℕ) (u i : �
   rises : (w : ℕ) → w < n → rising (stretch src (getD off w 0) (getD cursors w 0)) ≡ true
 
 -- what a walk over the arcs of the vertices below u says: it came through, or the arcs are not each other's reversed
-record Told (n : ℕ) (out : ℕ → List ℕ) (off src : List ℕ) (u : ℕ) (x : Checked) : Type 0 where
+record Told (n : ℕ) (out : ℕ → List ℕ) (off src : List ℕ) (u : ℕ) (x : ArcsChecked) : Type 0 where
   came : x .sound ≡ true → Cursors n out off src u 0 (x .cursors)
   broke : x .sound ≡ false → bothWays n out (partOf n off src) ≡ false
 
@@ -367,7 +367,7 @@ module _ {n : ℕ} {out : ℕ → List ℕ} {off src : List ℕ} (s : Ways n out
 
 -- ---- the walk as the code makes it
 module _ (src : List ℕ) (u : ℕ) (l : List ℕ) (i : ℕ) (cursors : List ℕ) where
-  arcs-walked-end : length l ≤ i → arcsWalked src u (drop i l) cursors ≡ checked true cursors
+  arcs-walked-end : length l ≤ i → arcsWalked src u (drop i l) cursors ≡ arcsChecked true cursors
   unfolding arcsWalked
   arcs-walked-end h = rw (drop-of-length-le l {i = i} h)
 
@@ -378,16 +378,16 @@ module _ (src : List ℕ) (u : ℕ) (l : List ℕ) (i : ℕ) (cursors : List ℕ
     unfolding arcsWalked
     arcs-walked-on e = rw (drop-cons l i 0 h, arcsWalked, e, add-one i)
 
-    arcs-walked-off : isNext src u cursors (getD l i 0) ≡ false → arcsWalked src u (drop i l) cursors ≡ checked false cursors
+    arcs-walked-off : isNext src u cursors (getD l i 0) ≡ false → arcsWalked src u (drop i l) cursors ≡ arcsChecked false cursors
     unfolding arcsWalked
     arcs-walked-off e = rw (drop-cons l i 0 h, arcsWalked, e)
 
     -- at u's arc i, by the code's tests
-    module _ (whole : Checked) (k : arcsWalked src u (drop i l) cursors ≡ whole) where
-      pub step-far : length src ≤ getD cursors (getD l i 0) 0 → checked false cursors ≡ whole
+    module _ (whole : ArcsChecked) (k : arcsWalked src u (drop i l) cursors ≡ whole) where
+      pub step-far : length src ≤ getD cursors (getD l i 0) 0 → arcsChecked false cursors ≡ whole
       step-far a = sym (arcs-walked-off (rw (le-ltb (getD cursors (getD l i 0) 0) (length src) a))) ∙ k
 
-      pub step-differs : (getD src (getD cursors (getD l i 0) 0) 0 ≡ u → ⊥) → checked false cursors ≡ whole
+      pub step-differs : (getD src (getD cursors (getD l i 0) 0) 0 ≡ u → ⊥) → arcsChecked false cursors ≡ whole
       step-differs d =
           sym (arcs-walked-off (and-off (ltb (getD cursors (getD l i 0) 0) (length src)) (eqb (getD src (getD cursors (getD l i 0) 0) 0) u)
           (ne-eqb (getD src (getD cursors (getD l i 0) 0) 0) u d))) ∙ k
@@ -398,7 +398,7 @@ module _ (src : List ℕ) (u : ℕ) (l : List ℕ) (i : ℕ) (cursors : List ℕ
           sym (arcs-walked-on (and-both (lt-ltb (getD cursors (getD l i 0) 0) (length src) a)
           (eq-eqb (getD src (getD cursors (getD l i 0) 0) 0) u b))) ∙ k
 
-  pub step-end : (whole : Checked) → arcsWalked src u (drop i l) cursors ≡ whole → length l ≤ i → checked true cursors ≡ whole
+  pub step-end : (whole : ArcsChecked) → arcsWalked src u (drop i l) cursors ≡ whole → length l ≤ i → arcsChecked true cursors ≡ whole
   step-end whole k h = sym (arcs-walked-end h) ∙ k
 
 -- ---- the arcs of every vertex
@@ -412,7 +412,7 @@ module _ (src : List ℕ) (out : ℕ → List ℕ) (cursors : List ℕ) where
   unfolding allWalked
   all-walked-off u h = rw h
 
-  pub all-walked-none : allWalked src out 0 cursors ≡ checked true cursors
+  pub all-walked-none : allWalked src out 0 cursors ≡ arcsChecked true cursors
   unfolding allWalked
   all-walked-none = refl
 
@@ -421,28 +421,28 @@ module _ (src : List ℕ) (out : ℕ → List ℕ) (cursors : List ℕ) where
   broken u zero h = ap (λ (j : ℕ). allWalked src out j cursors) (add-zero u)
   broken u (suc k) h =
       let e = broken u k h in
-      ap (λ (j : ℕ). allWalked src out j cursors) (add-suc u k) ∙ all-walked-off (u + k) (ap (λ (x : Checked). x .sound) e ∙ h) ∙ e
+      ap (λ (j : ℕ). allWalked src out j cursors) (add-suc u k) ∙ all-walked-off (u + k) (ap (λ (x : ArcsChecked). x .sound) e ∙ h) ∙ e
 
   -- l is u's part
-  module _ (u : ℕ) (here : List ℕ) (k : allWalked src out u cursors ≡ checked true here) (l : List ℕ) (q : l ≡ out u) (t : Bool)
+  module _ (u : ℕ) (here : List ℕ) (k : allWalked src out u cursors ≡ arcsChecked true here) (l : List ℕ) (q : l ≡ out u) (t : Bool)
       (after : List ℕ)
-      (e : checked t after ≡ arcsWalked src u l here) where
-    arcs-walked-to : allWalked src out (u + 1) cursors ≡ checked t after
+      (e : arcsChecked t after ≡ arcsWalked src u l here) where
+    arcs-walked-to : allWalked src out (u + 1) cursors ≡ arcsChecked t after
     arcs-walked-to =
-        rw add-one (all-walked-on u (ap (λ (x : Checked). x .sound) k)
-        ∙ ap₂ (λ (p : List ℕ) (x : Checked). arcsWalked src u p (x .cursors)) (sym q) k ∙ sym e)
+        rw add-one (all-walked-on u (ap (λ (x : ArcsChecked). x .sound) k)
+        ∙ ap₂ (λ (p : List ℕ) (x : ArcsChecked). arcsWalked src u p (x .cursors)) (sym q) k ∙ sym e)
 
-    pub all-walked-more : not t ≡ false → allWalked src out (u + 1) cursors ≡ checked true after
-    all-walked-more h = arcs-walked-to ∙ ap (λ (s : Bool). checked s after) (not-false t h)
+    pub all-walked-more : not t ≡ false → allWalked src out (u + 1) cursors ≡ arcsChecked true after
+    all-walked-more h = arcs-walked-to ∙ ap (λ (s : Bool). arcsChecked s after) (not-false t h)
 
-    pub all-walked-stop : (n : ℕ) → u < n → not t ≡ true → checked false after ≡ allWalked src out n cursors
+    pub all-walked-stop : (n : ℕ) → u < n → not t ≡ true → arcsChecked false after ≡ allWalked src out n cursors
     all-walked-stop n g h =
-        let s = arcs-walked-to ∙ ap (λ (s : Bool). checked s after) (not-true t h) in
+        let s = arcs-walked-to ∙ ap (λ (s : Bool). arcsChecked s after) (not-true t h) in
         let z : (u + 1) + (n - (u + 1)) ≡ n = omega arith in
-        sym (ap (λ (j : ℕ). allWalked src out j cursors) (sym z) ∙ broken (u + 1) (n - (u + 1)) (ap (λ (x : Checked). x .sound) s) ∙ s)
+        sym (ap (λ (j : ℕ). allWalked src out j cursors) (sym z) ∙ broken (u + 1) (n - (u + 1)) (ap (λ (x : ArcsChecked). x .sound) s) ∙ s)
 
-  pub all-walked-end : (u n : ℕ) (here : List ℕ) → n ≤ u → u ≤ n → allWalked src out u cursors ≡ checked true here
-      → checked true here ≡ allWalked src out n cursors
+  pub all-walked-end : (u n : ℕ) (here : List ℕ) → n ≤ u → u ≤ n → allWalked src out u cursors ≡ arcsChecked true here
+      → arcsChecked true here ≡ allWalked src out n cursors
   all-walked-end u n here a b k = let e : u ≡ n = omega arith in sym k ∙ ap (λ (j : ℕ). allWalked src out j cursors) e
 
 -- a target has a cursor
@@ -497,8 +497,8 @@ module _ {n : ℕ} {out : ℕ → List ℕ} {off src : List ℕ} (s : Ways n out
 
   -- d is what stood in the area, b and a stand there before and after the walk
   module _ (d b : List ℕ) (room : n ≤ length d) (q : b ≡ copied n off d) (t : Bool) (a : List ℕ)
-      (e : checked t a ≡ allWalked src out n b) where
-    told : Told n out off src n (checked t a)
+      (e : arcsChecked t a ≡ allWalked src out n b) where
+    told : Told n out off src n (arcsChecked t a)
     told =
         rw e (told-walk s b (walk-none s b (let x = ap length q ∙ copied-length n off d in omega arith)
         (λ w l. ap (λ (x : List ℕ). getD x w 0) q ∙ copied-at n off d w 0 l (let x = ways-room in omega arith) room)) n (omega arith))
@@ -519,16 +519,16 @@ module _ (n : ℕ) (off cursors : List ℕ) (w : ℕ) where
       sym (every-fail (λ w. eqb (getD cursors w 0) (getD off (w + 1) 0)) n w l (ne-eqb (getD cursors w 0) (getD off (w + 1) 0) h))
 
 -- ---- the answer and the area
-pub checks : {r s : Bool} {a : List ℕ} (b : List ℕ) → r ≡ s → a ≡ cleared b → checked r a ≡ checked s (cleared b)
-checks b p q = ap₂ checked p q
+pub checks : {r s : Bool} {a : List ℕ} (b : List ℕ) → r ≡ s → a ≡ cleared b → arcsChecked r a ≡ arcsChecked s (cleared b)
+checks b p q = ap₂ arcsChecked p q
 
 pub checks-late : {r s : Bool} {a : List ℕ} (b c : List ℕ) → r ≡ s → length c ≡ length b → a ≡ cleared c
-    → checked r a ≡ checked s (cleared b)
-checks-late b c p h q = ap₂ checked p (q ∙ ap (λ (k : ℕ). replicate k 0) h)
+    → arcsChecked r a ≡ arcsChecked s (cleared b)
+checks-late b c p h q = ap₂ arcsChecked p (q ∙ ap (λ (k : ℕ). replicate k 0) h)
 
 -- ---- for callers: what the check says of the graph, and of the area that it was lent
-pub check-told : {s t : Bool} {a b : List ℕ} → checked s a ≡ checked t b → s ≡ t
-check-told e = ap (λ (x : Checked). x .sound) e
+pub check-told : {s t : Bool} {a b : List ℕ} → arcsChecked s a ≡ arcsChecked t b → s ≡ t
+check-told e = ap (λ (x : ArcsChecked). x .sound) e
 
-pub check-area : {s t : Bool} {a b : List ℕ} → checked s a ≡ checked t b → a ≡ b
-check-area e = ap (λ (x : Checked). x .cursors) e
+pub check-area : {s t : Bool} {a b : List ℕ} → arcsChecked s a ≡ arcsChecked t b → a ≡ b
+check-area e = ap (λ (x : ArcsChecked). x .cursors) e

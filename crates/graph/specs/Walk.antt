@@ -16,27 +16,27 @@ pub record Ways (n : ℕ) (out : ℕ → List ℕ) (off src : List ℕ) : Type 0
   pub inward : soundSide n arcs off src ≡ true
 
 -- what a check that is lent a working area answers and leaves there
-pub record Checked : Type 0 where
+pub record ArcsChecked : Type 0 where
   pub sound : Bool
   pub cursors : List ℕ
 
 -- the same, by its fields in order
-abbrev pub checked : Bool → List ℕ → Checked
-checked sound cursors = record { sound = sound; cursors = cursors }
+abbrev pub arcsChecked : Bool → List ℕ → ArcsChecked
+arcsChecked sound cursors = record { sound = sound; cursors = cursors }
 
 -- u stands at w's cursor
 abbrev pub isNext : List ℕ → ℕ → List ℕ → ℕ → Bool
 isNext src u cursors w = ltb (getD cursors w 0) (length src) && eqb (getD src (getD cursors w 0) 0) u
 
 -- the arcs from u to a list's members, in order: u stands at the target's cursor, which moves on by one, or the walk breaks off
-unfoldable pub arcsWalked : List ℕ → ℕ → List ℕ → List ℕ → Checked
-arcsWalked src u [] cursors = checked true cursors
+unfoldable pub arcsWalked : List ℕ → ℕ → List ℕ → List ℕ → ArcsChecked
+arcsWalked src u [] cursors = arcsChecked true cursors
 arcsWalked src u (w ∷ l) cursors =
-    elim (isNext src u cursors w) [ true ↦ arcsWalked src u l (set cursors w (getD cursors w 0 + 1)) | false ↦ checked false cursors ]
+    elim (isNext src u cursors w) [ true ↦ arcsWalked src u l (set cursors w (getD cursors w 0 + 1)) | false ↦ arcsChecked false cursors ]
 
 -- the arcs of the vertices below u, in order
-unfoldable pub allWalked : List ℕ → (ℕ → List ℕ) → ℕ → List ℕ → Checked
-allWalked src out zero cursors = checked true cursors
+unfoldable pub allWalked : List ℕ → (ℕ → List ℕ) → ℕ → List ℕ → ArcsChecked
+allWalked src out zero cursors = arcsChecked true cursors
 allWalked src out (suc u) cursors =
     let before = allWalked src out u cursors in elim (before .sound) [ true ↦ arcsWalked src u (out u) (before .cursors) | false ↦ before ]
 

@@ -7,7 +7,7 @@ ghost use Rattle.basis.specs.Area.{cleared};
 ghost use Rattle.basis.specs.Scan.{allBelow};
 ghost use Rattle.graph.specs.Part.{partOf};
 ghost use Rattle.graph.specs.Sound.{lent, soundParts, bothWays, soundGraph};
-ghost use Rattle.graph.specs.Walk.{Ways, arcsWalked, allWalked, atEnds, checked};
+ghost use Rattle.graph.specs.Walk.{Ways, arcsWalked, allWalked, atEnds, arcsChecked};
 use crate::Size;
 use crate::part::part;
 use crate::sound::sides_sound;
@@ -20,7 +20,7 @@ use basis::area::copy;
 fn arcs_walked(targets: &[usize], in_sources: &[usize], u: usize, cursors: &mut [usize]) -> bool
     requires { ⌜ allBelow (length (now cursors)) (now targets) ≡ true ⌝ }
     ensures { λ r. ⌜
-        checked r (now (cursors .exit))
+        arcsChecked r (now (cursors .exit))
         ≡ arcsWalked (now («in_sources» .entry)) u (now (targets .entry)) (now (cursors .entry)) ⌝ }
 {
     let mut i = 0;
@@ -49,7 +49,7 @@ fn all_walked(
 ) -> bool
     requires { ⌜ (soundParts n (now «out_offsets») (now «out_targets») ≡ true) × (n ≤ length (now cursors)) ⌝ }
     ensures { λ r. ⌜
-        checked r (now (cursors .exit))
+        arcsChecked r (now (cursors .exit))
         ≡ allWalked (now («in_sources» .entry)) (partOf n (now («out_offsets» .entry)) (now («out_targets» .entry))) n
         (now (cursors .entry)) ⌝ }
 {
@@ -114,8 +114,8 @@ pub fn sound_over(
     cursors: &mut [usize],
 ) -> bool
     ensures { λ r. ⌜
-        checked r (now (cursors .exit))
-        ≡ checked
+        arcsChecked r (now (cursors .exit))
+        ≡ arcsChecked
         (soundGraph
         (lent size (now (ids .entry)) (now («out_offsets» .entry)) (now («out_targets» .entry))
         (now («in_offsets» .entry)) (now («in_sources» .entry))))

@@ -9,7 +9,7 @@ use lib.Dec.{leb, ltb, eqb}
 use borrow.Author.Tests.{ltb-true}
 use Rattle.basis.specs.Limits.{mostVertices}
 use Rattle.basis.specs.Refusal.{Said, gives, refuses, plain, noRoom, unsound, notThere, check}
-use Rattle.book.specs.Rules.{Next, stop, to, Found, found, follow, Heads, Step, already, merge, merged, same, Outcome, outcome}
+use Rattle.book.specs.Rules.{Next, stop, to, WalkEnd, walkEnd, follow, Heads, Step, already, merge, merged, same, Outcome, outcome}
 use Rattle.book.specs.Rules.{mostMoves, walk, walkFrom, headOf, pair, headsOf, sameGroup, groupSize, tally, isStop, groupCount}
 use Rattle.book.specs.Rules.{largest, stepLimit, mergeable, mergeHeads, linkHeads, decide, openBook, writeBook, joinBook}
 use Rattle.book.specs.Two.{Areas, areas, nextIn, fits, two, twoBook}
@@ -21,7 +21,7 @@ use Rattle.trace.specs.Book.{joinValue, headValue, sameValue, readingVal
 use Rattle.trace.proofs.Codes.{onward-readable, readable-by, readable-given, readable-refused, readable-plain}
 use Rattle.trace.proofs.Codes.{readable-check, readable-values, readable-silent, readable-untold, untold}
 
-pair-readable : (s t : Said Found) → Readable wide s untold → Readable wide t untold → Readable wide (pair s t) untold
+pair-readable : (s t : Said WalkEnd) → Readable wide s untold → Readable wide t untold → Readable wide (pair s t) untold
 pair-readable (gives f) (gives g) h k = readable-silent _ (omega arith)
 pair-readable (gives f) (refuses r) h k = let t = k .refusals r refl in readable-refused r (t .0) (t .1)
 pair-readable (refuses r) t h k = let t = h .refusals r refl in readable-refused r (t .0) (t .1)
@@ -46,14 +46,14 @@ module _ (next : ℕ → Next) (n : ℕ) (small : n ≤ mostVertices) where
   unfolding walk
   walk-readable zero moves at l m = go (next at)
     where
-      go : (x : Next) → Readable wide (follow x (gives (found at moves)) (λ p. refuses (plain unsound))) headValue
-      go stop = readable-given (found at moves) (omega arith)
+      go : (x : Next) → Readable wide (follow x (gives (walkEnd at moves)) (λ p. refuses (plain unsound))) headValue
+      go stop = readable-given (walkEnd at moves) (omega arith)
       go (to p) = readable-plain unsound (omega arith) (omega arith) (omega arith)
   walk-readable (suc left) moves at l m = go (next at) (λ p k. walk-readable left (moves + 1) p k (omega arith))
     where
       go : (x : Next) → ((p : ℕ) → p < n → Readable wide (walk next n left (moves + 1) p) headValue)
-          → Readable wide (follow x (gives (found at moves)) (λ p. check (ltb p n) unsound (walk next n left (moves + 1) p))) headValue
-      go stop ih = readable-given (found at moves) (omega arith)
+          → Readable wide (follow x (gives (walkEnd at moves)) (λ p. check (ltb p n) unsound (walk next n left (moves + 1) p))) headValue
+      go stop ih = readable-given (walkEnd at moves) (omega arith)
       go (to p) ih = checked (ltb p n) unsound (omega arith) (omega arith) (λ e. ih p (ltb-true p n e))
 
   walkFrom-readable : (v : ℕ) → ltb v n ≡ true → Readable wide (walkFrom next n v) headValue

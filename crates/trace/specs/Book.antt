@@ -1,8 +1,9 @@
 -- 01 "The group book": the seven calls, their answers as numbers.
 use Prim.Native.Nat.{ℕ, _+_, _*_}
-use mathlib.Core.Bool.{Bool, true, false}
+use mathlib.Core.Bool.{Bool}
 use mathlib.Core.List.{List}
-use Rattle.book.specs.Rules.{Found, Joining, merged, same, Outcome}
+use Rattle.basis.specs.Scan.{bit}
+use Rattle.book.specs.Rules.{WalkEnd, Joining, merged, same, Outcome}
 use Rattle.book.specs.Two.{Areas}
 use Rattle.trace.specs.Code.{coded}
 
@@ -12,13 +13,12 @@ joinValue merged = 1
 joinValue same = 0
 
 -- "head, with the number of moves from parent to parent that reach it": no walk has more than 16
-abbrev pub headValue : Found → ℕ
+abbrev pub headValue : WalkEnd → ℕ
 headValue f = f .head * 100 + f .moves
 
--- 1 where two vertices are in the same group
+-- 1 where two vertices are in the same group, else 0
 abbrev pub sameValue : Bool → ℕ
-sameValue true = 1
-sameValue false = 0
+sameValue one = bit one
 
 -- a size, a count or a step limit as its own number
 abbrev pub readingValue : ℕ → ℕ

@@ -17,7 +17,7 @@ use Rattle.basis.proofs.Areas.{column-length}
 use Rattle.graph.specs.declared.Size.{Size}
 use Rattle.graph.specs.Part.{partOf}
 use Rattle.graph.specs.Sound.{Graph, outward, names, lent, soundGraph}
-use Rattle.graph.specs.Walk.{checked}
+use Rattle.graph.specs.Walk.{arcsChecked}
 use Rattle.graph.proofs.Walks.{check-told, check-area}
 use Rattle.graph.proofs.Sounds.{sound-of, outward-below, names-length}
 use Rattle.kernels.proofs.Results.{front-padded, front-cleared}
@@ -117,7 +117,7 @@ call-over g R P P₁ S q = rw (q, length-replicate {A = ℕ} (length P) 0)
 
 -- P₁ are the parents as it left them
 module _ (size : Size) (ids : List ℤ) (oo ot io is : List ℕ) (R : List ℤ) (P P₁ S : List ℕ) (o : Outcome) (s : Bool)
-    (e : checked s P₁ ≡ checked (soundGraph (lent size ids oo ot io is)) (cleared P)) where
+    (e : arcsChecked s P₁ ≡ arcsChecked (soundGraph (lent size ids oo ot io is)) (cleared P)) where
   abbrev graph : Graph
   graph = lent size ids oo ot io is
 

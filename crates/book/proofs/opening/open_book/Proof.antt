@@ -4,7 +4,7 @@ use mathlib.Core.List.{_++_}
 use Prim.Native.Nat.{_≤_, _-_}
 use native.Mathlib.Omega.{arith}
 use lib.ListN.{length, drop, length-set}
-use Rattle.basis.specs.Area.{column}
+use Rattle.basis.specs.Area.{column, ownNumbers}
 use Rattle.basis.proofs.Areas.{column-none, column-more}
 use Rattle.book.proofs.Areas.{open-unlent, open-lengths, open-ready}
 use Rattle.book.proofs.opening.open_book.Statement.{statement}
@@ -12,7 +12,7 @@ use Rattle.book.proofs.opening.open_book.Tie as tie
 
 abbrev Inv-loop : tie.InvT-loop
 Inv-loop parents₀ sizes₀ n i₀ parents sizes i = (i ≤ n) × (n ≡ length parents₀) × (length sizes₀ ≡ n) × (length parents ≡ n)
-    × (length sizes ≡ n) × (parents ≡ column (λ v. v) 0 i ++ drop i parents₀) × (sizes ≡ column (λ v. 1) 0 i ++ drop i sizes₀)
+    × (length sizes ≡ n) × (parents ≡ ownNumbers i ++ drop i parents₀) × (sizes ≡ column (λ v. 1) 0 i ++ drop i sizes₀)
 
 abbrev μ-loop : tie.MeasureT-loop
 μ-loop parents₀ sizes₀ n i₀ parents sizes i = n - i

@@ -3,7 +3,7 @@ use mathlib.Core.Path.{_≡_, refl}
 use mathlib.Core.Bool.{true}
 use lib.ListN.{length}
 use Rattle.graph.specs.Part.{partOf}
-use Rattle.graph.specs.Walk.{checked, allWalked}
+use Rattle.graph.specs.Walk.{arcsChecked, allWalked}
 use Rattle.graph.proofs.Walks.{all-walked-none, all-walked-more, all-walked-stop, all-walked-end, targets-low}
 use native.Mathlib.Omega.{arith}
 use borrow.Author.Needs.{needs}
@@ -13,7 +13,7 @@ use Rattle.graph.proofs.walk.all_walked.Tie as tie
 abbrev Inv-loop : tie.InvT-loop
 Inv-loop out-targets out-offsets in-sources n cursors₀ u₀ cursors u =
     (u ≤ n) × (length cursors ≡ length cursors₀) × (allWalked in-sources (partOf n out-offsets out-targets) u cursors₀
-    ≡ checked true cursors)
+    ≡ arcsChecked true cursors)
 
 abbrev μ-loop : tie.MeasureT-loop
 μ-loop out-targets out-offsets in-sources n cursors₀ u₀ cursors u = n - u
