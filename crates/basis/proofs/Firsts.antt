@@ -44,13 +44,3 @@ pub first-none : (p : ℕ → Bool) (f k : ℕ) → ((i : ℕ) → p i ≡ false
 unfolding firstFrom
 first-none p zero k h = omega arith
 first-none p (suc f) k h = first-later p f k (h k) ∙ first-none p f (suc k) h ∙ omega arith
-
--- it never answers more
-pub first-within : (p : ℕ → Bool) (f k : ℕ) → firstFrom p f k ≤ k + f
-unfolding firstFrom
-first-within p zero k = omega arith
-first-within p (suc f) k = go (p k) refl (first-within p f (suc k))
-  where
-    go : (b : Bool) → p k ≡ b → firstFrom p f (suc k) ≤ suc k + f → firstFrom p (suc f) k ≤ k + suc f
-    go true e r = omega (arith, first-here p f k e)
-    go false e r = omega (arith, first-later p f k e)

@@ -56,10 +56,6 @@ module _ (n : ℕ) (D : List ℤ) (Q : List ℕ) (h : roomFor n D Q ≡ true) wh
   unfolding roomFor
   first-queue = leb-true n (length Q) (and-second (leb n (length D)) (leb n (length Q)) h)
 
--- the arcs of a sound graph stay among its vertices
-pub sound-inside : (g : Graph) → soundGraph g ≡ true → Inside (g .vertices) (outward g)
-sound-inside g h u l = outward-below g (sound-of g h) u l
-
 -- ---- their first n places, of a graph's n vertices
 module _ (size : Size) (ids : List ℤ) (oo ot io is : List ℕ) (v : ℕ) (D : List ℤ) (Q : List ℕ)
     (x : Ready (lent size ids oo ot io is) v D Q) where
@@ -83,7 +79,7 @@ module _ (size : Size) (ids : List ℤ) (oo ot io is : List ℕ) (v : ℕ) (D : 
 
   -- what the search needs
   pub search-inside : Inside (length (take n D)) (partOf (length (take n D)) oo ot)
-  search-inside = subst (λ (m : ℕ). Inside m (partOf m oo ot)) taken-depth (sound-inside g (x .sound))
+  search-inside = subst (λ (m : ℕ). Inside m (partOf m oo ot)) taken-depth (outward-below g (sound-of g (x .sound)))
 
   pub search-there : v < length (take n D)
   search-there = let h = x .there in omega (arith, taken-depth)

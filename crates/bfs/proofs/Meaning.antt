@@ -22,7 +22,7 @@ use Rattle.graph.specs.declared.find.Found.the-variants.{At, Missing}
 use Rattle.graph.specs.Find.{placeIn}
 use Rattle.graph.specs.Sound.{Graph, outward, names, soundGraph}
 use Rattle.graph.proofs.Finds.{place-at}
-use Rattle.graph.proofs.Sounds.{sound-of, names-length}
+use Rattle.graph.proofs.Sounds.{sound-of, names-length, outward-below}
 use Rattle.kernels.specs.Answer.{kernelSays}
 use Rattle.kernels.proofs.Results.{pad-value, pad-behind}
 use Rattle.bfs.specs.declared.Ring.{Ring}
@@ -31,7 +31,6 @@ use Rattle.bfs.specs.Call.{refusal, roomFor, leftBy, bfsCall}
 use Rattle.bfs.specs.Meaning.{Walk, stay, go, Shortest, IsDepth, HasName, Done, Called}
 use Rattle.bfs.specs.Steps.{Board}
 use Rattle.bfs.proofs.Rings.{Reached, FirstRing, ring-root, ring-first, ring-next, ring-from, depth-found, depth-none}
-use Rattle.bfs.proofs.Calls.{sound-inside}
 use Rattle.bfs.proofs.Queue.{Base, Serving, serving-begin, serving-tail, serving-more, serving-settled}
 
 -- ---- ring k holds the ends of the walks of k arcs
@@ -113,7 +112,7 @@ pub sound-depth : (g : Graph) → soundGraph g ≡ true → (root : ℕ) → roo
     → IsDepth (outward g) root v (depthOf (g .vertices) (outward g) root v)
 sound-depth g sound root low =
     is-depth (g .vertices) (outward g) root
-    (record { inside = sound-inside g sound; root = low; few = omega (arith, sound-of g sound .fewVertices) })
+    (record { inside = outward-below g (sound-of g sound); root = low; few = omega (arith, sound-of g sound .fewVertices) })
 
 -- ---- the call
 module _ (g : Graph) (root : ℤ) (sound : soundGraph g ≡ true) where

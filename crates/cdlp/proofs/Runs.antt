@@ -23,9 +23,9 @@ use Rattle.cdlp.proofs.Lists.{labels-front}
 use Rattle.cdlp.proofs.Names.{rounds-low, rounds-length, own-low, numbers-named}
 use Rattle.cdlp.proofs.Turns.{around-low}
 
--- the arcs of a sound graph stay inside
-pub sound-inside : (g : Graph) → Sound g → AllBounded (g .vertices) (g .inOffsets) (g .inSources) (g .outOffsets) (g .outTargets)
-sound-inside g s v l =
+-- the arcs of a sound graph stay among its vertices, and no vertex has more of them than a graph has vertices
+pub sound-bounded : (g : Graph) → Sound g → AllBounded (g .vertices) (g .inOffsets) (g .inSources) (g .outOffsets) (g .outTargets)
+sound-bounded g s v l =
     let few = s .fewVertices in
     let a = inward-few g s v l in
     let b = outward-few g s v l in
@@ -53,7 +53,7 @@ cdlp-numbers g s k =
     n
     (numbers-named signed-order (pos 0) (names g) (s .idsRise) hears
     (λ v l. subst (λ (j : ℕ). allBelow j (hears v) ≡ true) (sym n)
-    (around-low (g .vertices) (g .inOffsets) (g .inSources) (g .outOffsets) (g .outTargets) (sound-inside g s) v (omega arith))) k)
+    (around-low (g .vertices) (g .inOffsets) (g .inSources) (g .outOffsets) (g .outTargets) (sound-bounded g s) v (omega arith))) k)
 
 module _ {size : Size} {ids : List ℤ} {oo ot io is : List ℕ} {R : List ℤ} {L N C L₁ C₁ : List ℕ} (x : Fitting size ids oo ot io is R L N C)
     (e₁ : L₁ ≡ ownNumbers (length L)) (e₂ : C₁ ≡ cleared C) where
@@ -79,7 +79,7 @@ module _ {size : Size} {ids : List ℤ} {oo ot io is : List ℕ} {R : List ℤ} 
   run-runnable =
       let c : length C₁ ≡ length C = ap length e₂ ∙ length-replicate (length C) 0 in
       record {
-        inside = subst (λ (k : ℕ). AllBounded k io is oo ot) (sym numbers-length) (sound-inside g s);
+        inside = subst (λ (k : ℕ). AllBounded k io is oo ot) (sym numbers-length) (sound-bounded g s);
         lowLabels =
             subst (λ (k : ℕ). allBelow k L₁ ≡ true) (sym numbers-length)
             (subst (λ (l : List ℕ). allBelow n l ≡ true) (sym numbers) (own-low n));
@@ -90,7 +90,7 @@ module _ {size : Size} {ids : List ℤ} {oo ot io is : List ℕ} {R : List ℤ} 
 
   module _ {L₂ : List ℕ} (k : ℕ) (e₃ : L₂ ≡ numbersAfter io is oo ot L₁ k) where
     nears : (v : ℕ) → v < n → allBelow n (aroundIn n io is oo ot v) ≡ true
-    nears = around-low n io is oo ot (sound-inside g s)
+    nears = around-low n io is oo ot (sound-bounded g s)
 
     run : L₂ ≡ rounds eqb ltb 0 (aroundIn n io is oo ot) n (ownNumbers n) k
     run = e₃ ∙ ap₂ (λ j M. rounds eqb ltb 0 (aroundIn j io is oo ot) j M k) numbers-length numbers
