@@ -40,6 +40,13 @@ pub record Others : Type 0 where
   pub notZero : coefficientClaim (0, 1) (bytes "1 1e-99\n") ≡ gives (mismatchAt 1)
   pub huge : coefficientClaim (1, 1) (bytes "1 1e+99\n") ≡ gives (mismatchAt 1)
   pub bare : coefficientClaim (1, 1) (bytes "1 1.\n") ≡ refuses (at 2 3 1)
+  -- 17 digits on both sides of the line, which is 0.33336 and sixes for ever
+  pub lastInside : coefficientClaim (1, 3) (bytes "1 3.3336666666666666e-01\n") ≡ gives matched
+  pub firstOutside : coefficientClaim (1, 3) (bytes "1 3.3336666666666667e-01\n") ≡ gives (mismatchAt 1)
+  -- the largest mantissa, with a power at which it is near 1 and with the largest ones; 65,535 · 65,534 is the largest denominator
+  pub nearOne : coefficientClaim (1, 1) (bytes "1 99999999999999999e-17\n") ≡ gives matched
+  pub largestUp : coefficientClaim (4294770689, 4294770690) (bytes "1 99999999999999999e+99\n") ≡ gives (mismatchAt 1)
+  pub largestDown : coefficientClaim (1, 4294770690) (bytes "1 99999999999999999e-99\n") ≡ gives (mismatchAt 1)
 
 pub others : Others
 unfolding judgedBy firstLine every each mem linesFrom valuesFrom lineBy twoOf isClose decimalOf fractionOf partsOf powerAt signedPower
@@ -58,4 +65,9 @@ others = record {
   notZero = refl;
   huge = refl;
   bare = refl;
+  lastInside = refl;
+  firstOutside = refl;
+  nearOne = refl;
+  largestUp = refl;
+  largestDown = refl;
 }

@@ -23,7 +23,7 @@ number-least a (b ∷ l) =
     let m : a * 10 ≤ withDigit a b = omega arith in
     rw (pow-succ', ← mul-assoc) (le-trans (mul-le-mul-right (10 ^ length l) m) (number-least (withDigit a b) l))
 
-number-most : (a : ℕ) (l : List ℕ) → each isDigit l ≡ true → suc (numberOf a l) ≤ suc a * 10 ^ length l
+pub number-most : (a : ℕ) (l : List ℕ) → each isDigit l ≡ true → suc (numberOf a l) ≤ suc a * 10 ^ length l
 unfolding each
 number-most a [] h = omega arith
 number-most a (b ∷ l) h =

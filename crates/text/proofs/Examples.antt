@@ -79,8 +79,11 @@ pub record CoefficientLines : Type 0 where
   pub whole : coefficientLine (bytes "2 1\n") 0 ≡ line (pos 2, decimal 1 0 0) 4
   pub scientific : coefficientLine (bytes "-3 3.25e-01\n") 0 ≡ line (negsuc 2, decimal 325 0 3) 12
   pub large : coefficientLine (bytes "7 1e+02\n") 0 ≡ line (pos 7, decimal 1 2 0) 8
-  pub fifteen : coefficientLine (bytes "7 0.12345678901234\n") 0 ≡ line (pos 7, decimal 12345678901234 0 14) 19
-  pub sixteen : coefficientLine (bytes "7 0.123456789012345\n") 0 ≡ fault 2 0
+  -- 000's own example "2.476533217845853e-08", and the largest number of 17 digits
+  pub sixteen : coefficientLine (bytes "7 2.476533217845853e-08\n") 0 ≡ line (pos 7, decimal 2476533217845853 0 23) 24
+  pub seventeen : coefficientLine (bytes "7 99999999999999999e+99\n") 0 ≡ line (pos 7, decimal 99999999999999999 99 0) 24
+  pub seventeen-with-zero : coefficientLine (bytes "7 0.1234567890123456\n") 0 ≡ line (pos 7, decimal 1234567890123456 0 16) 21
+  pub eighteen : coefficientLine (bytes "7 0.12345678901234567\n") 0 ≡ fault 2 0
   pub leading-zero : coefficientLine (bytes "7 00.5\n") 0 ≡ fault 2 0
   pub no-whole : coefficientLine (bytes "7 .5\n") 0 ≡ fault 2 0
   pub no-fraction : coefficientLine (bytes "7 1.\n") 0 ≡ fault 2 0
@@ -99,8 +102,10 @@ coefficient-lines =
       whole = refl;
       scientific = refl;
       large = refl;
-      fifteen = refl;
       sixteen = refl;
+      seventeen = refl;
+      seventeen-with-zero = refl;
+      eighteen = refl;
       leading-zero = refl;
       no-whole = refl;
       no-fraction = refl;
@@ -152,9 +157,9 @@ pub record Stops : Type 0 where
   pub stop-zeros : decimalStop (bytes "00") ≡ 1
   pub stop-zero-seven : decimalStop (bytes "07") ≡ 1
   pub stop-stray : decimalStop (bytes "1x") ≡ 1
-  pub stop-sixteenth : decimalStop (bytes "1234567890123456") ≡ 15
-  pub stop-point-after-fifteen : decimalStop (bytes "123456789012345.") ≡ 15
-  pub stop-sixteenth-after-point : decimalStop (bytes "0.123456789012345") ≡ 16
+  pub stop-eighteenth : decimalStop (bytes "123456789012345678") ≡ 17
+  pub stop-point-after-seventeen : decimalStop (bytes "12345678901234567.") ≡ 17
+  pub stop-eighteenth-after-point : decimalStop (bytes "0.12345678901234567") ≡ 18
   pub stop-point-last : decimalStop (bytes "1.") ≡ 2
   pub stop-after-point : decimalStop (bytes "1.x") ≡ 2
   pub stop-second-point : decimalStop (bytes "1.5.") ≡ 3
@@ -163,7 +168,7 @@ pub record Stops : Type 0 where
   pub stop-no-digit : decimalStop (bytes "1e+x") ≡ 3
   pub stop-one-digit : decimalStop (bytes "1e+1") ≡ 4
   pub stop-third-digit : decimalStop (bytes "1e+123") ≡ 5
-  pub stop-power-after-fifteen : decimalStop (bytes "123456789012345e") ≡ 16
+  pub stop-power-after-seventeen : decimalStop (bytes "12345678901234567e") ≡ 18
   pub stop-good : decimalStop (bytes "3.25e-01") ≡ 8
 
 pub stops : Stops
@@ -175,9 +180,9 @@ stops = record {
   stop-zeros = refl;
   stop-zero-seven = refl;
   stop-stray = refl;
-  stop-sixteenth = refl;
-  stop-point-after-fifteen = refl;
-  stop-sixteenth-after-point = refl;
+  stop-eighteenth = refl;
+  stop-point-after-seventeen = refl;
+  stop-eighteenth-after-point = refl;
   stop-point-last = refl;
   stop-after-point = refl;
   stop-second-point = refl;
@@ -186,7 +191,7 @@ stops = record {
   stop-no-digit = refl;
   stop-one-digit = refl;
   stop-third-digit = refl;
-  stop-power-after-fifteen = refl;
+  stop-power-after-seventeen = refl;
   stop-good = refl;
 }
 

@@ -1,26 +1,26 @@
 -- The decimal's grammar is what the scanner takes, with the same value; everything else is malformed; and a word has one set of parts.
 -- Assumes nothing.
-use Prim.Native.Nat.{ℕ, _+_, _*_, _≤_, _<_}
+use Prim.Native.Nat.{ℕ, suc, _+_, _*_, _^_, _≤_, _<_}
 use mathlib.Core.Path.{_≡_, refl, sym, ap, _∙_}
 use mathlib.Core.Logic.{_↔_}
 use mathlib.Core.Bool.{Bool, true, false, cond, _&&_}
 use mathlib.Core.List.{List, [], _∷_, _++_, append-assoc}
 use native.Mathlib.Omega.{arith}
-use native.Mathlib.Nat.{add-zero}
+use native.Mathlib.Nat.{add-zero, one-mul, le-trans, pow-le-pow-right}
 use native.Mathlib.Numerals.{add-one}
 use borrow.Author.Tests.{leb-true, ltb-true, ltb-false, eq-eqb, ne-eqb, eqb-true, eqb-false}
 use lib.Dec.{leb, ltb, eqb}
 use lib.ListN.{length, getD, take, drop, length-append, length-drop, take-append-drop}
 use lib.Seq.{length-take-le, getD-take, getD-drop, getD-append-add, drop-cons, drop-drop, drop-append-add}
 use Rattle.basis.specs.Scan.{each}
-use Rattle.basis.proofs.Tests.{clash, no-case, bool-cases, same-test, and-first, and-second}
-use Rattle.basis.proofs.Scans.{each-of}
+use Rattle.basis.proofs.Tests.{clash, no-case, bool-cases, same-test, and-first, and-second, and-both}
+use Rattle.basis.proofs.Scans.{each-of, each-append}
 use Rattle.text.specs.Word.{Word, malformed, outside, value, within, isDigit, withDigit, runLen, runVal}
 use Rattle.text.specs.Decimal.{Exponent, up, down, wrong, digitLimit, decimal, digitOf, pastPoint}
 use Rattle.text.specs.Decimal.{wholeIsGood, signedPower, powerAt, scaled, partsOf, fractionOf, decimalOf}
 use Rattle.text.specs.Grammar.{WholePart, nought, number, FractionPart, noPoint, point, PowerPart, noPower, plus}
 use Rattle.text.specs.Grammar.{minus, Parts, wholeDigits, fractionDigits, fractionBytes, powerDigits, powerBytes}
-use Rattle.text.specs.Grammar.{partBytes, leadsWell, GoodParts, numberOf, upBy, downBy, partsSay, DecimalForm}
+use Rattle.text.specs.Grammar.{partBytes, digitsOf, leadsWell, GoodParts, numberOf, upBy, downBy, partsSay, DecimalForm, Bounded}
 use Rattle.text.specs.declared.decimal.Decimal.{Decimal}
 use Rattle.text.proofs.Bytes.{within-yes, within-is, nothing-past}
 use Rattle.text.proofs.Runs.{front-len, front-val, len-le}
@@ -28,6 +28,7 @@ use Rattle.text.proofs.Decimals.{worth-yes, whole-one, whole-more, poin
 use Rattle.text.proofs.Stops.{NeverOutside, decimal-never-outside}
 use Rattle.text.proofs.Firsts.{run-before, run-here, whole-high, whole-some}
 use Rattle.text.proofs.Goings.{decimal-parts}
+use Rattle.text.proofs.Counts.{number-most}
 
 -- ---- what stands after the digits of a part begins with no digit
 abbrev Ends : List ℕ → Type 0
@@ -457,3 +458,28 @@ pub form-one : (s : List ℕ) (d e : Decimal) (x : DecimalForm s d) (y : Decimal
 form-one s d e x y =
     let q : x .parts ≡ y .parts = parts-one (x .parts) (y .parts) (x .good) (y .good) (sym (x .bytes) ∙ y .bytes) in
     (q, x .says ∙ ap partsSay q ∙ sym (y .says))
+
+-- ---- no decimal is larger than the grammar lets it be
+power-bounded : (t : PowerPart) → each isDigit (powerDigits t) ≡ true → (upBy t < 100) × (downBy t < 100)
+power-bounded noPower h = (omega arith, omega arith)
+power-bounded (plus x y) h = (number-most 0 (x ∷ y ∷ []) h, omega arith)
+power-bounded (minus x y) h = (omega arith, number-most 0 (x ∷ y ∷ []) h)
+
+whole-digit : (w : WholePart) → 1 ≤ length (wholeDigits w)
+whole-digit nought = omega arith
+whole-digit (number b bs) = omega arith
+
+pub form-bounded : (s : List ℕ) (d : Decimal) → DecimalForm s d → Bounded d
+form-bounded s d x =
+    let p = x .parts in
+    let g = x .good in
+    let t = power-bounded (p .power) (g .powers) in
+    let e : each isDigit (digitsOf p) ≡ true = each-append isDigit (wholeDigits (p .whole)) (fractionDigits (p .fraction))
+    ∙ and-both (g .wholes) (g .fractions) in
+    let m : suc (numberOf 0 (digitsOf p)) ≤ 10 ^ length (digitsOf p) = rw one-mul at (number-most 0 (digitsOf p) e) in
+    rw (x .says)
+    (record {
+      mantissa = le-trans m (pow-le-pow-right (omega arith) (g .few));
+      raised = t .0;
+      lowered = omega (arith, t .1, g .few, whole-digit (p .whole), length-append (wholeDigits (p .whole)) (fractionDigits (p .fraction)));
+    })

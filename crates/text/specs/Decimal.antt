@@ -9,9 +9,9 @@ use Rattle.text.specs.Bytes.{zeroDigit, plusSign, minusSign, pointMark, 
 use Rattle.text.specs.Word.{Word, malformed, value, isDigit, runLen, runVal}
 use Rattle.text.specs.declared.decimal.Decimal.{Decimal}
 
--- "at most 15 digits before any `e`"
+-- 02 K1: "Admit up to 17 digits before any `e`, so that usual double-precision output passes."
 abbrev pub digitLimit : ℕ
-digitLimit = 15
+digitLimit = 17
 
 -- a decimal is digits * 10^up / 10^down
 abbrev pub decimal : ℕ → ℕ → ℕ → Decimal

@@ -1,5 +1,5 @@
 -- 01 "Claims and verdicts": a decimal as a grammar, its bytes by its parts, with no word on how they are scanned.
-use Prim.Native.Nat.{ℕ, _+_, _≤_}
+use Prim.Native.Nat.{ℕ, _+_, _^_, _≤_, _<_}
 use mathlib.Core.Path.{_≡_}
 use mathlib.Core.Bool.{Bool, true}
 use mathlib.Core.List.{List, [], _∷_, _++_}
@@ -71,7 +71,7 @@ abbrev pub leadsWell : WholePart → Bool
 leadsWell nought = true
 leadsWell (number b bs) = within oneDigit nineDigit b
 
--- what the parts must be: digits where digits stand, no leading zero, "at most 15 digits before any `e`"
+-- what the parts must be: digits where digits stand, no leading zero, 02 K1 "up to 17 digits before any `e`"
 pub record GoodParts (p : Parts) : Type 0 where
   pub leading : leadsWell (p .whole) ≡ true
   pub wholes : each isDigit (wholeDigits (p .whole)) ≡ true
@@ -106,3 +106,10 @@ pub record DecimalForm (s : List ℕ) (d : Decimal) : Type 0 where
   pub good : GoodParts parts
   pub bytes : s ≡ partBytes parts
   pub says : d ≡ partsSay parts
+
+-- how large the numbers of a decimal can be, by "up to 17 digits before any `e`", one of them at least before the point, and "two digits"
+-- behind it
+pub record Bounded (d : Decimal) : Type 0 where
+  pub mantissa : d .digits < 10 ^ digitLimit
+  pub raised : d .up < 100
+  pub lowered : d .down < digitLimit + 99

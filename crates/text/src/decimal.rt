@@ -20,7 +20,7 @@ const POINT: u8 = 46;
 const POWER: u8 = 101;
 
 // How many digits may stand before the `e`.
-pub const DIGITS: usize = 15;
+pub const DIGITS: usize = 17;
 
 // digits * 10^up / 10^down: nothing is rounded.
 pub struct Decimal {
