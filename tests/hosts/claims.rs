@@ -41,19 +41,46 @@ fn main() {
         (Ok(Match), Ok(Mismatch(4)), Ok(Match))
     );
     assert_eq!(coefficients(3, "0.33337"), Ok(Mismatch(4)));
+    // the same at 16 and 17 digits: the last that is inside, and one more or less in its last digit
+    for (place, inside, outside) in [
+        (1, "5.000500000000000e-01", "5.000500000000001e-01"),
+        (1, "4.999500000000000e-01", "4.999499999999999e-01"),
+        (1, "5.0005000000000000e-01", "5.0005000000000001e-01"),
+        (1, "4.9995000000000000e-01", "4.9994999999999999e-01"),
+        (1, "0.5000500000000000", "0.5000500000000001"),
+        (3, "3.333666666666666e-01", "3.333666666666667e-01"),
+        (3, "3.333000000000000e-01", "3.332999999999999e-01"),
+        (3, "3.3336666666666666e-01", "3.3336666666666667e-01"),
+        (3, "3.3330000000000000e-01", "3.3329999999999999e-01"),
+        (3, "0.3333666666666666", "0.3333666666666667"),
+    ] {
+        let line = place as u64 + 1;
+        assert_eq!((coefficients(place, inside), coefficients(place, outside)), (Ok(Match), Ok(Mismatch(line))), "{}", inside);
+    }
     // r = 0 matches only zero
     assert_eq!((coefficients(0, "0.0e-99"), coefficients(0, "0e+99"), coefficients(0, "1e-99")), (Ok(Match), Ok(Match), Ok(Mismatch(1))));
     // r = 1: two lots with arcs both ways between them and a third
-    let triangle = |value| judged_on(Mode::Undirected, b"1\n2\n3\n", b"1 2\n1 3\n2 3\n", Kernel::Lcc, &format!("1 {}\n2 1\n3 1\n", value));
+    let triangle =
+        |value: &str| judged_on(Mode::Undirected, b"1\n2\n3\n", b"1 2\n1 3\n2 3\n", Kernel::Lcc, &format!("1 {}\n2 1\n3 1\n", value));
     assert_eq!(
         (triangle("1000000e-06"), triangle("1.0001"), triangle("1.00011"), triangle("0.9999")),
         (Ok(Match), Ok(Match), Ok(Mismatch(1)), Ok(Match))
     );
-    // the form: 15 digits, no leading zero, no sign before, two digits behind e
-    for form in ["0.50000000000000", "0.49999999999999"] {
+    // the largest mantissa with every power: near 1 at e-17, and near none of these coefficients elsewhere
+    for power in (0..=99).flat_map(|k| [format!("e+{:02}", k), format!("e-{:02}", k)]) {
+        let largest = format!("99999999999999999{}", power);
+        assert_eq!(triangle(&largest), Ok(if power == "e-17" { Match } else { Mismatch(1) }), "{}", largest);
+        assert_eq!((coefficients(0, &largest), coefficients(3, &largest)), (Ok(Mismatch(1)), Ok(Mismatch(4))), "{}", largest);
+    }
+    // the form: 17 digits, no leading zero, no sign before, two digits behind e
+    for form in ["0.50000000000000", "0.500000000000000", "0.5000000000000000", "5.0000000000000000e-01", "50000000000000000e-17"] {
         assert_eq!(coefficients(1, form), Ok(Match), "{}", form);
     }
-    for form in ["0.500000000000000", "00.5", ".5", "0.", "-0.5", "+0.5", "5e-1", "5E-01", "5e01", "0.5 ", "1/2", ""] {
+    // the Graphalytics text's own example of a number is read; no coefficient here is near it
+    assert_eq!(coefficients(1, "2.476533217845853e-08"), Ok(Mismatch(2)));
+    let long = ["0.50000000000000000", "5.00000000000000000e-01", "500000000000000000e-18", "50000000000000000.e-17"];
+    let other = ["00.5", ".5", "0.", "-0.5", "+0.5", "5e-1", "5E-01", "5e01", "0.5 ", "1/2", ""];
+    for form in long.iter().chain(&other) {
         assert_eq!(coefficients(1, form), fault(Reason::BadForm, 2), "{}", form);
     }
 

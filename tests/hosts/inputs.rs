@@ -121,17 +121,41 @@ pub fn damage(dice: &mut Dice, file: &mut Vec<u8>) {
     }
 }
 
-/// A decimal near a fraction: within the bound, at its edge or just outside.
+/// Rust's scientific form with the exponent as the paper has it: `e`, a sign and two digits.
+fn scientific(text: &str) -> String {
+    let (mantissa, power) = text.split_once('e').unwrap();
+    format!("{}e{:+03}", mantissa, power.parse::<i32>().unwrap())
+}
+
+/// The decimal of so many digits at an edge of the bound, reckoned in whole numbers: the last before it, or the first behind it.
+fn at_edge(dice: &mut Dice, a: u64, b: u64, digits: u32) -> String {
+    let (top, bottom) = (u128::from(a) * *dice.pick(&[9_999, 10_001]), u128::from(b) * 10_000);
+    let down = (0..).find(|&k| top * 10_u128.pow(k) / bottom >= 10_u128.pow(digits - 1)).unwrap();
+    let mantissa = (top * 10_u128.pow(down) / bottom + dice.below(2) as u128).to_string();
+    match dice.below(3) {
+        0 => format!("{}e-{:02}", mantissa, down),
+        1 if digits < 17 => format!("0.{}e{:+03}", mantissa, mantissa.len() as i32 - down as i32),
+        _ => format!("{}.{}e{:+03}", &mantissa[..1], &mantissa[1..], mantissa.len() as i32 - 1 - down as i32),
+    }
+}
+
+/// A decimal near a fraction: within the bound, at its edge or just outside; at times of 18 digits, which is one too many.
 fn near(dice: &mut Dice, (a, b): (u64, u64)) -> String {
     let value = a as f64 / b as f64;
     let factor = *dice.pick(&[1.0, 1.0, 1.0, 1.000_1, 0.999_9, 1.000_09, 0.999_91, 1.000_11, 0.999_89, 2.0]);
-    let places = dice.below(14) + 1;
-    match dice.below(6) {
+    let places = if dice.one_in(80) { 17 } else { dice.below(16) + 1 };
+    match dice.below(10) {
         0 => format!("{:.*}e+00", places, value * factor),
-        1 => format!("{:.*}e-01", places.min(13), value * factor * 10.0),
+        1 => format!("{:.*}e-01", places.min(15), value * factor * 10.0),
         2 if a == 0 => "0.0e-99".to_string(),
         3 if a == b => "1000000e-06".to_string(),
         4 if a == 0 => "1e-99".to_string(),
+        5 => scientific(&format!("{:e}", value * factor)),
+        6 => scientific(&format!("{:.*e}", places, value * factor)),
+        7 | 8 if a > 0 => {
+            let digits = if dice.one_in(80) { 18 } else { 14 + dice.below(4) as u32 };
+            at_edge(dice, a, b, digits)
+        }
         _ => format!("{:.*}", places, value * factor),
     }
 }

@@ -78,6 +78,18 @@ fn main() {
     assert_eq!(path.depths(0).unwrap()[65_535], 65_535);
     assert_eq!(path.communities(1_001), Err(refused(Reason::BadRounds, File::None, 0)));
 
+    // a hub with an arc to each of 65,535 lots, of which one has an arc to another: 1/4294770690, the least there is above 0;
+    // the last decimal of 17 digits inside the upper edge of the bound, and the first outside
+    let spokes = (1..=65_535).map(|i| format!("0 {}\n", i)).chain(["1 2\n".to_string()]).collect::<String>();
+    let star = Graph::load(Mode::Directed, &full, spokes.as_bytes()).unwrap();
+    let edge = 10_001 * 10_u128.pow(26) / (10_000 * 4_294_770_690);
+    assert_eq!((edge, star.coefficients().unwrap()[0]), (23_286_458_630_460_663, (1, 4_294_770_690)));
+    for (mantissa, said) in [(edge, Verdict::Match), (edge + 1, Verdict::Mismatch(1))] {
+        let others = (3..65_536).map(|i| format!("{} 0\n", i)).collect::<String>();
+        let lines = format!("0 {}e-26\n1 0.5\n2 0.5\n{}", mantissa, others);
+        assert_eq!(star.judge(Kernel::Lcc, lines.as_bytes()), Ok(said));
+    }
+
     // the host verdict's limits: 1,024 vertices, 2,048 edges, 1,024 claim lines
     let desk = vertices(1_024);
     assert_eq!(verdict(Mode::Directed, &desk, b"", Kernel::Wcc, &claim(1_024)), Ok(Verdict::Match));

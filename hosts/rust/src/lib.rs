@@ -176,7 +176,9 @@ impl Kernel {
     }
 }
 
-/// The verdict on a claim at desk limits, straight from the bytes of the two lists and the claim.
+/// The verdict on a claim at desk limits, straight from the bytes of the two lists and the claim. A claim has a line per vertex, in vertex
+/// order: identifier, one space, value. For `Kernel::Lcc` the value is a plain or scientific decimal with at most 17 digits before any `e`,
+/// a leading `0` included; behind the `e` stand a sign and two digits.
 pub fn verdict(mode: Mode, vertices: &[u8], edges: &[u8], kernel: Kernel, claim: &[u8]) -> Result<Verdict, Refusal> {
     let (number, parameter) = kernel.numbers();
     judged_in(calls::verdict(vertices, edges, claim, mode as u64, number, parameter), HOST)
@@ -287,7 +289,8 @@ impl Graph {
         Ok(numerators.into_iter().zip(denominators).collect())
     }
 
-    /// The verdict on a claim of this kernel's result. For `Kernel::Wcc` it compares each line of a complete claim with every earlier one.
+    /// The verdict on a claim of this kernel's result, its lines as for `verdict`. For `Kernel::Wcc` it compares each line of a complete
+    /// claim with every earlier one.
     pub fn judge(&self, kernel: Kernel, claim: &[u8]) -> Result<Verdict, Refusal> {
         let (number, parameter) = kernel.numbers();
         let mut areas = calls::Areas {

@@ -13,7 +13,7 @@ pub struct Decimal {
     pub down: u32,
 }
 
-/// `0` or digits without a leading zero, optionally `.` and at least one digit, optionally `e`, a sign and two digits; at most 15 digits
+/// `0` or digits without a leading zero, optionally `.` and at least one digit, optionally `e`, a sign and two digits; up to 17 digits
 /// before any `e`.
 pub fn decimal(word: &[u8]) -> Option<Decimal> {
     let (mantissa, exponent) = match word.iter().position(|&b| b == b'e') {
@@ -29,7 +29,7 @@ pub fn decimal(word: &[u8]) -> Option<Decimal> {
         return None;
     }
     let fraction = fraction.unwrap_or(b"");
-    if whole.len() + fraction.len() > 15 {
+    if whole.len() + fraction.len() > 17 {
         return None;
     }
     let digits = whole.iter().chain(fraction).fold(0u64, |n, b| n * 10 + u64::from(b - b'0'));

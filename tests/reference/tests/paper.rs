@@ -40,6 +40,16 @@ fn coefficients_on_the_line_p9_p10() {
 }
 
 #[test]
+fn seventeen_digits_k1() {
+    let decimal = |text: &str| claims::decimal(text.as_bytes());
+    assert_eq!(decimal("2.476533217845853e-08"), Some(claims::Decimal { digits: 2_476_533_217_845_853, up: 0, down: 23 }));
+    assert_eq!(decimal("99999999999999999e+99"), Some(claims::Decimal { digits: 99_999_999_999_999_999, up: 99, down: 0 }));
+    for long in ["100000000000000000", "0.12345678901234567", "1.00000000000000000e+00"] {
+        assert_eq!(decimal(long), None);
+    }
+}
+
+#[test]
 fn labels_p11() {
     assert_eq!(claims::first_unlike(&[1, 1, 2], &[7, 7, 3]), None);
     assert_eq!(claims::first_unlike(&[1, 1, 2], &[7, 7, 7]), Some(3));
