@@ -59,9 +59,9 @@ extern "C" {
 /*
  * A claim has one line per vertex, in vertex order, each ended by LF: identifier, one space, value. For BFS, WCC and CDLP the value is in
  * identifier form. For LCC it is a plain or scientific decimal: 0 or digits without a leading zero, optionally . and at least one digit,
- * optionally e, a sign and two digits; no minus before it, and at most 17 digits before any e, a leading 0 included. So "%.16e" of a double
- * is one. A line of another form is refused 2. A decimal is taken as it stands and matches where it is within one part in ten thousand of
- * the exact coefficient, reckoned without rounding.
+ * optionally e, a sign and two digits; no minus before it, and at most 17 digits before any e, a leading 0 included. So what "%.16e"
+ * prints of a coefficient is one. A line of another form is refused 2. A decimal matches where it is within one part in ten thousand of the
+ * exact coefficient, both taken as they are and reckoned without rounding.
  */
 
 /* ---- the verdict on three files, at desk limits */

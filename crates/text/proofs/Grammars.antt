@@ -1,5 +1,5 @@
--- The decimal's grammar is what the scanner takes, with the same value; everything else is malformed; and a word has one set of parts.
--- Assumes nothing.
+-- The decimal's grammar is what the scanner takes, with the same value; everything else is malformed; a word has one set of parts, and
+-- how large its numbers can be. Assumes nothing.
 use Prim.Native.Nat.{ℕ, suc, _+_, _*_, _^_, _≤_, _<_}
 use mathlib.Core.Path.{_≡_, refl, sym, ap, _∙_}
 use mathlib.Core.Logic.{_↔_}

@@ -107,8 +107,8 @@ pub record DecimalForm (s : List ℕ) (d : Decimal) : Type 0 where
   pub bytes : s ≡ partBytes parts
   pub says : d ≡ partsSay parts
 
--- how large the numbers of a decimal can be, by "up to 17 digits before any `e`", one of them at least before the point, and "two digits"
--- behind it
+-- how large a decimal's numbers can be: 02 K1 "up to 17 digits before any `e`", one of them at least before the point, and "two digits"
+-- in its power
 pub record Bounded (d : Decimal) : Type 0 where
   pub mantissa : d .digits < 10 ^ digitLimit
   pub raised : d .up < 100
