@@ -19,8 +19,8 @@ use Rattle.text.specs.Word.{Word, malformed, outside, value, within, isD
 use Rattle.text.specs.Decimal.{Exponent, up, down, wrong, digitLimit, decimal, digitOf, pastPoint}
 use Rattle.text.specs.Decimal.{wholeIsGood, signedPower, powerAt, scaled, partsOf, fractionOf, decimalOf}
 use Rattle.text.specs.Grammar.{WholePart, nought, number, FractionPart, noPoint, point, PowerPart, noPower, plus}
-use Rattle.text.specs.Grammar.{minus, Parts, wholeDigits, fractionDigits, fractionBytes, powerDigits, powerBytes}
-use Rattle.text.specs.Grammar.{partBytes, digitsOf, leadsWell, GoodParts, numberOf, upBy, downBy, partsSay, DecimalForm, Bounded}
+use Rattle.text.specs.Grammar.{minus, Parts, wholeDigits, fractionDigits, fractionBytes, powerDigits, powerBytes, SmallDecimal}
+use Rattle.text.specs.Grammar.{partBytes, digitsOf, leadsWell, GoodParts, numberOf, upBy, downBy, partsSay, DecimalForm}
 use Rattle.text.specs.declared.decimal.Decimal.{Decimal}
 use Rattle.text.proofs.Bytes.{within-yes, within-is, nothing-past}
 use Rattle.text.proofs.Runs.{front-len, front-val, len-le}
@@ -460,20 +460,20 @@ form-one s d e x y =
     (q, x .says ∙ ap partsSay q ∙ sym (y .says))
 
 -- ---- no decimal is larger than the grammar lets it be
-power-bounded : (t : PowerPart) → each isDigit (powerDigits t) ≡ true → (upBy t < 100) × (downBy t < 100)
-power-bounded noPower h = (omega arith, omega arith)
-power-bounded (plus x y) h = (number-most 0 (x ∷ y ∷ []) h, omega arith)
-power-bounded (minus x y) h = (omega arith, number-most 0 (x ∷ y ∷ []) h)
+power-small : (t : PowerPart) → each isDigit (powerDigits t) ≡ true → (upBy t < 100) × (downBy t < 100)
+power-small noPower h = (omega arith, omega arith)
+power-small (plus x y) h = (number-most 0 (x ∷ y ∷ []) h, omega arith)
+power-small (minus x y) h = (omega arith, number-most 0 (x ∷ y ∷ []) h)
 
 whole-digit : (w : WholePart) → 1 ≤ length (wholeDigits w)
 whole-digit nought = omega arith
 whole-digit (number b bs) = omega arith
 
-pub form-bounded : (s : List ℕ) (d : Decimal) → DecimalForm s d → Bounded d
-form-bounded s d x =
+pub form-small : (s : List ℕ) (d : Decimal) → DecimalForm s d → SmallDecimal d
+form-small s d x =
     let p = x .parts in
     let g = x .good in
-    let t = power-bounded (p .power) (g .powers) in
+    let t = power-small (p .power) (g .powers) in
     let e : each isDigit (digitsOf p) ≡ true = each-append isDigit (wholeDigits (p .whole)) (fractionDigits (p .fraction))
     ∙ and-both (g .wholes) (g .fractions) in
     let m : suc (numberOf 0 (digitsOf p)) ≤ 10 ^ length (digitsOf p) = rw one-mul at (number-most 0 (digitsOf p) e) in

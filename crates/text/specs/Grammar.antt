@@ -109,7 +109,7 @@ pub record DecimalForm (s : List ℕ) (d : Decimal) : Type 0 where
 
 -- how large a decimal's numbers can be: 02 K1 "up to 17 digits before any `e`", one of them at least before the point, and "two digits"
 -- in its power
-pub record Bounded (d : Decimal) : Type 0 where
+pub record SmallDecimal (d : Decimal) : Type 0 where
   pub mantissa : d .digits < 10 ^ digitLimit
   pub raised : d .up < 100
   pub lowered : d .down < digitLimit + 99
