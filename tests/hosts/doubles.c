@@ -28,21 +28,22 @@ static int shortest(double x) {
     return 17;
 }
 
-static void append(char *to, const char *format, int places, double x) { sprintf(to + strlen(to), format, places, x); }
-
 /* The verdict on a claim of all coefficients as printed so, in the shortest form where `places` is below 0: the same by both calls. */
 static uint64_t judged(size_t n, size_t m, const char *format, int places) {
     claim[0] = 0;
     for (size_t v = 0; v < n; v++) {
         double x = (double)numerators[v] / (double)denominators[v];
         sprintf(claim + strlen(claim), "%" PRId64 " ", ids[v]);
-        append(claim, format, places < 0 ? shortest(x) : places, x);
+        sprintf(claim + strlen(claim), format, places < 0 ? shortest(x) : places, x);
         strcat(claim, "\n");
     }
     uint64_t wide = trace_judge(n, m, GRAPH, TRACE_LCC, 0, BYTES(claim), AREA(result), AREA(claimed), AREA(first), AREA(second),
                                 AREA(third));
     uint64_t narrow = trace_verdict(BYTES(vertices), BYTES(edges), BYTES(claim), TRACE_DIRECTED, TRACE_LCC, 0);
-    if (TRACE_NUMBER(wide) != TRACE_VERDICT_NUMBER(narrow) || TRACE_LINE(wide) != TRACE_VERDICT_LINE(narrow)) exit(1);
+    if (TRACE_NUMBER(wide) != TRACE_VERDICT_NUMBER(narrow) || TRACE_LINE(wide) != TRACE_VERDICT_LINE(narrow)) {
+        fprintf(stderr, "doubles: trace_judge says %" PRIu64 " and trace_verdict %" PRIu64 " of\n%s", wide, narrow, claim);
+        exit(1);
+    }
     return narrow;
 }
 
