@@ -3,9 +3,14 @@ use Prim.Native.Nat.{ℕ}
 use mathlib.Core.Bool.{Bool, cond}
 use Rattle.basis.specs.declared.refusal.Refusal.{Refusal}
 
--- "A refusal returns its number, a file number (1 vertex, 2 edge, 3 claim, 4 sheet, 0 none) and a line counted from 1"
+-- 02 K2: "Every refusal now has four numbers": its number, file and line, and the column, from 1, in that line
+abbrev pub atColumn : ℕ → ℕ → ℕ → ℕ → Refusal
+atColumn number file line column = record { number = number; file = file; line = line; column = column }
+
+-- "A refusal returns its number, a file number (1 vertex, 2 edge, 3 claim, 4 sheet, 0 none) and a line counted from 1"; 02 K2: "the column
+-- is 0 except for refusal 2 of a vertex, edge or claim line"
 abbrev pub at : ℕ → ℕ → ℕ → Refusal
-at number file line = record { number = number; file = file; line = line }
+at number file line = atColumn number file line 0
 
 -- "or 0 where no line applies": a refusal that meets no line
 abbrev pub plain : ℕ → Refusal

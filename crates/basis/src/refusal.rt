@@ -1,7 +1,8 @@
 // Why a call was refused, and where: `number` as 01 numbers the refusals, `file` 1 vertex, 2 edge, 3 claim, 4 sheet, 0 none,
-// `line` counted from 1, or 0 where no line applies.
+// `line` counted from 1, or 0 where no line applies, `column` counted from 1 in the line, or 0: only refusal 2 of a vertex, edge or claim
+// line has one.
 ghost use mathlib.Core.Path.{_≡_};
-ghost use Rattle.basis.specs.Refusal.{at, plain};
+ghost use Rattle.basis.specs.Refusal.{atColumn, at, plain};
 
 pub const TOO_MANY: usize = 1;
 
@@ -39,6 +40,7 @@ pub struct Refusal {
     pub number: usize,
     pub file: usize,
     pub line: usize,
+    pub column: usize,
 }
 
 impl Refusal {
@@ -50,6 +52,7 @@ impl Refusal {
             number,
             file: 0,
             line: 0,
+            column: 0,
         }
     }
 
@@ -57,6 +60,23 @@ impl Refusal {
     pub fn at(number: usize, file: usize, line: usize) -> Self
         ensures { λ r. ⌜ r ≡ at number file line ⌝ }
     {
-        Refusal { number, file, line }
+        Refusal {
+            number,
+            file,
+            line,
+            column: 0,
+        }
+    }
+
+    // A refusal at a column of a line of a file.
+    pub fn at_column(number: usize, file: usize, line: usize, column: usize) -> Self
+        ensures { λ r. ⌜ r ≡ atColumn number file line column ⌝ }
+    {
+        Refusal {
+            number,
+            file,
+            line,
+            column,
+        }
     }
 }

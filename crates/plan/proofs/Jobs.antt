@@ -10,9 +10,9 @@ use lib.Seq.{drop-drop, drop-append-le}
 use Rattle.basis.specs.Refusal.{gives, refuses, badForm, outOfRange}
 use Rattle.basis.specs.declared.refusal.Refusal.{Refusal}
 use Rattle.basis.specs.Scan.{mem}
-use Rattle.text.specs.Word.{Word, malformed, outside, value, within, identOf}
+use Rattle.text.specs.Word.{Word, malformed, outside, value, wellFormed, within, identOf}
 use Rattle.text.specs.Bytes.{lf}
-use Rattle.text.specs.Scan.{scanned, wellFormed, fieldAt, scanSays, lineOf}
+use Rattle.text.specs.Scan.{scanned, fieldAt, scanSays, lineOf}
 use Rattle.text.specs.declared.ident.Scan.{Scan}
 use Rattle.text.specs.declared.ident.Scan.the-variants as S
 use Rattle.text.proofs.Words.{Ends, Reads, field-reads}

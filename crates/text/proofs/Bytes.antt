@@ -106,6 +106,22 @@ upTo-none c (b ∷ l) = by (eqb c b) refl (upTo-none c l)
     by true e f = rw (upTo-stop c b l e)
     by false e f = rw (upTo-more c b l e, e) f
 
+pub upTo-all : (c : ℕ) (l : List ℕ) → mem c l ≡ false → upTo c l ≡ l
+upTo-all c [] n = refl
+upTo-all c (b ∷ l) n =
+    upTo-more c b l (eqb-swap c b ∙ not-head c b l n) ∙ ap (λ (t : List ℕ). b ∷ t) (upTo-all c l (not-tail c b l n))
+
+-- what stands from the first c on begins with it, or is nothing
+pub upTo-end : (c : ℕ) (l : List ℕ) → upTo c (drop (length (upTo c l)) l) ≡ []
+upTo-end c [] = refl
+upTo-end c (b ∷ l) =
+    bool-cases (eqb c b) _ (λ e. rw (upTo-stop c b l e) (upTo-stop c b l e)) (λ e. rw (upTo-more c b l e) (upTo-end c l))
+
+pub upTo-over : (c : ℕ) (a l : List ℕ) → mem c a ≡ false → upTo c (a ++ l) ≡ a ++ upTo c l
+upTo-over c [] l n = refl
+upTo-over c (b ∷ a) l n =
+    upTo-more c b (a ++ l) (eqb-swap c b ∙ not-head c b a n) ∙ ap (λ (t : List ℕ). b ∷ t) (upTo-over c a l (not-tail c b a n))
+
 -- the cut of a list that is given in two parts
 pub mem-cut : (c : ℕ) (bs r : List ℕ) → mem c (bs ++ c ∷ r) ≡ true
 unfolding mem
@@ -116,6 +132,10 @@ pub upTo-cut : (c : ℕ) (bs r : List ℕ) → mem c bs ≡ false → upTo c (bs
 upTo-cut c [] r n = upTo-stop c c r (eq-eqb c c refl)
 upTo-cut c (b ∷ bs) r n =
     upTo-more c b (bs ++ c ∷ r) (eqb-swap c b ∙ not-head c b bs n) ∙ ap (λ (t : List ℕ). b ∷ t) (upTo-cut c bs r (not-tail c b bs n))
+
+pub past-cut : (c : ℕ) (bs r : List ℕ) → mem c bs ≡ false → past c (bs ++ c ∷ r) ≡ r
+past-cut c [] r n = past-stop c c r (eq-eqb c c refl)
+past-cut c (b ∷ bs) r n = past-more c b (bs ++ c ∷ r) (eqb-swap c b ∙ not-head c b bs n) ∙ past-cut c bs r (not-tail c b bs n)
 
 pub upTo-take : (c : ℕ) (l : List ℕ) → take (length (upTo c l)) l ≡ upTo c l
 upTo-take c [] = refl
@@ -138,6 +158,11 @@ pub mem-join : (c : ℕ) (a b : List ℕ) → mem c a ≡ false → mem c b ≡ 
 unfolding mem
 mem-join c [] b h k = k
 mem-join c (x ∷ a) b h k = rw (eqb-swap c x ∙ not-head c x a h) (mem-join c a b (not-tail c x a h) k)
+
+pub mem-left : (c : ℕ) (a b : List ℕ) → mem c (a ++ b) ≡ false → mem c a ≡ false
+unfolding mem
+mem-left c [] b n = refl
+mem-left c (x ∷ a) b n = rw (eqb-swap c x ∙ not-head c x (a ++ b) n) (mem-left c a b (not-tail c x (a ++ b) n))
 
 pub mem-right : (c : ℕ) (a b : List ℕ) → mem c (a ++ b) ≡ false → mem c b ≡ false
 mem-right c [] b h = h

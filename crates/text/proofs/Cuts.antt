@@ -12,34 +12,36 @@ use Rattle.basis.specs.Scan.{mem}
 use Rattle.basis.proofs.Tests.{no-case}
 use Rattle.text.specs.Word.{Word, malformed, outside, value}
 use Rattle.text.specs.Bytes.{lf}
-use Rattle.text.specs.Line.{line, none, fault, upTo, past, lineSays, lineBy}
+use Rattle.text.specs.Line.{Form, columnIn, line, none, fault, upTo, past, lineSays, lineBy}
 use Rattle.text.proofs.Bytes.{cut-at, upTo-none, mem-cut, upTo-cut, drop-past}
 
-module _ {A : Type 0} (word : List ℕ → Word A) (s : List ℕ) (place : ℕ) where
+module _ {A : Type 0} (form : Form A) (s : List ℕ) (place : ℕ) where
   -- the line at the place is the word w, which says v; what stands at `next` follows its LF
   pub record Cut (v : A) (next : ℕ) : Type 0 where
     pub w : List ℕ
     pub cut : drop place s ≡ w ++ lf ∷ drop next s
     pub whole : mem lf w ≡ false
-    pub says : word w ≡ value v
+    pub says : form .word w ≡ value v
     pub on : next ≡ place + length w + 1
 
-  says-line : (next : ℕ) (x : Word A) (v : A) (k : ℕ) → lineSays place next x ≡ line v k → (x ≡ value v) × (next ≡ k)
-  says-line next malformed v k e = no-case cc
-  says-line next outside v k e = no-case cc
-  says-line next (value u) v k e = (cc, (cc))
+  says-line : (next c : ℕ) (x : Word A) (v : A) (k : ℕ) → lineSays place next c x ≡ line v k → (x ≡ value v) × (next ≡ k)
+  says-line next c malformed v k e = no-case cc
+  says-line next c outside v k e = no-case cc
+  says-line next c (value u) v k e = (cc, (cc))
 
-  pub line-cut : (v : A) (next : ℕ) → lineBy word s place ≡ line v next → Cut v next
+  pub line-cut : (v : A) (next : ℕ) → lineBy form s place ≡ line v next → Cut v next
   unfolding lineBy
   line-cut v next e = go (leb (length s) place) (mem lf (drop place s)) refl e
     where
       go : (t u : Bool) → mem lf (drop place s) ≡ u
-          → cond t (none place) (cond u (lineSays place (place + length (upTo lf (drop place s)) + 1) (word (upTo lf (drop place s))))
-          (fault badForm place)) ≡ line v next → Cut v next
+          → cond t (none place)
+          (cond u (lineSays place (place + length (upTo lf (drop place s)) + 1) (columnIn form s place) (form .word (upTo lf (drop place s))))
+          (fault badForm (columnIn form s place) place)) ≡ line v next → Cut v next
       go true u q h = no-case cc
       go false false q h = no-case cc
       go false true q h =
-          let n = says-line (place + length (upTo lf (drop place s)) + 1) (word (upTo lf (drop place s))) v next h in
+          let n = says-line (place + length (upTo lf (drop place s)) + 1) (columnIn form s place) (form .word (upTo lf (drop place s))) v next
+          h in
           let c = cut-at lf (drop place s) q in
           let d = drop-past s (upTo lf (drop place s)) (past lf (drop place s)) place lf c in
           record {
@@ -50,8 +52,8 @@ module _ {A : Type 0} (word : List ℕ → Word A) (s : List ℕ) (place : ℕ) 
             on = sym (n .1);
           }
 
-  pub cut-line : (w r : List ℕ) (v : A) → drop place s ≡ w ++ lf ∷ r → mem lf w ≡ false → word w ≡ value v
-      → lineBy word s place ≡ line v (place + length w + 1)
+  pub cut-line : (w r : List ℕ) (v : A) → drop place s ≡ w ++ lf ∷ r → mem lf w ≡ false → form .word w ≡ value v
+      → lineBy form s place ≡ line v (place + length w + 1)
   unfolding lineBy
   cut-line w r v e h g =
       let a = ap length e ∙ length-append w (lf ∷ r) in

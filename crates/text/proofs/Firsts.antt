@@ -9,10 +9,9 @@ use lib.Dec.{ltb, eqb}
 use lib.ListN.{length, getD, take, drop, length-append, List·getD-append}
 use lib.Seq.{length-take-le, getD-take, getD-drop}
 use Rattle.basis.proofs.Tests.{clash, false-of, bool-cases}
-use Rattle.text.specs.Word.{within, isDigit, runLen}
+use Rattle.text.specs.Word.{wellFormed, within, isDigit, runLen}
 use Rattle.text.specs.Decimal.{digitLimit, pastPoint, wholeIsGood, decimalOf}
 use Rattle.text.specs.Stop.{isSign, digitsStop, powerStop, partsStop, fractionStop, decimalStop}
-use Rattle.text.specs.Scan.{wellFormed}
 use Rattle.text.proofs.Runs.{len-digit, len-stop}
 use Rattle.text.proofs.Decimals.{whole-one, whole-none, whole-zero, whole-more, point-from}
 use Rattle.text.proofs.Stops.{stop-good}

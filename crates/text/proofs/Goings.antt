@@ -11,11 +11,10 @@ use lib.Dec.{ltb, eqb}
 use lib.ListN.{length, getD, take, drop, length-append, List·getD-append}
 use lib.Seq.{length-take-le, getD-take, getD-drop, getD-append-add}
 use Rattle.basis.proofs.Tests.{clash, bool-cases}
-use Rattle.text.specs.Word.{within, isDigit, runLen, runVal}
+use Rattle.text.specs.Word.{Word, wellFormed, within, isDigit, runLen, runVal}
 use Rattle.text.specs.Decimal.{up, down, wrong, digitLimit, digitOf, pastPoint, wholeIsGood}
 use Rattle.text.specs.Decimal.{signedPower, powerAt, scaled, partsOf, fractionOf, decimalOf}
 use Rattle.text.specs.Stop.{isSign, digitsStop, powerStop, partsStop, fractionStop, decimalStop}
-use Rattle.text.specs.Scan.{wellFormed}
 use Rattle.text.proofs.Bytes.{within-is}
 use Rattle.text.proofs.Decimals.{whole-more, point-no, point-from}
 use Rattle.text.proofs.Stops.{stop-le}
@@ -57,16 +56,16 @@ module _ (u : List ℕ) (w p f : ℕ) (a : runLen u ≡ w) (b : pastPoint u w �
       (sign-good (runVal (runVal 0 u) (drop p u)) f (getD u (p + f + 1) 0)
       (digitOf (getD u (p + f + 2) 0) * 10 + digitOf (getD u (p + f + 3) 0)) j)
 
--- ---- what a good decimal goes on with
-pub record GoesOn (u : List ℕ) : Type 0 where
+-- ---- what a good word goes on with
+pub record Goes {A : Type 0} (word : List ℕ → Word A) (u : List ℕ) : Type 0 where
   pub rest : List ℕ
-  pub good : wellFormed (decimalOf (u ++ rest)) ≡ true
+  pub good : wellFormed (word (u ++ rest)) ≡ true
 
-goes-none : GoesOn []
+goes-none : Goes decimalOf []
 unfolding within pastPoint wholeIsGood powerAt partsOf fractionOf decimalOf
 goes-none = record { rest = 48 ∷ []; good = refl }
 
-goes-zero : (s : List ℕ) → getD s 0 0 ≡ 48 → GoesOn (take 1 s)
+goes-zero : (s : List ℕ) → getD s 0 0 ≡ 48 → Goes decimalOf (take 1 s)
 unfolding within pastPoint wholeIsGood powerAt partsOf fractionOf decimalOf
 goes-zero [] e = absurd (omega arith)
 goes-zero (b ∷ s) e = rw e (record { rest = []; good = refl })
@@ -161,7 +160,7 @@ module _ (s : List ℕ) where
 
   module _ (g : wholeIsGood s w ≡ true) where
     -- the digits before the point, as many as may be
-    goes-long : digitLimit < p → digitLimit ≤ length s → GoesOn (take digitLimit s)
+    goes-long : digitLimit < p → digitLimit ≤ length s → Goes decimalOf (take digitLimit s)
     unfolding within
     goes-long h i =
         let v : List ℕ = take digitLimit s ++ [] in
@@ -178,7 +177,7 @@ module _ (s : List ℕ) where
 
     module _ (c : p ≤ digitLimit) where
       -- a point goes on with a digit
-      goes-point : w + f < p → p ≤ length s → GoesOn (take p s)
+      goes-point : w + f < p → p ≤ length s → Goes decimalOf (take p s)
       unfolding within
       goes-point h i =
           let t : List ℕ = 48 ∷ [] in
@@ -194,7 +193,7 @@ module _ (s : List ℕ) where
 
       module _ (d : p ≤ w + f) where
         -- the digits before and after the point, as many as may be
-        goes-limit : digitLimit < w + f → p + (digitLimit - w) ≤ length s → GoesOn (take (p + (digitLimit - w)) s)
+        goes-limit : digitLimit < w + f → p + (digitLimit - w) ≤ length s → Goes decimalOf (take (p + (digitLimit - w)) s)
         unfolding within
         goes-limit h i =
             let k : ℕ = p + (digitLimit - w) in
@@ -210,7 +209,7 @@ module _ (s : List ℕ) where
             }
 
         -- a power goes on with what is left of `+00`, and no power with nothing
-        goes-power : w + f ≤ digitLimit → powerStop s (p + f) ≤ length s → GoesOn (take (powerStop s (p + f)) s)
+        goes-power : w + f ≤ digitLimit → powerStop s (p + f) ≤ length s → Goes decimalOf (take (powerStop s (p + f)) s)
         unfolding powerStop digitsStop isSign within
         goes-power l =
             let q : ℕ = p + f in
@@ -258,7 +257,7 @@ module _ (s : List ℕ) where
             (λ a. rw a (λ i. record { rest = []; good = on-plain q [] i g d l (omega arith) (λ _. refl) (long q [] i ∙ omega arith) }))
 
   -- ---- by the parts of the word
-  parts-goes : partsStop s w p f ≤ length s → GoesOn (take (partsStop s w p f) s)
+  parts-goes : partsStop s w p f ≤ length s → Goes decimalOf (take (partsStop s w p f) s)
   unfolding partsStop
   parts-goes =
       bool-cases (eqb w 0) _ (λ a. rw a (λ _. goes-none))
@@ -277,6 +276,6 @@ module _ (s : List ℕ) where
       rw (a, b) (λ _. goes-zero s (omega (arith, whole-low s w h b)))))
 
 -- the bytes before the place where a decimal breaks off begin a good decimal
-pub stop-goes : (s : List ℕ) → GoesOn (take (decimalStop s) s)
+pub stop-goes : (s : List ℕ) → Goes decimalOf (take (decimalStop s) s)
 unfolding decimalStop fractionStop
 stop-goes s = parts-goes s (stop-le s)

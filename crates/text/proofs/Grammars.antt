@@ -165,7 +165,7 @@ form-taken p g =
     ∙ scaled-taken (numberOf 0 (w ++ f)) (length f) (p .power)
 
 -- ---- what the scanner takes has the form
-digits-front : (l : List ℕ) → each isDigit (take (runLen l) l) ≡ true
+pub digits-front : (l : List ℕ) → each isDigit (take (runLen l) l) ≡ true
 digits-front l =
     let k = length-take-le (runLen l) l (len-le l) in
     each-of isDigit 0 (take (runLen l) l) (λ i h. ap isDigit (getD-take (runLen l) l i 0 (omega arith)) ∙ run-before l i (omega arith))

@@ -10,8 +10,12 @@ pub mod Grammars
 pub mod Counts
 pub mod Cuts
 pub mod Words
+pub mod Idents
+pub mod Breaks
+pub mod Columns
 pub mod Lines
 pub mod Places
+pub mod Counting
 pub mod Saids
 pub mod Files
 pub mod Examples

@@ -1,25 +1,25 @@
 -- Laws of lines: what is scanned is what the definitions say of a line's bytes; one law for each way the code leaves. Assumes nothing.
 use Prim.Native.Nat.{ℕ, _+_, _-_, _≤_, _<_}
 use mathlib.Core.Path.{_≡_, refl, sym, ap, _∙_}
-use mathlib.Core.List.{List, [], _∷_, _++_, append-assoc}
-use mathlib.Core.Bool.{Bool, true, false}
+use mathlib.Core.List.{List, [], _∷_, _++_, append-assoc, append-nil}
+use mathlib.Core.Bool.{Bool, true, false, cond, _&&_}
 use native.Mathlib.Omega.{arith}
 use borrow.Author.Tests.{le-leb, lt-leb}
 use lib.Dec.{eqb}
 use lib.IntN.{ℤ}
-use lib.ListN.{length, take, drop, length-append, length-drop}
+use lib.ListN.{length, take, drop, length-append, length-drop, take-append-drop}
 use lib.Seq.{getD-append-seam}
 use Rattle.basis.specs.Refusal.{badForm, outOfRange}
 use Rattle.basis.specs.Scan.{mem}
-use Rattle.basis.proofs.Tests.{clash, bool-cases}
-use Rattle.text.specs.Word.{Word, malformed, outside, value, within, identOf}
+use Rattle.basis.proofs.Tests.{clash, false-of, bool-cases, and-first, and-second}
+use Rattle.text.specs.Word.{Word, malformed, outside, value, wellFormed, within, isDigit, identOf}
 use Rattle.text.specs.Decimal.{decimalOf}
-use Rattle.text.specs.Stop.{decimalStop}
+use Rattle.text.specs.Stop.{identStop, decimalStop}
 use Rattle.text.specs.Bytes.{lf, space}
-use Rattle.text.specs.Line.{LineSaid, line, none, fault, upTo, past, lineSays, lineBy, both}
-use Rattle.text.specs.Line.{twoOf, vertexLine, edgeLine, coefficientLine, edgeSays, coefficientSays}
-use Rattle.text.specs.Scan.{Scanned, scanned, wellFormed, hasAt, closed, fieldAt, scanSays, decimalSays}
-use Rattle.text.specs.Scan.{lineFrom, decimalAt, restAt, restSays, beside, faultBeside, lineOf}
+use Rattle.text.specs.Line.{LineSaid, line, none, fault, upTo, past, Form, columnIn, lineSays, lineBy, both, twoOf, twoStop}
+use Rattle.text.specs.Line.{identForm, pairForm, decimalForm, vertexLine, edgeLine, coefficientLine, edgeSays, coefficientSays}
+use Rattle.text.specs.Scan.{Scanned, scanned, hasAt, closed, fieldAt, scanSays, decimalSays}
+use Rattle.text.specs.Scan.{identAt, lineFrom, decimalAt, restAt, restSays, beside, columnAt, lineOf}
 use Rattle.text.specs.declared.decimal.Decimal.{Decimal}
 use Rattle.text.specs.declared.decimal.DecimalWord.{DecimalWord}
 use Rattle.text.specs.declared.decimal.DecimalWord.the-variants as DW
@@ -29,33 +29,62 @@ use Rattle.text.specs.declared.line.EdgeLine.{EdgeLine}
 use Rattle.text.specs.declared.line.CoefficientLine.{CoefficientLine}
 use Rattle.text.specs.declared.line.Rest.{Rest}
 use Rattle.text.specs.declared.line.Rest.the-variants as R
-use Rattle.text.proofs.Bytes.{mem-cut, mem-join, mem-right, upTo-cut, upTo-none, upTo-take, upTo-le, cut-at, drop-past}
+use Rattle.text.proofs.Bytes.{mem-cut, mem-join, mem-right, upTo-cut, upTo-none, upTo-take, upTo-le, upTo-all, upTo-end}
+use Rattle.text.proofs.Bytes.{upTo-over, cut-at, drop-past}
+use Rattle.text.proofs.Idents.{ident-next, ident-upTo}
 use Rattle.text.proofs.Words.{Ends, Reads, closed-yes, closed-no, bad-ends, word-has, no-end, field-reads, ident-stray}
 use Rattle.text.proofs.Stops.{stop-le, stop-good}
 
 -- ---- a line by what is scanned of it
-same-line : {A : Type 0} (at q : ℕ) (w : Word A) (x : Scanned A) → Ends q w x → lineOf at x ≡ lineSays at q w
-same-line {A} at q w x e = ap (lineSays at (x .next)) (e .said) ∙ by w (e .next)
+same-line : {A : Type 0} (at q c d : ℕ) (w : Word A) (x : Scanned A) → Ends q w x → (wellFormed (x .said) ≡ false → c ≡ d)
+    → lineSays at (x .next) c (x .said) ≡ lineSays at q d w
+same-line {A} at q c d w x e = rw (e .said) (by w (e .next))
   where
-    by : (w : Word A) → (wellFormed w ≡ true → x .next ≡ q) → lineSays at (x .next) w ≡ lineSays at q w
-    by malformed h = refl
-    by outside h = refl
-    by (value v) h = ap (line v) (h refl)
+    by : (w : Word A) → (wellFormed w ≡ true → x .next ≡ q) → (wellFormed w ≡ false → c ≡ d)
+        → lineSays at (x .next) c w ≡ lineSays at q d w
+    by malformed h k = ap (λ (n : ℕ). fault badForm n at) (k refl)
+    by outside h k = refl
+    by (value v) h k = ap (line v) (h refl)
 
-pub line-end : {A : Type 0} (word : List ℕ → Word A) (s : List ℕ) (at : ℕ) → length s ≤ at → none at ≡ lineBy word s at
+pub line-end : {A : Type 0} (form : Form A) (s : List ℕ) (at : ℕ) → length s ≤ at → none at ≡ lineBy form s at
 unfolding lineBy
-line-end word s at h = rw (le-leb (length s) at h)
+line-end form s at h = rw (le-leb (length s) at h)
 
-pub line-reads : {A : Type 0} (word : List ℕ → Word A) (s : List ℕ) (at : ℕ) (x : Scanned A) → at < length s → Reads lf word s at x
-    → lineOf at x ≡ lineBy word s at
+-- with the column c, if it is the line's where its form is wrong
+pub line-reads : {A : Type 0} (form : Form A) (s : List ℕ) (at : ℕ) (x : Scanned A) (c : ℕ) → at < length s → Reads lf (form .word) s at x
+    → (wellFormed (x .said) ≡ false → c ≡ columnIn form s at)
+    → lineSays at (x .next) c (x .said) ≡ lineBy form s at
 unfolding lineBy
-line-reads word s at x h r =
+line-reads form s at x c h r k =
     rw (lt-leb (length s) at h)
     (bool-cases (mem lf (drop at s)) _
     (λ e. rw e
-    (same-line at (at + length (upTo lf (drop at s)) + 1) (word (upTo lf (drop at s))) x
-    (r .ended (upTo lf (drop at s)) (past lf (drop at s)) (cut-at lf (drop at s) e) (upTo-none lf (drop at s)))))
-    (λ e. rw e (ap (lineSays at (x .next)) (r .unended e))))
+    (same-line at (at + length (upTo lf (drop at s)) + 1) c (columnIn form s at) (form .word (upTo lf (drop at s))) x
+    (r .ended (upTo lf (drop at s)) (past lf (drop at s)) (cut-at lf (drop at s) e) (upTo-none lf (drop at s))) k))
+    (λ e. rw (e, r .unended e) (ap (λ (n : ℕ). fault badForm n at) (k (ap wellFormed (r .unended e))))))
+
+-- what was scanned up to the byte d stops where its bytes break off
+abbrev pub StopsAt : {A : Type 0} → ℕ → (List ℕ → ℕ) → List ℕ → ℕ → Scanned A → Type 0
+StopsAt d stop s at x = wellFormed (x .said) ≡ false → x .next ≡ at + stop (upTo d (drop at s))
+
+pub line-scanned : {A : Type 0} (form : Form A) (s : List ℕ) (at : ℕ) (x : Scanned A) → at < length s → Reads lf (form .word) s at x
+    → StopsAt lf (form .stop) s at x → lineOf at x ≡ lineBy form s at
+line-scanned form s at x h r k = line-reads form s at x (columnAt at (x .next)) h r (λ e. omega (arith, k e))
+
+-- ---- where a field and the rest of a coefficient line stop
+closed-stops : {A : Type 0} (s : List ℕ) (c : ℕ) (x : Scanned A) → wellFormed (closed s c x .said) ≡ false → closed s c x .next ≡ x .next
+closed-stops s c x =
+    bool-cases (wellFormed (x .said)) _
+    (λ w. bool-cases (hasAt s (x .next) c) _ (λ e. rw (w, e) (λ h. clash w h)) (λ e. rw (w, e) (λ _. refl))) (λ w. rw w (λ _. refl))
+
+pub field-stops : (s : List ℕ) (at c : ℕ) → isDigit c ≡ false → eqb c 45 ≡ false → StopsAt c identStop s at (fieldAt s at c)
+unfolding fieldAt
+field-stops s at c d m h =
+    closed-stops s c (identAt s at) h ∙ ident-next s at ∙ ap (λ (n : ℕ). at + n) (sym (ident-upTo c d m (drop at s)))
+
+rest-stops : (s : List ℕ) (at : ℕ) → StopsAt lf decimalStop s at (restAt s at)
+unfolding restAt decimalAt
+rest-stops s at h = closed-stops s lf (decimalAt s at) h
 
 -- ---- two words with a space between
 not-well : {A : Type 0} (w : Word A) → wellFormed w ≡ false → w ≡ malformed
@@ -72,6 +101,15 @@ both-well : {A B : Type 0} (v : Word A) (w : Word B) → wellFormed (both v w) �
 both-well v malformed h = rw both-off at h
 both-well v outside h = refl
 both-well v (value b) h = refl
+
+both-bad : {A B : Type 0} (v : Word A) (w : Word B) → wellFormed v ≡ true → wellFormed (both v w) ≡ false → wellFormed w ≡ false
+both-bad malformed w h k = clash h refl
+both-bad outside malformed h k = refl
+both-bad outside outside h k = k
+both-bad outside (value b) h k = k
+both-bad (value a) malformed h k = refl
+both-bad (value a) outside h k = k
+both-bad (value a) (value b) h k = k
 
 module _ {A : Type 0} (word : List ℕ → Word A) (s : List ℕ) (at : ℕ) (x : Scanned ℤ) (y : Scanned A)
     (X : Reads space identOf s at x) (Y : wellFormed (x .said) ≡ true → Reads lf word s (x .next) y) where
@@ -136,8 +174,91 @@ module _ {A : Type 0} (word : List ℕ → Word A) (s : List ℕ) (at : ℕ) (x 
       (λ h. bad-first (z .said ∙ not-well (identOf b1) h)))
       (λ k. bad-first (X .unended k))
 
-  pub pair-reads : Reads lf (twoOf identOf word) s at (beside (x .said) y)
-  pair-reads = record { ended = pair-ended; unended = pair-unended }
+  -- both words, or the first alone where it is malformed
+  abbrev pub paired : Scanned (ℤ × A)
+  paired = cond (wellFormed (x .said)) (beside (x .said) y) (scanned malformed (x .next))
+
+  paired-said : paired .said ≡ both (x .said) (y .said)
+  paired-said =
+      bool-cases (wellFormed (x .said)) _ (λ h. rw h) (λ h. rw (h, not-well (x .said) h))
+
+  paired-next : wellFormed (paired .said) ≡ true → paired .next ≡ y .next
+  paired-next = bool-cases (wellFormed (x .said)) _ (λ h. rw h (λ _. refl)) (λ h. rw h (λ k. clash k refl))
+
+  pub pair-reads : Reads lf (twoOf identOf word) s at paired
+  pair-reads =
+      record {
+        ended =
+            λ bs r e n. let z = pair-ended bs r e n in
+            record {
+              said = paired-said ∙ z .said;
+              next = λ k. paired-next (ap wellFormed (paired-said ∙ z .said) ∙ k) ∙ z .next k;
+            };
+        unended = λ n. paired-said ∙ pair-unended n;
+      }
+
+  -- ---- where they break off
+  module _ (stop : List ℕ → ℕ) (F : StopsAt space identStop s at x) (S : wellFormed (x .said) ≡ true → StopsAt lf stop s (x .next) y) where
+    abbrev here : List ℕ
+    here = upTo lf (drop at s)
+
+    -- what stands behind the line's bytes: its LF, or nothing
+    abbrev behind : List ℕ
+    behind = drop (length here) (drop at s)
+
+    here-behind : drop at s ≡ here ++ behind
+    here-behind = sym (take-append-drop (length here) (drop at s)) ∙ ap (λ (l : List ℕ). l ++ behind) (upTo-take lf (drop at s))
+
+    -- the line's bytes with a space in them
+    module _ (e : mem space here ≡ true) where
+      here-cut : drop at s ≡ upTo space here ++ space ∷ (past space here ++ behind)
+      here-cut =
+          here-behind ∙ ap (λ (l : List ℕ). l ++ behind) (cut-at space here e)
+          ∙ append-assoc (upTo space here) (space ∷ past space here) behind
+
+      first-ends : Ends (at + length (upTo space here) + 1) (identOf (upTo space here)) x
+      first-ends = X .ended (upTo space here) (past space here ++ behind) here-cut (upTo-none space here)
+
+      second-here : upTo lf (past space here ++ behind) ≡ past space here
+      second-here =
+          let m : mem lf (upTo space here ++ space ∷ past space here) ≡ false = rw (← cut-at space here e) (upTo-none lf (drop at s)) in
+          upTo-over lf (past space here) behind
+          (mem-right lf (space ∷ []) (past space here) (mem-right lf (upTo space here) (space ∷ past space here) m))
+          ∙ ap (λ (l : List ℕ). past space here ++ l) (upTo-end lf (drop at s)) ∙ append-nil (past space here)
+
+    no-first-space : mem space here ≡ false → x .said ≡ malformed
+    no-first-space n =
+        bool-cases (mem lf (drop at s)) (x .said ≡ malformed) (λ e. no-space here (past lf (drop at s)) (cut-at lf (drop at s) e) n)
+        (λ e. X .unended (rw (upTo-all lf (drop at s) e) at n))
+
+    first-stops : wellFormed (x .said) ≡ false → x .next ≡ at + twoStop stop here
+    unfolding twoStop within
+    first-stops h =
+        let f : (mem space here && wellFormed (identOf (upTo space here))) ≡ false = false-of _
+        (λ t. clash (ap wellFormed (first-ends (and-first (mem space here) (wellFormed (identOf (upTo space here))) t) .said)
+        ∙ and-second (mem space here) (wellFormed (identOf (upTo space here))) t) h) in
+        rw f
+        (F h
+        ∙ ap (λ (n : ℕ). at + n)
+        (ident-upTo space refl refl (drop at s) ∙ sym (ident-upTo lf refl refl (drop at s)) ∙ sym (ident-upTo space refl refl here)))
+
+    second-stops : wellFormed (x .said) ≡ true → wellFormed (both (x .said) (y .said)) ≡ false → y .next ≡ at + twoStop stop here
+    unfolding twoStop
+    second-stops h k =
+        bool-cases (mem space here) _
+        (λ e. let z = first-ends e in
+        let g : wellFormed (identOf (upTo space here)) ≡ true = ap wellFormed (sym (z .said)) ∙ h in
+        let q : x .next ≡ at + length (upTo space here) + 1 = z .next g in
+        let d : drop (x .next) s ≡ past space here ++ behind = ap (λ (n : ℕ). drop n s) q
+        ∙ drop-past s (upTo space here) (past space here ++ behind) at space (here-cut e) in
+        rw (e, g)
+        (S h (both-bad (x .said) (y .said) h k) ∙ ap (λ (l : List ℕ). x .next + stop (upTo lf l)) d
+        ∙ ap (λ (l : List ℕ). x .next + stop l) (second-here e) ∙ omega (arith, q)))
+        (λ e. clash h (ap wellFormed (no-first-space e)))
+
+    pub pair-stops : StopsAt lf (twoStop stop) s at paired
+    pair-stops =
+        bool-cases (wellFormed (x .said)) _ (λ h. rw h (second-stops h)) (λ h. rw h (λ _. first-stops h))
 
 -- ---- a decimal up to the end of its line
 pub rest-reads : (s : List ℕ) (at : ℕ) → Reads lf decimalOf s at (restAt s at)
@@ -203,40 +324,46 @@ module _ (s : List ℕ) (at : ℕ) (l : at < length s) (x : Scan) (e : scanSays 
   unfolding within
   vertex-is y q =
       ap (λ (k : Scan). lineOf at (scanSays k)) (sym q) ∙ ap (lineOf at) e
-      ∙ line-reads identOf s at (fieldAt s at lf) l (field-reads s at lf refl refl)
+      ∙ line-scanned identForm s at (fieldAt s at lf) l (field-reads s at lf refl refl) (field-stops s at lf refl refl)
 
-  pub vertex-bad : (p : ℕ) → x ≡ S.Bad p → fault badForm at ≡ vertexLine s at
-  vertex-bad p q = vertex-is (S.Bad p) q
+  pub vertex-bad : (p c : ℕ) → x ≡ S.Bad p → c ≡ columnAt at p → fault badForm c at ≡ vertexLine s at
+  vertex-bad p c q k = ap (λ (n : ℕ). fault badForm n at) k ∙ vertex-is (S.Bad p) q
 
-  pub vertex-outside : (p : ℕ) → x ≡ S.Outside p → fault outOfRange at ≡ vertexLine s at
+  pub vertex-outside : (p : ℕ) → x ≡ S.Outside p → fault outOfRange 0 at ≡ vertexLine s at
   vertex-outside p q = vertex-is (S.Outside p) q
 
   pub vertex-value : (z y : ℤ) (p : ℕ) → x ≡ S.Value z p → y ≡ z → line y p ≡ vertexLine s at
   vertex-value z y p q k = ap (λ (v : ℤ). line v p) k ∙ vertex-is (S.Value z p) q
 
 -- ---- a line of an identifier and a second word
-module _ {A : Type 0} (word : List ℕ → Word A) (second : List ℕ → ℕ → Scanned A)
-    (R : (s : List ℕ) (at : ℕ) → Reads lf word s at (second s at))
+module _ {A : Type 0} (form : Form A) (second : List ℕ → ℕ → Scanned A)
+    (R : (s : List ℕ) (at : ℕ) → Reads lf (form .word) s at (second s at))
+    (T : (s : List ℕ) (at : ℕ) → StopsAt lf (form .stop) s at (second s at))
     (s : List ℕ) (at : ℕ) (l : at < length s) (x : Scan) (e : scanSays x ≡ fieldAt s at space) where
-  two-line : lineOf at (beside (fieldAt s at space .said) (second s (fieldAt s at space .next))) ≡ lineBy (twoOf identOf word) s at
+  abbrev two : Scanned ℤ → Scanned (ℤ × A)
+  two y = cond (wellFormed (y .said)) (beside (y .said) (second s (y .next))) (scanned malformed (y .next))
+
+  two-line : lineOf at (two (fieldAt s at space)) ≡ lineBy (pairForm form) s at
   unfolding within
   two-line =
-      line-reads (twoOf identOf word) s at (beside (fieldAt s at space .said) (second s (fieldAt s at space .next))) l
-      (pair-reads word s at (fieldAt s at space) (second s (fieldAt s at space .next)) (field-reads s at space refl refl)
-      (λ _. R s (fieldAt s at space .next)))
+      let y : Scanned ℤ = fieldAt s at space in
+      let X : Reads space identOf s at y = field-reads s at space refl refl in
+      line-scanned (pairForm form) s at (two y) l (pair-reads (form .word) s at y (second s (y .next)) X (λ _. R s (y .next)))
+      (pair-stops (form .word) s at y (second s (y .next)) X (λ _. R s (y .next)) (form .stop) (field-stops s at space refl refl)
+      (λ _. T s (y .next)))
 
-  two-is : (y : Scan) → x ≡ y → lineOf at (beside (scanSays y .said) (second s (scanSays y .next))) ≡ lineBy (twoOf identOf word) s at
-  two-is y q = ap (λ (k : Scanned ℤ). lineOf at (beside (k .said) (second s (k .next)))) (ap scanSays (sym q) ∙ e) ∙ two-line
+  two-is : (y : Scan) → x ≡ y → lineOf at (two (scanSays y)) ≡ lineBy (pairForm form) s at
+  two-is y q = ap (λ (k : Scanned ℤ). lineOf at (two k)) (ap scanSays (sym q) ∙ e) ∙ two-line
 
-  pub two-bad : (p : ℕ) → x ≡ S.Bad p → fault badForm at ≡ lineBy (twoOf identOf word) s at
-  two-bad p q = two-is (S.Bad p) q
+  pub two-bad : (p c : ℕ) → x ≡ S.Bad p → c ≡ columnAt at p → fault badForm c at ≡ lineBy (pairForm form) s at
+  two-bad p c q k = ap (λ (n : ℕ). fault badForm n at) k ∙ two-is (S.Bad p) q
 
   pub two-outside : (p : ℕ) (y : Scanned A) → x ≡ S.Outside p → y ≡ second s p
-      → lineOf at (beside outside y) ≡ lineBy (twoOf identOf word) s at
+      → lineOf at (beside outside y) ≡ lineBy (pairForm form) s at
   two-outside p y q f = ap (λ (k : Scanned A). lineOf at (beside outside k)) f ∙ two-is (S.Outside p) q
 
   pub two-value : (z u : ℤ) (p : ℕ) (y : Scanned A) → x ≡ S.Value z p → u ≡ z → y ≡ second s p
-      → lineOf at (beside (value u) y) ≡ lineBy (twoOf identOf word) s at
+      → lineOf at (beside (value u) y) ≡ lineBy (pairForm form) s at
   two-value z u p y q k f =
       ap (λ (v : ℤ). lineOf at (beside (value v) y)) k ∙ ap (λ (k : Scanned A). lineOf at (beside (value z) k)) f ∙ two-is (S.Value z p) q
 
@@ -247,56 +374,60 @@ last-reads : (s : List ℕ) (at : ℕ) → Reads lf identOf s at (lastField s at
 unfolding within
 last-reads s at = field-reads s at lf refl refl
 
+last-stops : (s : List ℕ) (at : ℕ) → StopsAt lf identStop s at (lastField s at)
+unfolding within
+last-stops s at = field-stops s at lf refl refl
+
 -- by its second field, after a first word that is well formed
 module _ (at : ℕ) (y : Scan) where
-  pub beside-bad : (w : Word ℤ) (p : ℕ) → y ≡ S.Bad p → fault badForm at ≡ lineOf at (beside w (scanSays y))
-  beside-bad w p q = rw (q, both-off w)
+  pub beside-bad : (w : Word ℤ) (p c : ℕ) → y ≡ S.Bad p → c ≡ columnAt at p → fault badForm c at ≡ lineOf at (beside w (scanSays y))
+  beside-bad w p c q k = rw (q, both-off w, k)
 
-  pub beside-outside : (u : ℤ) (p : ℕ) → y ≡ S.Outside p → fault outOfRange at ≡ lineOf at (beside (value u) (scanSays y))
+  pub beside-outside : (u : ℤ) (p : ℕ) → y ≡ S.Outside p → fault outOfRange 0 at ≡ lineOf at (beside (value u) (scanSays y))
   beside-outside u p q = rw q
 
   pub beside-value : (u v a b : ℤ) (p : ℕ) → y ≡ S.Value v p → a ≡ u → b ≡ v → line (a, b) p ≡ lineOf at (beside (value u) (scanSays y))
   beside-value u v a b p q h k = rw (q, h, k)
 
+  -- the first one is out of range
+  pub outside-outside : (p : ℕ) → y ≡ S.Outside p → fault outOfRange 0 at ≡ lineOf at (beside {A = ℤ} outside (scanSays y))
+  outside-outside p q = rw q
+
+  pub outside-value : (v : ℤ) (p : ℕ) → y ≡ S.Value v p → fault outOfRange 0 at ≡ lineOf at (beside {A = ℤ} outside (scanSays y))
+  outside-value v p q = rw q
+
 module _ (at : ℕ) (y : Rest) where
-  pub beside-none : (w : Word ℤ) (p : ℕ) → y ≡ R.Bad p → fault badForm at ≡ lineOf at (beside w (restSays y))
-  beside-none w p q = rw (q, both-off w)
+  pub beside-none : (w : Word ℤ) (p c : ℕ) → y ≡ R.Bad p → c ≡ columnAt at p → fault badForm c at ≡ lineOf at (beside w (restSays y))
+  beside-none w p c q k = rw (q, both-off w, k)
 
   pub beside-decimal : (u a : ℤ) (d : Decimal) (p : ℕ) → y ≡ R.Value d p → a ≡ u → line (a, d) p ≡ lineOf at (beside (value u) (restSays y))
   beside-decimal u a d p q h = rw (q, h)
 
-fault-outside : {A : Type 0} (at : ℕ) (y : Scanned A) → fault (faultBeside (y .said)) at ≡ lineOf at (beside {A = ℤ} outside y)
-fault-outside {A} at y = by (y .said)
-  where
-    by : (w : Word A) → _≡_ {A = LineSaid (ℤ × A)} (fault (faultBeside w) at) (lineSays at (y .next) (both outside w))
-    by malformed = refl
-    by outside = refl
-    by (value v) = refl
+  pub outside-decimal : (d : Decimal) (p : ℕ) → y ≡ R.Value d p → fault outOfRange 0 at ≡ lineOf at (beside {A = ℤ} outside (restSays y))
+  outside-decimal d p q = rw q
 
 -- an edge line
 module _ (s : List ℕ) (at : ℕ) (l : at < length s) (x : Scan) (e : scanSays x ≡ fieldAt s at space) where
-  pub edge-bad : (p : ℕ) → x ≡ S.Bad p → fault badForm at ≡ edgeLine s at
-  edge-bad p q = two-bad identOf lastField last-reads s at l x e p q
+  pub edge-bad : (p c : ℕ) → x ≡ S.Bad p → c ≡ columnAt at p → fault badForm c at ≡ edgeLine s at
+  edge-bad p c q k = two-bad identForm lastField last-reads last-stops s at l x e p c q k
 
-  pub edge-outside : (p n : ℕ) (y : Scan) → x ≡ S.Outside p → scanSays y ≡ fieldAt s p lf → n ≡ faultBeside (scanSays y .said)
-      → fault n at ≡ edgeLine s at
-  edge-outside p n y q f g =
-      ap (λ (k : ℕ). fault k at) g ∙ fault-outside at (scanSays y) ∙ two-outside identOf lastField last-reads s at l x e p (scanSays y) q f
+  pub edge-outside : (p : ℕ) (y : Scan) (r : EdgeLine) → x ≡ S.Outside p → scanSays y ≡ fieldAt s p lf
+      → edgeSays r ≡ lineOf at (beside outside (scanSays y)) → edgeSays r ≡ edgeLine s at
+  edge-outside p y r q f g = g ∙ two-outside identForm lastField last-reads last-stops s at l x e p (scanSays y) q f
 
   pub edge-value : (z u : ℤ) (p : ℕ) (y : Scan) (r : EdgeLine) → x ≡ S.Value z p → u ≡ z → scanSays y ≡ fieldAt s p lf
       → edgeSays r ≡ lineOf at (beside (value u) (scanSays y)) → edgeSays r ≡ edgeLine s at
-  edge-value z u p y r q k f g = g ∙ two-value identOf lastField last-reads s at l x e z u p (scanSays y) q k f
+  edge-value z u p y r q k f g = g ∙ two-value identForm lastField last-reads last-stops s at l x e z u p (scanSays y) q k f
 
 -- a coefficient line
 module _ (s : List ℕ) (at : ℕ) (l : at < length s) (x : Scan) (e : scanSays x ≡ fieldAt s at space) where
-  pub coefficient-bad : (p : ℕ) → x ≡ S.Bad p → fault badForm at ≡ coefficientLine s at
-  coefficient-bad p q = two-bad decimalOf restAt rest-reads s at l x e p q
+  pub coefficient-bad : (p c : ℕ) → x ≡ S.Bad p → c ≡ columnAt at p → fault badForm c at ≡ coefficientLine s at
+  coefficient-bad p c q k = two-bad decimalForm restAt rest-reads rest-stops s at l x e p c q k
 
-  pub coefficient-outside : (p n : ℕ) (y : Rest) → x ≡ S.Outside p → restSays y ≡ restAt s p → n ≡ faultBeside (restSays y .said)
-      → fault n at ≡ coefficientLine s at
-  coefficient-outside p n y q f g =
-      ap (λ (k : ℕ). fault k at) g ∙ fault-outside at (restSays y) ∙ two-outside decimalOf restAt rest-reads s at l x e p (restSays y) q f
+  pub coefficient-outside : (p : ℕ) (y : Rest) (r : CoefficientLine) → x ≡ S.Outside p → restSays y ≡ restAt s p
+      → coefficientSays r ≡ lineOf at (beside outside (restSays y)) → coefficientSays r ≡ coefficientLine s at
+  coefficient-outside p y r q f g = g ∙ two-outside decimalForm restAt rest-reads rest-stops s at l x e p (restSays y) q f
 
   pub coefficient-value : (z u : ℤ) (p : ℕ) (y : Rest) (r : CoefficientLine) → x ≡ S.Value z p → u ≡ z → restSays y ≡ restAt s p
       → coefficientSays r ≡ lineOf at (beside (value u) (restSays y)) → coefficientSays r ≡ coefficientLine s at
-  coefficient-value z u p y r q k f g = g ∙ two-value decimalOf restAt rest-reads s at l x e z u p (restSays y) q k f
+  coefficient-value z u p y r q k f g = g ∙ two-value decimalForm restAt rest-reads rest-stops s at l x e z u p (restSays y) q k f

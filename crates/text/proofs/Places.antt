@@ -14,12 +14,12 @@ use Rattle.basis.specs.Refusal.{badForm}
 use Rattle.basis.specs.Scan.{mem}
 use Rattle.basis.proofs.Tests.{clash, bool-cases}
 use Rattle.basis.proofs.Saids.{Any}
-use Rattle.text.specs.Word.{Word, malformed, outside, value, rangedOf, countOf, signedOf, afterMinus, identOf}
+use Rattle.text.specs.Word.{Word, malformed, outside, value, wellFormed, rangedOf, countOf, signedOf, afterMinus, identOf}
 use Rattle.text.specs.Decimal.{decimalOf}
 use Rattle.text.specs.Bytes.{lf, space}
-use Rattle.text.specs.Line.{LineSaid, line, none, fault, upTo, past}
-use Rattle.text.specs.Line.{lineSays, lineBy, both, twoOf, edgeLine, coefficientLine}
-use Rattle.text.specs.Scan.{Scanned, wellFormed, hasAt, identAt, closed, fieldAt, scanSays}
+use Rattle.text.specs.Line.{LineSaid, line, none, fault, upTo, past, Form, columnIn}
+use Rattle.text.specs.Line.{lineSays, lineBy, both, twoOf, identForm, pairForm, decimalForm, edgeLine, coefficientLine}
+use Rattle.text.specs.Scan.{Scanned, hasAt, identAt, closed, fieldAt, scanSays}
 use Rattle.text.specs.declared.decimal.Decimal.{Decimal}
 use Rattle.text.specs.declared.ident.Scan.{Scan}
 use Rattle.text.specs.declared.ident.Scan.the-variants as S
@@ -36,22 +36,22 @@ pub record Moved (s : List ℕ) (at q : ℕ) : Type 0 where
 abbrev pub Placed : {A : Type 0} → List ℕ → ℕ → LineSaid A → Type 0
 Placed s at (line v q) = Moved s at q
 Placed s at (none k) = (k ≡ at) × (length s ≤ at)
-Placed s at (fault n k) = (k ≡ at) × (at < length s)
+Placed s at (fault n c k) = (k ≡ at) × (at < length s)
 
-line-placed : {A : Type 0} (s : List ℕ) (at q : ℕ) (w : Word A) → at < length s → Moved s at q → Placed s at (lineSays at q w)
-line-placed s at q malformed h m = (refl, h)
-line-placed s at q outside h m = (refl, h)
-line-placed s at q (value v) h m = m
+line-placed : {A : Type 0} (s : List ℕ) (at q c : ℕ) (w : Word A) → at < length s → Moved s at q → Placed s at (lineSays at q c w)
+line-placed s at q c malformed h m = (refl, h)
+line-placed s at q c outside h m = (refl, h)
+line-placed s at q c (value v) h m = m
 
-pub places : {A : Type 0} (word : List ℕ → Word A) (s : List ℕ) (at : ℕ) → Placed s at (lineBy word s at)
+pub places : {A : Type 0} (form : Form A) (s : List ℕ) (at : ℕ) → Placed s at (lineBy form s at)
 unfolding lineBy
-places word s at =
+places form s at =
     bool-cases (leb (length s) at) _ (λ e. rw e (refl, leb-true (length s) at e))
     (λ e. let h : at < length s = leb-false (length s) at e in
     rw e
     (bool-cases (mem lf (drop at s)) _
     (λ m. rw m
-    (line-placed s at (at + length (upTo lf (drop at s)) + 1) (word (upTo lf (drop at s))) h
+    (line-placed s at (at + length (upTo lf (drop at s)) + 1) (columnIn form s at) (form .word (upTo lf (drop at s))) h
     (record {
       forward = omega arith;
       inside = omega
@@ -59,9 +59,9 @@ places word s at =
     })))
     (λ m. rw m (refl, h))))
 
-module _ {A : Type 0} (word : List ℕ → Word A) (s : List ℕ) (at : ℕ) (x : LineSaid A) (e : x ≡ lineBy word s at) where
+module _ {A : Type 0} (form : Form A) (s : List ℕ) (at : ℕ) (x : LineSaid A) (e : x ≡ lineBy form s at) where
   placed : Placed s at x
-  placed = rw e (places word s at)
+  placed = rw e (places form s at)
 
   pub line-moves : (v : A) (q : ℕ) → x ≡ line v q → Moved s at q
   line-moves v q h = rw h at placed
@@ -69,8 +69,8 @@ module _ {A : Type 0} (word : List ℕ → Word A) (s : List ℕ) (at : ℕ) (x 
   pub none-stays : (k : ℕ) → x ≡ none k → (k ≡ at) × (length s ≤ at)
   none-stays k h = rw h at placed
 
-  pub fault-stays : (n k : ℕ) → x ≡ fault n k → (k ≡ at) × (at < length s)
-  fault-stays n k h = rw h at placed
+  pub fault-stays : (n c k : ℕ) → x ≡ fault n c k → (k ≡ at) × (at < length s)
+  fault-stays n c k h = rw h at placed
 
 -- ---- scans: a field moves the place
 module _ (s : List ℕ) (at c : ℕ) where
@@ -140,23 +140,27 @@ ident-small (b ∷ bs) = by (eqb b 45)
 abbrev pub LineHas : {A : Type 0} → (A → Type 0) → LineSaid A → Type 0
 LineHas P (line v q) = P v
 LineHas P (none k) = Unit {0}
-LineHas P (fault n k) = (2 ≤ n) × (n ≤ 3)
+LineHas P (fault n c k) = (2 ≤ n) × (n ≤ 3)
 
-says-has : {A : Type 0} (P : A → Type 0) (at q : ℕ) (w : Word A) → Has P w → LineHas P (lineSays at q w)
-says-has P at q malformed h = (omega arith, omega arith)
-says-has P at q outside h = (omega arith, omega arith)
-says-has P at q (value v) h = h
+says-has : {A : Type 0} (P : A → Type 0) (at q c : ℕ) (w : Word A) → Has P w → LineHas P (lineSays at q c w)
+says-has P at q c malformed h = (omega arith, omega arith)
+says-has P at q c outside h = (omega arith, omega arith)
+says-has P at q c (value v) h = h
 
-line-has : {A : Type 0} (P : A → Type 0) (word : List ℕ → Word A) (s : List ℕ) (at : ℕ) → ((bs : List ℕ) → Has P (word bs))
-    → LineHas P (lineBy word s at)
+line-has : {A : Type 0} (P : A → Type 0) (form : Form A) (s : List ℕ) (at : ℕ) → ((bs : List ℕ) → Has P (form .word bs))
+    → LineHas P (lineBy form s at)
 unfolding lineBy
-line-has {A} P word s at h = by (leb (length s) at) (mem lf (drop at s))
+line-has {A} P form s at h = by (leb (length s) at) (mem lf (drop at s))
   where
+    line : List ℕ
+    line = upTo lf (drop at s)
+
     by : (t u : Bool)
         → LineHas P
-        (cond t (none at) (cond u (lineSays at (at + length (upTo lf (drop at s)) + 1) (word (upTo lf (drop at s)))) (fault badForm at)))
+        (cond t (none at) (cond u (lineSays at (at + length line + 1) (columnIn form s at) (form .word line))
+        (fault badForm (columnIn form s at) at)))
     by true u = tt
-    by false true = says-has P at (at + length (upTo lf (drop at s)) + 1) (word (upTo lf (drop at s))) (h (upTo lf (drop at s)))
+    by false true = says-has P at (at + length line + 1) (columnIn form s at) (form .word line) (h line)
     by false false = (omega arith, omega arith)
 
 abbrev Pairs : {A B : Type 0} → (A → Type 0) → (B → Type 0) → A × B → Type 0
@@ -185,16 +189,16 @@ any-has malformed = tt
 any-has outside = tt
 any-has (value v) = tt
 
-pub line-any : {A : Type 0} (word : List ℕ → Word A) (s : List ℕ) (at : ℕ) → LineHas Any (lineBy word s at)
-line-any word s at = line-has Any word s at (λ bs. any-has (word bs))
+pub line-any : {A : Type 0} (form : Form A) (s : List ℕ) (at : ℕ) → LineHas Any (lineBy form s at)
+line-any form s at = line-has Any form s at (λ bs. any-has (form .word bs))
 
 module _ (s : List ℕ) (at : ℕ) where
   pub edge-range : (u v : ℤ) (q : ℕ) → edgeLine s at ≡ line (u, v) q → (mag u < 2 ^ 63) × (mag v < 2 ^ 63)
-  edge-range u v q e = rw e at (line-has (Pairs Small Small) (twoOf identOf identOf) s at (two-has Small identOf ident-small))
+  edge-range u v q e = rw e at (line-has (Pairs Small Small) (pairForm identForm) s at (two-has Small identOf ident-small))
 
   pub coefficient-range : (u : ℤ) (d : Decimal) (q : ℕ) → coefficientLine s at ≡ line (u, d) q → mag u < 2 ^ 63
   coefficient-range u d q e =
       let h : mag u < 2 ^ 63
       × Unit {0} =
-      rw e at (line-has (Pairs Small Any) (twoOf identOf decimalOf) s at (two-has Any decimalOf (λ bs. any-has (decimalOf bs)))) in
+      rw e at (line-has (Pairs Small Any) (pairForm decimalForm) s at (two-has Any decimalOf (λ bs. any-has (decimalOf bs)))) in
       h .0

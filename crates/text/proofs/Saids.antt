@@ -51,12 +51,12 @@ scan-one = one-of scanSays (λ w. scan (w .said) (w .next)) scan-back
 -- ---- lines
 abbrev vertexRead : LineSaid ℤ → VertexLine
 vertexRead (none p) = VL.End (place p)
-vertexRead (fault n p) = VL.Fault n (place p)
+vertexRead (fault n c p) = VL.Fault n c (place p)
 vertexRead (line z p) = VL.Line z (place p)
 
 vertex-back : (x : VertexLine) → vertexRead (vertexSays x) ≡ x
 vertex-back (VL.End k) = refl
-vertex-back (VL.Fault n k) = refl
+vertex-back (VL.Fault n c k) = refl
 vertex-back (VL.Line z k) = refl
 
 pub vertex-one : (x y : VertexLine) → vertexSays x ≡ vertexSays y → x ≡ y
@@ -64,12 +64,12 @@ vertex-one = one-of vertexSays vertexRead vertex-back
 
 abbrev edgeRead : LineSaid (ℤ × ℤ) → EdgeLine
 edgeRead (none p) = EL.End (place p)
-edgeRead (fault n p) = EL.Fault n (place p)
+edgeRead (fault n c p) = EL.Fault n c (place p)
 edgeRead (line x p) = EL.Line (x .0) (x .1) (place p)
 
 edge-back : (x : EdgeLine) → edgeRead (edgeSays x) ≡ x
 edge-back (EL.End k) = refl
-edge-back (EL.Fault n k) = refl
+edge-back (EL.Fault n c k) = refl
 edge-back (EL.Line u v k) = refl
 
 pub edge-one : (x y : EdgeLine) → edgeSays x ≡ edgeSays y → x ≡ y
@@ -77,12 +77,12 @@ edge-one = one-of edgeSays edgeRead edge-back
 
 abbrev coefficientRead : LineSaid (ℤ × Decimal) → CoefficientLine
 coefficientRead (none p) = CL.End (place p)
-coefficientRead (fault n p) = CL.Fault n (place p)
+coefficientRead (fault n c p) = CL.Fault n c (place p)
 coefficientRead (line x p) = CL.Line (x .0) (x .1) (place p)
 
 coefficient-back : (x : CoefficientLine) → coefficientRead (coefficientSays x) ≡ x
 coefficient-back (CL.End k) = refl
-coefficient-back (CL.Fault n k) = refl
+coefficient-back (CL.Fault n c k) = refl
 coefficient-back (CL.Line u d k) = refl
 
 pub coefficient-one : (x y : CoefficientLine) → coefficientSays x ≡ coefficientSays y → x ≡ y

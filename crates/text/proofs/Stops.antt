@@ -8,11 +8,11 @@ use borrow.Author.Tests.{le-leb, leb-true, le-ltb, ltb-true, ltb-false, ne-eqb, 
 use lib.Dec.{leb, ltb, eqb}
 use lib.ListN.{length, getD, drop, length-drop}
 use Rattle.basis.proofs.Tests.{clash, bool-cases, and-first, and-second, held}
-use Rattle.text.specs.Word.{Word, malformed, outside, value, isDigit, runLen, runVal}
+use Rattle.text.specs.Word.{Word, malformed, outside, value, wellFormed, isDigit, runLen, runVal}
 use Rattle.text.specs.Decimal.{Exponent, up, down, wrong, digitLimit, decimal, digitOf, pastPoint}
 use Rattle.text.specs.Decimal.{wholeIsGood, signedPower, powerAt, scaled, partsOf, fractionOf, decimalOf}
 use Rattle.text.specs.Stop.{isSign, digitsStop, powerStop, partsStop, fractionStop, decimalStop, powerWord, scaledWord}
-use Rattle.text.specs.Scan.{scanned, wellFormed, decimalSays}
+use Rattle.text.specs.Scan.{scanned, decimalSays}
 use Rattle.text.specs.declared.decimal.Decimal.{Decimal}
 use Rattle.text.specs.declared.decimal.DecimalWord.{DecimalWord}
 use Rattle.text.specs.declared.decimal.Power.{Power}
@@ -43,7 +43,7 @@ pub sign-on : (s : List ℕ) (at g : ℕ) (t : Bool) → g ≡ getD s (at + 1) 0
 sign-on s at g t e f h = omega (arith, sign-in s (at + 1) (ap isSign (sym e) ∙ held t (isSign g) f h))
 
 -- ---- never past the end
-cond-le : (t : Bool) (a b n : ℕ) → (t ≡ true → a ≤ n) → (t ≡ false → b ≤ n) → cond t a b ≤ n
+pub cond-le : (t : Bool) (a b n : ℕ) → (t ≡ true → a ≤ n) → (t ≡ false → b ≤ n) → cond t a b ≤ n
 cond-le true a b n f g = f refl
 cond-le false a b n f g = g refl
 

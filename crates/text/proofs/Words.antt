@@ -14,9 +14,9 @@ use lib.IntN.{ℤ}
 use Rattle.basis.specs.Scan.{each, mem}
 use Rattle.basis.proofs.Tests.{clash, false-of, bool-cases, and-both, and-off}
 use Rattle.basis.proofs.Scans.{each-mem}
-use Rattle.text.specs.Word.{Word, malformed, outside, value, within, isDigit, runLen, runVal}
+use Rattle.text.specs.Word.{Word, malformed, outside, value, wellFormed, within, isDigit, runLen, runVal}
 use Rattle.text.specs.Word.{zeroOf, countOf, rangedOf, signedOf, afterMinus, identOf}
-use Rattle.text.specs.Scan.{Scanned, scanned, wellFormed, hasAt, countAt, signedAt, identAt, closed, fieldAt}
+use Rattle.text.specs.Scan.{Scanned, scanned, hasAt, countAt, signedAt, identAt, closed, fieldAt}
 use Rattle.text.proofs.Bytes.{no-first, no-zero, first-digit, has-yes, has-below, not-head, not-tail}
 use Rattle.text.proofs.Runs.{len-digit, len-stop, front-len, front-val, all-val}
 
@@ -82,7 +82,7 @@ module _ (s bs r : List ℕ) (at c : ℕ) (e : drop at s ≡ bs ++ c ∷ r) wher
   first-has x = ap (λ (k : ℕ). hasAt s k x) (sym (add-zero at)) ∙ word-has 0 x (omega arith)
 
 -- a count by its first byte
-count-by : (s : List ℕ) (at b : ℕ) → at < length s → getD s at 0 ≡ b
+pub count-by : (s : List ℕ) (at b : ℕ) → at < length s → getD s at 0 ≡ b
     → countAt s at ≡ cond (eqb b 48) (scanned (value 0) (at + 1))
     (cond (within 49 57 b) (scanned (value (runVal 0 (drop at s))) (at + runLen (drop at s))) (scanned malformed at))
 unfolding countAt
@@ -143,7 +143,7 @@ module _ (s r : List ℕ) (at c : ℕ) (d : isDigit c ≡ false) where
       (by-zero b bs (eqb b 48) e n)
 
 -- with its sign
-ranged-well : (neg : Bool) (n : ℕ) → wellFormed (rangedOf neg n) ≡ true
+pub ranged-well : (neg : Bool) (n : ℕ) → wellFormed (rangedOf neg n) ≡ true
 ranged-well true n = bool-cases (leb n (2 ^ 63)) _ (λ e. rw e) (λ e. rw e)
 ranged-well false n = bool-cases (leb n (2 ^ 63 - 1)) _ (λ e. rw e) (λ e. rw e)
 

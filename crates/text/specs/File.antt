@@ -6,22 +6,23 @@ use mathlib.Core.List.{List, [], _∷_, _++_}
 use lib.ListN.{length}
 use lib.Dec.{leb}
 use Rattle.basis.specs.declared.refusal.Refusal.{Refusal}
-use Rattle.basis.specs.Refusal.{Said, gives, refuses, at, tooMany, badForm, outOfRange, mapped}
+use Rattle.basis.specs.Refusal.{Said, gives, refuses, atColumn, at, tooMany, badForm, outOfRange, mapped}
 use Rattle.basis.specs.Scan.{mem}
 use Rattle.text.specs.Word.{Word, malformed, outside, value}
 use Rattle.text.specs.Bytes.{lf}
 use Rattle.text.specs.Line.{LineSaid, line, none, fault, upTo}
+use Rattle.text.specs.Column.{wholeLine, Column}
 
--- a line of a file: its values, or the number of its fault of form or range
+-- a line of a file: its values, or the number and the column of its fault of form or range
 pub data Line (A : Type 0) : Type 0 where
   good : A → Line A
-  bad : ℕ → Line A
+  bad : ℕ → ℕ → Line A
 
 -- the lines from a place on, up to the first fault: at most m
 unfoldable pub linesFrom : {A : Type 0} → (ℕ → LineSaid A) → ℕ → ℕ → List (Line A)
 linesFrom read zero place = []
 linesFrom read (suc m) place =
-    elim (read place) [ line v next ↦ good v ∷ linesFrom read m next | none p ↦ [] | fault n p ↦ bad n ∷ [] ]
+    elim (read place) [ line v next ↦ good v ∷ linesFrom read m next | none p ↦ [] | fault n c p ↦ bad n c ∷ [] ]
 
 -- the lines of a file; there are no more of them than bytes
 abbrev pub linesOf : {A : Type 0} → (List ℕ → ℕ → LineSaid A) → List ℕ → List (Line A)
@@ -39,17 +40,20 @@ unless (suc n) file k rest = refuses (at (suc n) file k)
 
 -- the lines of a file of at most `most` lines, by a test of a line's values after the line before it: the number of a fault, or 0
 module _ {A : Type 0} (file most : ℕ) (test : Before A → A → ℕ) where
-  -- the fault of a line after k others: 1 before all others, then its form and range, then the test
-  abbrev pub faultOf : ℕ → Before A → Line A → ℕ
-  faultOf k before (good v) = cond (leb most k) tooMany (test before v)
-  faultOf k before (bad n) = cond (leb most k) tooMany n
+  -- the fault of a line of good form and range after k others: 1 before all others, then the test
+  abbrev pub faultOf : ℕ → Before A → A → ℕ
+  faultOf k before v = cond (leb most k) tooMany (test before v)
+
+  -- the refusal of a line after k others by the number and the column of its form or range: 1 before all others
+  abbrev pub badAt : ℕ → ℕ → ℕ → Refusal
+  badAt k number column = cond (leb most k) (at tooMany file (k + 1)) (atColumn number file (k + 1) column)
 
   -- the values of all lines, or the refusal at the first line with a fault
   unfoldable pub valuesFrom : ℕ → Before A → List (Line A) → Said (List A)
   valuesFrom k before [] = gives []
   valuesFrom k before (good v ∷ ls) =
-      unless (faultOf k before (good v)) file (k + 1) (mapped (λ vs. v ∷ vs) (valuesFrom (k + 1) (after v) ls))
-  valuesFrom k before (bad n ∷ ls) = refuses (at (faultOf k before (bad n)) file (k + 1))
+      unless (faultOf k before v) file (k + 1) (mapped (λ vs. v ∷ vs) (valuesFrom (k + 1) (after v) ls))
+  valuesFrom k before (bad n c ∷ ls) = refuses (badAt k n c)
 
   -- the same from the first line of a file on, which has none before it
   abbrev pub valuesOf : List (Line A) → Said (List A)
@@ -94,15 +98,19 @@ pub record GoodFile {A : Type 0} (word : List ℕ → Word A) (most : ℕ) (test
   pub few : length vs ≤ most
   pub pass : Passes test first vs
 
--- why the first line of some bytes fails after k lines, by its number: it "passes its limit", whatever its form; else it has no LF, or
--- "the wrong form"; else its number "is outside -2^63 to 2^63-1"; else the test says why
-pub data Fails {A : Type 0} (word : List ℕ → Word A) (most : ℕ) (test : A → ℕ) (k : ℕ) (rest : List ℕ) (number : ℕ) : Type 0 where
-  over : k ≡ most → number ≡ tooMany → Fails word most test k rest number
-  unended : k < most → mem lf rest ≡ false → number ≡ badForm → Fails word most test k rest number
-  wrong : k < most → mem lf rest ≡ true → word (upTo lf rest) ≡ malformed → number ≡ badForm → Fails word most test k rest number
-  beyond : k < most → mem lf rest ≡ true → word (upTo lf rest) ≡ outside → number ≡ outOfRange → Fails word most test k rest number
-  tested : (v : A) → k < most → mem lf rest ≡ true → word (upTo lf rest) ≡ value v → test v ≡ number → (number ≡ 0 → ⊥)
-      → Fails word most test k rest number
+-- why the first line of some bytes fails after k lines, by its number and its column: it "passes its limit", whatever its form; else it has
+-- no LF, or "the wrong form", and then the column is where no good line could go on; else its number "is outside -2^63 to 2^63-1"; else the
+-- test says why
+pub data Fails {A : Type 0} (word : List ℕ → Word A) (most : ℕ) (test : A → ℕ) (k : ℕ) (rest : List ℕ) (number column : ℕ) : Type 0 where
+  over : k ≡ most → number ≡ tooMany → column ≡ 0 → Fails word most test k rest number column
+  unended : k < most → mem lf rest ≡ false → number ≡ badForm → Column word (wholeLine rest) column
+      → Fails word most test k rest number column
+  wrong : k < most → mem lf rest ≡ true → word (upTo lf rest) ≡ malformed → number ≡ badForm → Column word (wholeLine rest) column
+      → Fails word most test k rest number column
+  beyond : k < most → mem lf rest ≡ true → word (upTo lf rest) ≡ outside → number ≡ outOfRange → column ≡ 0
+      → Fails word most test k rest number column
+  tested : (v : A) → k < most → mem lf rest ≡ true → word (upTo lf rest) ≡ value v → test v ≡ number → (number ≡ 0 → ⊥) → column ≡ 0
+      → Fails word most test k rest number column
 
 -- "The first fault met is the answer": a file is good lines that pass, at most so many, then a rest that is not empty, and the refusal says
 -- why the rest's first line fails
@@ -117,5 +125,6 @@ pub record FirstFault {A : Type 0} (word : List ℕ → Word A) (file most : ℕ
   pub pass : Passes test first passed
   pub some : rest ≡ [] → ⊥
   pub number : ℕ
-  pub fails : Fails word most (test (lastOf first passed)) (length passed) rest number
-  pub refusal : r ≡ at number file (length passed + 1)
+  pub column : ℕ
+  pub fails : Fails word most (test (lastOf first passed)) (length passed) rest number column
+  pub refusal : r ≡ atColumn number file (length passed + 1) column

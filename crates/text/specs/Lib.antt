@@ -1,9 +1,11 @@
--- The text layer's meaning, in reading order: bytes, words, lines of words, files of lines, and then what the code scans from a place.
+-- The text layer's meaning, in reading order: bytes, words and where they break off, lines of words and their columns, files of lines, and
+-- then what the code scans from a place.
 pub mod Bytes
 pub mod Word
 pub mod Decimal
 pub mod Grammar
-pub mod Line
-pub mod File
 pub mod Stop
+pub mod Line
+pub mod Column
+pub mod File
 pub mod Scan

@@ -1,14 +1,13 @@
 -- What the code scans from a place on, without knowing where the word ends. Past the end of a file `getD s at 0` is 0, which begins and
 -- continues nothing.
-use Prim.Native.Nat.{ℕ, _+_, min}
+use Prim.Native.Nat.{ℕ, _+_, _-_, _^_, _≤_, _<_, min}
 use mathlib.Core.List.{List}
 use mathlib.Core.Bool.{Bool, true, false, cond, _&&_}
 use lib.ListN.{length, getD, drop}
 use lib.Dec.{ltb, eqb}
 use lib.IntN.{ℤ}
-use Rattle.basis.specs.Refusal.{badForm, outOfRange}
 use Rattle.text.specs.Bytes.{lf, zeroDigit, oneDigit, nineDigit, minusSign}
-use Rattle.text.specs.Word.{Word, malformed, outside, value, within, runLen, runVal, rangedOf, signedOf}
+use Rattle.text.specs.Word.{Word, malformed, outside, value, wellFormed, within, runLen, runVal, rangedOf, signedOf}
 use Rattle.text.specs.Decimal.{decimalOf}
 use Rattle.text.specs.Stop.{decimalStop}
 use Rattle.text.specs.Line.{LineSaid, upTo, lineSays, both}
@@ -32,12 +31,6 @@ pub record Scanned (A : Type 0) : Type 0 where
 -- the same, by its fields in order
 abbrev pub scanned : {A : Type 0} → Word A → ℕ → Scanned A
 scanned said next = record { said = said; next = next }
-
--- a word has the right form, in range or not
-abbrev pub wellFormed : {A : Type 0} → Word A → Bool
-wellFormed malformed = false
-wellFormed outside = true
-wellFormed (value v) = true
 
 -- the byte c stands at p
 unfoldable pub hasAt : List ℕ → ℕ → ℕ → Bool
@@ -129,12 +122,15 @@ restSays (R.Value d p) = scanned (value d) p
 abbrev pub beside : {A B : Type 0} → Word A → Scanned B → Scanned (A × B)
 beside x y = scanned (both x (y .said)) (y .next)
 
--- the fault of a line whose first word is out of range, by its second word
-abbrev pub faultBeside : {A : Type 0} → Word A → ℕ
-faultBeside malformed = badForm
-faultBeside outside = outOfRange
-faultBeside (value v) = outOfRange
+-- the column of the byte at p in a line that began at `at`, counted from 1
+abbrev pub columnAt : ℕ → ℕ → ℕ
+columnAt at p = p - at + 1
+
+-- a place p behind `at`, or there, at which the column can be counted
+pub record Behind (at p : ℕ) : Type 0 where
+  pub onward : at ≤ p
+  pub counted : p < 2 ^ 64 - 1
 
 -- the line that began at `at`, by what was scanned
 abbrev pub lineOf : {A : Type 0} → ℕ → Scanned A → LineSaid A
-lineOf at x = lineSays at (x .next) (x .said)
+lineOf at x = lineSays at (x .next) (columnAt at (x .next)) (x .said)

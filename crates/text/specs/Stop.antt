@@ -1,17 +1,32 @@
--- Where a decimal breaks off: the place of the first byte at which no good decimal could go on, and the word's length where there is no
--- such byte. Past the end of a word `getD s at 0` is 0, which continues nothing.
-use Prim.Native.Nat.{ℕ, _+_, _-_, _*_}
-use mathlib.Core.List.{List}
+-- Where a word breaks off: the place of the first byte at which no good word could go on, and the word's length where there is no such
+-- byte. Past the end of a word `getD s at 0` is 0, which continues nothing.
+use Prim.Native.Nat.{ℕ, suc, _+_, _-_, _*_}
+use mathlib.Core.List.{List, [], _∷_}
 use mathlib.Core.Bool.{Bool, cond, _&&_, _||_}
 use lib.ListN.{length, getD, drop}
 use lib.Dec.{ltb, eqb}
-use Rattle.text.specs.Bytes.{plusSign, minusSign, powerMark}
-use Rattle.text.specs.Word.{isDigit, runLen}
+use Rattle.text.specs.Bytes.{zeroDigit, oneDigit, nineDigit, plusSign, minusSign, powerMark}
+use Rattle.text.specs.Word.{within, isDigit, runLen}
 use Rattle.text.specs.Decimal.{Exponent, up, down, wrong, digitLimit, decimal, digitOf, pastPoint, wholeIsGood, signedPower}
 use Rattle.text.specs.declared.decimal.DecimalWord.{DecimalWord}
 use Rattle.text.specs.declared.decimal.DecimalWord.the-variants as DW
 use Rattle.text.specs.declared.decimal.Power.{Power}
 use Rattle.text.specs.declared.decimal.Power.the-variants as P
+
+-- where a count breaks off: `0` goes on with nothing, a digit 1 to 9 with more digits
+abbrev pub countStop : List ℕ → ℕ
+countStop [] = 0
+countStop (b ∷ bs) = cond (eqb b zeroDigit) 1 (cond (within oneDigit nineDigit b) (suc (runLen bs)) 0)
+
+-- the same after a `-`, which no `0` may follow
+abbrev pub minusStop : List ℕ → ℕ
+minusStop [] = 0
+minusStop (b ∷ bs) = cond (eqb b zeroDigit) 0 (countStop (b ∷ bs))
+
+-- the same of an identifier
+abbrev pub identStop : List ℕ → ℕ
+identStop [] = 0
+identStop (b ∷ bs) = cond (eqb b minusSign) (suc (minusStop bs)) (countStop (b ∷ bs))
 
 -- `+` or `-`
 unfoldable pub isSign : ℕ → Bool

@@ -12,6 +12,12 @@ pub data Word (A : Type 0) : Type 0 where
   malformed outside : Word A
   value : A → Word A
 
+-- a word has the right form, in range or not
+abbrev pub wellFormed : {A : Type 0} → Word A → Bool
+wellFormed malformed = false
+wellFormed outside = true
+wellFormed (value v) = true
+
 -- b is lo to hi
 unfoldable pub within : ℕ → ℕ → ℕ → Bool
 within lo hi b = leb lo b && leb b hi

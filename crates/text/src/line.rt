@@ -13,33 +13,33 @@ use basis::refusal::OUT_OF_RANGE;
 ghost use mathlib.Core.Path.{_≡_};
 ghost use Prim.Native.Nat.{_≤_};
 ghost use lib.ListN.{length};
-ghost use Rattle.text.specs.Word.{value};
+ghost use Rattle.text.specs.Word.{outside, value};
 ghost use Rattle.text.specs.Line.{vertexLine, edgeLine, claimLine, coefficientLine, vertexSays, edgeSays, coefficientSays};
-ghost use Rattle.text.specs.Scan.{scanSays, restAt, restSays, beside, faultBeside, lineOf};
+ghost use Rattle.text.specs.Scan.{scanSays, restAt, restSays, beside, columnAt, Behind, lineOf};
 
 // A reader's place in a file.
 pub struct Cursor {
     pub at: usize,
 }
 
-// A vertex line with the cursor past it; no line left, or a fault, with the cursor as it went in.
+// A vertex line with the cursor past it; no line left, or a fault, its number and its column, with the cursor as it went in.
 pub enum VertexLine {
     End(Cursor),
-    Fault(usize, Cursor),
+    Fault(usize, usize, Cursor),
     Line(i64, Cursor),
 }
 
 // The same of an edge line, and of a claim line whose value is in identifier form.
 pub enum EdgeLine {
     End(Cursor),
-    Fault(usize, Cursor),
+    Fault(usize, usize, Cursor),
     Line(i64, i64, Cursor),
 }
 
 // The same of a claim line whose value is a decimal.
 pub enum CoefficientLine {
     End(Cursor),
-    Fault(usize, Cursor),
+    Fault(usize, usize, Cursor),
     Line(i64, Decimal, Cursor),
 }
 
@@ -67,45 +67,61 @@ fn decimal_rest(s: &[u8], at: usize) -> Rest
     }
 }
 
+// The column of the byte at p in a line that began at `at`, counted from 1.
+fn column(at: usize, p: usize) -> usize
+    requires { ⌜ Behind at p ⌝ }
+    ensures { λ r. ⌜ r ≡ columnAt at p ⌝ }
+{
+    p - at + 1
+}
+
 // An edge line that began at the cursor, of its first number and its second field.
 fn edge_of(c: Cursor, u: i64, second: Scan) -> EdgeLine
+    requires { ⌜ Behind (c .at) (scanSays second .next) ⌝ }
     ensures { λ r. ⌜ edgeSays r ≡ lineOf (c .at) (beside (value u) (scanSays second)) ⌝ }
 {
+    let at = c.at;
     match second {
-        Scan::Bad(_) => EdgeLine::Fault(BAD_FORM, c),
-        Scan::Outside(_) => EdgeLine::Fault(OUT_OF_RANGE, c),
+        Scan::Bad(p) => EdgeLine::Fault(BAD_FORM, column(at, p), c),
+        Scan::Outside(_) => EdgeLine::Fault(OUT_OF_RANGE, 0, c),
         Scan::Value(v, next) => EdgeLine::Line(u, v, Cursor { at: next }),
     }
 }
 
-// The fault of a line whose first number is out of range: one of form in its second field comes before it.
-fn fault_beside(second: Scan) -> usize
-    ensures { λ r. ⌜ r ≡ faultBeside (scanSays second .said) ⌝ }
+// The same where the first number is out of range: a fault of form in the second field comes before it.
+fn edge_outside(c: Cursor, second: Scan) -> EdgeLine
+    requires { ⌜ Behind (c .at) (scanSays second .next) ⌝ }
+    ensures { λ r. ⌜ edgeSays r ≡ lineOf (c .at) (beside outside (scanSays second)) ⌝ }
 {
+    let at = c.at;
     match second {
-        Scan::Bad(_) => BAD_FORM,
-        Scan::Outside(_) => OUT_OF_RANGE,
-        Scan::Value(_, _) => OUT_OF_RANGE,
+        Scan::Bad(p) => EdgeLine::Fault(BAD_FORM, column(at, p), c),
+        Scan::Outside(_) => EdgeLine::Fault(OUT_OF_RANGE, 0, c),
+        Scan::Value(_, _) => EdgeLine::Fault(OUT_OF_RANGE, 0, c),
     }
 }
 
 // A coefficient line that began at the cursor, of its first number and the rest of it.
 fn coefficient_of(c: Cursor, u: i64, second: Rest) -> CoefficientLine
+    requires { ⌜ Behind (c .at) (restSays second .next) ⌝ }
     ensures { λ r. ⌜ coefficientSays r ≡ lineOf (c .at) (beside (value u) (restSays second)) ⌝ }
 {
+    let at = c.at;
     match second {
-        Rest::Bad(_) => CoefficientLine::Fault(BAD_FORM, c),
+        Rest::Bad(p) => CoefficientLine::Fault(BAD_FORM, column(at, p), c),
         Rest::Value(d, next) => CoefficientLine::Line(u, d, Cursor { at: next }),
     }
 }
 
-// The fault of a coefficient line whose first number is out of range.
-fn fault_beside_rest(second: Rest) -> usize
-    ensures { λ r. ⌜ r ≡ faultBeside (restSays second .said) ⌝ }
+// The same where the first number is out of range.
+fn coefficient_outside(c: Cursor, second: Rest) -> CoefficientLine
+    requires { ⌜ Behind (c .at) (restSays second .next) ⌝ }
+    ensures { λ r. ⌜ coefficientSays r ≡ lineOf (c .at) (beside outside (restSays second)) ⌝ }
 {
+    let at = c.at;
     match second {
-        Rest::Bad(_) => BAD_FORM,
-        Rest::Value(_, _) => OUT_OF_RANGE,
+        Rest::Bad(p) => CoefficientLine::Fault(BAD_FORM, column(at, p), c),
+        Rest::Value(_, _) => CoefficientLine::Fault(OUT_OF_RANGE, 0, c),
     }
 }
 
@@ -120,8 +136,8 @@ impl Cursor {
         }
         let x = field(s, at, LF);
         match x {
-            Scan::Bad(_) => VertexLine::Fault(BAD_FORM, self),
-            Scan::Outside(_) => VertexLine::Fault(OUT_OF_RANGE, self),
+            Scan::Bad(p) => VertexLine::Fault(BAD_FORM, column(at, p), self),
+            Scan::Outside(_) => VertexLine::Fault(OUT_OF_RANGE, 0, self),
             Scan::Value(z, next) => VertexLine::Line(z, Cursor { at: next }),
         }
     }
@@ -136,8 +152,8 @@ impl Cursor {
         }
         let x = field(s, at, SPACE);
         match x {
-            Scan::Bad(_) => EdgeLine::Fault(BAD_FORM, self),
-            Scan::Outside(p) => EdgeLine::Fault(fault_beside(field(s, p, LF)), self),
+            Scan::Bad(p) => EdgeLine::Fault(BAD_FORM, column(at, p), self),
+            Scan::Outside(p) => edge_outside(self, field(s, p, LF)),
             Scan::Value(u, p) => edge_of(self, u, field(s, p, LF)),
         }
     }
@@ -159,8 +175,8 @@ impl Cursor {
         }
         let x = field(s, at, SPACE);
         match x {
-            Scan::Bad(_) => CoefficientLine::Fault(BAD_FORM, self),
-            Scan::Outside(p) => CoefficientLine::Fault(fault_beside_rest(decimal_rest(s, p)), self),
+            Scan::Bad(p) => CoefficientLine::Fault(BAD_FORM, column(at, p), self),
+            Scan::Outside(p) => coefficient_outside(self, decimal_rest(s, p)),
             Scan::Value(u, p) => coefficient_of(self, u, decimal_rest(s, p)),
         }
     }

@@ -1,3 +1,4 @@
+use Rattle.text.proofs.Counting.{first-behind, outside-behind, value-behind}
 use Rattle.text.proofs.Lines.{line-end, edge-bad, edge-outside, edge-value}
 use borrow.Author.Needs.{needs}
 use Rattle.text.proofs.line.Cursor.edge.Statement.{statement}
@@ -9,26 +10,29 @@ returns c = search line-end
 field-requires : tie.Need-field-requires
 field-requires c κs = search needs
 
-enum-told : tie.Need-enum-told
-enum-told c = search needs
-
 enum-known-x : tie.Need-enum-known-x
 enum-known-x c = search needs
+
+column-requires : tie.Need-column-requires
+column-requires c κs = search first-behind
+
+enum-known-x-2 : tie.Need-enum-known-x-2
+enum-known-x-2 c = search needs
 
 field-requires-2 : tie.Need-field-requires-2
 field-requires-2 c κs = search needs
 
-fault-beside-requires : tie.Need-fault-beside-requires
-fault-beside-requires c κs = search needs
+edge-outside-requires : tie.Need-edge-outside-requires
+edge-outside-requires c κs = search outside-behind
 
-enum-known-x-2 : tie.Need-enum-known-x-2
-enum-known-x-2 c = search needs
+enum-known-x-3 : tie.Need-enum-known-x-3
+enum-known-x-3 c = search needs
 
 field-requires-3 : tie.Need-field-requires-3
 field-requires-3 c κs = search needs
 
 edge-of-requires : tie.Need-edge-of-requires
-edge-of-requires c κs = search needs
+edge-of-requires c κs = search (value-behind, needs)
 
 returns-2 : tie.Need-returns-2
 returns-2 c = search edge-bad
@@ -45,11 +49,12 @@ edge-spec =
     (tie.spec
     returns
     field-requires
-    enum-told
     enum-known-x
-    field-requires-2
-    fault-beside-requires
+    column-requires
     enum-known-x-2
+    field-requires-2
+    edge-outside-requires
+    enum-known-x-3
     field-requires-3
     edge-of-requires
     returns-2
