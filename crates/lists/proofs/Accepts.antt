@@ -15,8 +15,9 @@ use Rattle.basis.specs.Order.{sameZ, aboveBy, risingBy, risingZ}
 use Rattle.basis.specs.Scan.{each}
 use Rattle.basis.proofs.Tests.{and-first, and-second, and-both}
 use Rattle.text.specs.Word.{identOf}
-use Rattle.text.specs.Line.{twoOf}
+use Rattle.text.specs.Line.{twoOf, identForm, edgeForm}
 use Rattle.text.specs.File.{Before, first, after, Passes, FirstFault}
+use Rattle.text.proofs.Breaks.{ident-right, edge-right}
 use Rattle.text.proofs.Files.{file-accepted, file-refused}
 use Rattle.graph.specs.Find.{placeIn, isThere}
 use Rattle.lists.specs.Files.{vertexTest, identifiers, abovePair, isAbove, edgeTest, edgesOf}
@@ -50,9 +51,9 @@ pass-first (z ∷ l) h = (refl, rises-pass z l h)
 -- a vertex file gives identifiers exactly where it is a good file of them
 pub vertices-accepted : (most : ℕ) (s : List ℕ) (ids : List ℤ) → (identifiers most s ≡ gives ids) ↔ GoodVertices most s ids
 vertices-accepted most s ids = (
-  (λ e. let a = file-accepted identOf vertexFile most vertexTest s ids .0 e in
+  (λ e. let a = file-accepted identForm ident-right vertexFile most vertexTest s ids .0 e in
       record { lines = a .lines; few = a .few; rise = ids-rise ids (a .pass) }),
-  λ g. file-accepted identOf vertexFile most vertexTest s ids .1
+  λ g. file-accepted identForm ident-right vertexFile most vertexTest s ids .1
       (record { lines = g .lines; few = g .few; pass = pass-first ids (g .rise) }),
 )
 
@@ -158,7 +159,7 @@ module _ (undirected : Bool) (ids : List ℤ) where
 pub edges-accepted : (undirected : Bool) (most : ℕ) (ids : List ℤ) (s : List ℕ) (es : List (ℤ × ℤ))
     → (edgesOf undirected most (placeIn ids) s ≡ gives es) ↔ GoodEdges undirected most ids s es
 edges-accepted undirected most ids s es = (
-  (λ e. let a = file-accepted (twoOf identOf identOf) edgeFile most (edgeTest undirected (placeIn ids)) s es .0 e in
+  (λ e. let a = file-accepted edgeForm edge-right edgeFile most (edgeTest undirected (placeIn ids)) s es .0 e in
       let c = clauses-of undirected ids first es (a .pass) in
       record {
         lines = a .lines;
@@ -168,7 +169,7 @@ edges-accepted undirected most ids s es = (
         smaller = c .smaller;
         there = c .there;
       }),
-  λ g. file-accepted (twoOf identOf identOf) edgeFile most (edgeTest undirected (placeIn ids)) s es .1
+  λ g. file-accepted edgeForm edge-right edgeFile most (edgeTest undirected (placeIn ids)) s es .1
       (record {
         lines = g .lines;
         few = g .few;
@@ -180,10 +181,10 @@ edges-accepted undirected most ids s es = (
 -- a vertex file is refused exactly at its first fault, said of its bytes
 pub vertices-refused : (most : ℕ) (s : List ℕ) (r : Refusal)
     → (identifiers most s ≡ refuses r) ↔ FirstFault identOf vertexFile most vertexTest s r
-vertices-refused most s r = file-refused identOf vertexFile most vertexTest s r
+vertices-refused most s r = file-refused identForm ident-right vertexFile most vertexTest s r
 
 -- an edge file is refused exactly at its first fault, said of its bytes
 pub edges-refused : (undirected : Bool) (most : ℕ) (ids : List ℤ) (s : List ℕ) (r : Refusal)
     → (edgesOf undirected most (placeIn ids) s ≡ refuses r)
     ↔ FirstFault (twoOf identOf identOf) edgeFile most (edgeTest undirected (placeIn ids)) s r
-edges-refused undirected most ids s r = file-refused (twoOf identOf identOf) edgeFile most (edgeTest undirected (placeIn ids)) s r
+edges-refused undirected most ids s r = file-refused edgeForm edge-right edgeFile most (edgeTest undirected (placeIn ids)) s r

@@ -13,8 +13,7 @@ use lib.IntN.{ℤ, pos}
 use Rattle.basis.specs.Refusal.{Said, gives, refuses, edgeFile, mapped}
 use Rattle.basis.proofs.Tests.{no-case}
 use Rattle.basis.proofs.Areas.{replicate-at}
-use Rattle.text.specs.Word.{identOf}
-use Rattle.text.specs.Line.{twoOf}
+use Rattle.text.specs.Line.{edgeForm}
 use Rattle.text.specs.File.{after}
 use Rattle.text.proofs.Files.{left, left-start}
 use Rattle.graph.specs.Arcs.{Arc, seconds, bump}
@@ -66,7 +65,7 @@ numbers-stop place (more d n m) r h = no-case cc
 module _ (s : List ℕ) (most : ℕ) (undirected : Bool) (place : ℤ → Found) (counts₀ targets₀ : List ℕ) where
   abbrev edgeLeft : Edges → Said (List (ℤ × ℤ))
   edgeLeft c =
-      left (twoOf identOf identOf) edgeFile most (edgeTest undirected place) s (c .lines) (beforeBy (c .lines) (pairOf c)) (c .at .at)
+      left edgeForm edgeFile most (edgeTest undirected place) s (c .lines) (beforeBy (c .lines) (pairOf c)) (c .at .at)
 
   -- with the lines that are left, its count and its areas come out as the file says
   pub record Gathering (c : Edges) (counts targets : List ℕ) : Type 0 where
@@ -88,7 +87,7 @@ module _ (s : List ℕ) (most : ℕ) (undirected : Bool) (place : ℤ → Found)
         longTargets = refl;
         few = λ i. subst (λ (l : List ℕ). getD l i 0 ≤ 0) (sym a) (let e = replicate-at {A = ℕ} 0 (length counts₀) i in omega arith);
         same = ap (mapped (numberedInto place counts₀ targets₀ 0))
-            (left-start (twoOf identOf identOf) edgeFile most (edgeTest undirected place) s);
+            (left-start edgeForm edgeFile most (edgeTest undirected place) s);
       }
 
   module _ (c : Edges) (counts targets : List ℕ) (g : Gathering c counts targets) (x : EdgeStep)
@@ -98,12 +97,12 @@ module _ (s : List ℕ) (most : ℕ) (undirected : Bool) (place : ℤ → Found)
       stepped =
           numbers-more place (edgeStep undirected most place s c) (pairOf d) (u, v) (d .at .at) (d .lines) (ap edgeStepSays (sym e) ∙ told)
 
-      moved : Moved (twoOf identOf identOf) edgeFile most (edgeTest undirected place) s (c .lines) (beforeBy (c .lines) (pairOf c))
+      moved : Moved edgeForm edgeFile most (edgeTest undirected place) s (c .lines) (beforeBy (c .lines) (pairOf c))
           (c .at .at)
           (pairOf d) (d .at .at) (d .lines)
       unfolding edgeStep
       moved =
-          left-more (twoOf identOf identOf) edgeFile most (edgeTest undirected place) s (c .lines) (beforeBy (c .lines) (pairOf c))
+          left-more edgeForm edgeFile most (edgeTest undirected place) s (c .lines) (beforeBy (c .lines) (pairOf c))
           (c .at .at)
           (g .low) (pairOf d) (d .at .at) (d .lines) (stepped .0)
 
@@ -135,7 +134,7 @@ module _ (s : List ℕ) (most : ℕ) (undirected : Bool) (place : ℤ → Found)
             same =
                 rw (p′, q′, m .counted, before-next (c .lines + 1) (c .lines) (pairOf d) refl)
                 (into-more place counts targets (c .lines) (pairOf d)
-                (left (twoOf identOf identOf) edgeFile most (edgeTest undirected place) s (c .lines + 1) (after (pairOf d)) (d .at .at))
+                (left edgeForm edgeFile most (edgeTest undirected place) s (c .lines + 1) (after (pairOf d)) (d .at .at))
                 ∙ ap (mapped (numberedInto place counts targets (c .lines))) (sym (m .same)) ∙ g .same);
           }
 
@@ -148,13 +147,13 @@ module _ (s : List ℕ) (most : ℕ) (undirected : Bool) (place : ℤ → Found)
         go : (out : Listed) → stop (listedSays out) ≡ edgeStep undirected most place s c
             → edgesLeft out counts targets ≡ mapped (numberedInto place counts₀ targets₀ 0) (edgesOf undirected most place s)
         go (Lines n) e =
-            let l = left-lines (twoOf identOf identOf) edgeFile most (edgeTest undirected place) s (c .lines)
+            let l = left-lines edgeForm edgeFile most (edgeTest undirected place) s (c .lines)
             (beforeBy (c .lines) (pairOf c))
             (c .at .at) n e in
             (let a = l .0 in let b = add-zero (c .lines) in cc) ∙ ap (mapped (numberedInto place counts targets (c .lines))) (sym (l .1))
             ∙ g .same
         go (Refused o) e =
             ap (mapped (numberedInto place counts targets (c .lines)))
-            (sym (left-refused (twoOf identOf identOf) edgeFile most (edgeTest undirected place) s (c .lines)
+            (sym (left-refused edgeForm edgeFile most (edgeTest undirected place) s (c .lines)
             (beforeBy (c .lines) (pairOf c))
             (c .at .at) o (g .low) e)) ∙ g .same

@@ -8,13 +8,13 @@ use borrow.Author.Tests.{le-leb, lt-leb, lt-ltb}
 use lib.Dec.{leb}
 use lib.IntN.{ℤ}
 use lib.Signed.{ltZ}
-use Rattle.basis.specs.Refusal.{gives, refuses, at, tooMany, notAbove, vertexFile, edgeFile}
+use Rattle.basis.specs.Refusal.{gives, refuses, atColumn, at, tooMany, notAbove, vertexFile, edgeFile}
 use Rattle.basis.specs.Order.{sameZ}
 use Rattle.basis.specs.declared.refusal.Refusal.{Refusal}
 use Rattle.basis.proofs.Tests.{no-case}
 use Rattle.basis.specs.Scan.{orElse}
 use Rattle.text.specs.Line.{LineSaid, line, fault, vertexLine, vertexSays, edgeLine, edgeSays}
-use Rattle.text.specs.File.{good, Before, faultOf}
+use Rattle.text.specs.File.{Before, faultOf, badAt}
 use Rattle.text.specs.declared.line.Cursor.{Cursor}
 use Rattle.text.specs.declared.line.VertexLine.{VertexLine}
 use Rattle.text.specs.declared.line.VertexLine.the-variants as VL
@@ -40,12 +40,20 @@ module _ (most k n : ℕ) where
   pub limit-kept : k < most → n ≡ cond (leb most k) tooMany n
   limit-kept h = rw (lt-leb most k h)
 
+-- the refusal of a line that is wrong by itself
+module _ (file most k n c : ℕ) (r : Refusal) where
+  pub bad-over : most ≤ k → r ≡ at tooMany file (k + 1) → r ≡ badAt file most k n c
+  bad-over h e = rw (le-leb most k h) e
+
+  pub bad-here : k < most → r ≡ atColumn n file (k + 1) c → r ≡ badAt file most k n c
+  bad-here h e = rw (lt-leb most k h) e
+
 -- ---- the fault of a vertex line
 module _ (most k : ℕ) (last z : ℤ) where
-  pub vertex-over : most ≤ k → 1 ≡ faultOf vertexFile most vertexTest k (beforeBy k last) (good z)
+  pub vertex-over : most ≤ k → 1 ≡ faultOf vertexFile most vertexTest k (beforeBy k last) z
   vertex-over h = rw (le-leb most k h)
 
-  pub vertex-first : k < most → k ≡ 0 → 0 ≡ faultOf vertexFile most vertexTest k (beforeBy k last) (good z)
+  pub vertex-first : k < most → k ≡ 0 → 0 ≡ faultOf vertexFile most vertexTest k (beforeBy k last) z
   vertex-first h e = rw (lt-leb most k h, e)
 
   module _ (h : k < most) (d : k ≡ 0 → ⊥) where
@@ -54,10 +62,10 @@ module _ (most k : ℕ) (last z : ℤ) where
 
     -- the test t of two signed values x and y, which are the last number and this one
     module _ (x y : ℤ) (p : x ≡ last) (q : y ≡ z) (t : Bool) (e : t ≡ ltZ x y) where
-      pub vertex-rises : t ≡ true → 0 ≡ faultOf vertexFile most vertexTest k (beforeBy k last) (good z)
+      pub vertex-rises : t ≡ true → 0 ≡ faultOf vertexFile most vertexTest k (beforeBy k last) z
       vertex-rises g = rw (lt-leb most k h, later, ← p, ← q, ← e, g)
 
-      pub vertex-falls : t ≡ false → 4 ≡ faultOf vertexFile most vertexTest k (beforeBy k last) (good z)
+      pub vertex-falls : t ≡ false → 4 ≡ faultOf vertexFile most vertexTest k (beforeBy k last) z
       vertex-falls g = rw (lt-leb most k h, later, ← p, ← q, ← e, g)
 
 -- ---- the order of edge lines; a number that is handed on as another is marked
@@ -137,11 +145,10 @@ module _ (ids : List ℤ) (a b a′ : ℤ) (ha : a′ ≡ a) (x : Found) (e : Se
 
 -- ---- one line more, by what it says
 module _ {A : Type 0} (file most : ℕ) (test : Before A → A → ℕ) (k : ℕ) (before : Before A) where
-  by-bad : (n p : ℕ) (f : ℕ) → f ≡ cond (leb most k) tooMany n → (r : Refusal) → r ≡ at f file (k + 1)
-      → stop (refuses r) ≡ stepBy file most test k before (fault n p)
-  by-bad n p f e r g = rw (g, e)
+  by-bad : (n c p : ℕ) (r : Refusal) → r ≡ badAt file most k n c → stop (refuses r) ≡ stepBy file most test k before (fault n c p)
+  by-bad n c p r g = rw g
 
-  module _ (v : A) (next f : ℕ) (e : f ≡ faultOf file most test k before (good v)) where
+  module _ (v : A) (next f : ℕ) (e : f ≡ faultOf file most test k before v) where
     by-more : f ≡ 0 → more v next (k + 1) ≡ stepBy file most test k before (line v next)
     by-more z = rw (← e, z)
 
@@ -161,16 +168,15 @@ module _ (s : List ℕ) (most : ℕ) (c : Vertices) (x : VertexLine) (e : vertex
   pub vertex-end : (p : Cursor) → x ≡ VL.End p → stop (gives (c .lines)) ≡ vertexStep s most c
   vertex-end p q = by (VL.End p) q
 
-  pub vertex-bad : (n : ℕ) (p : Cursor) → x ≡ VL.Fault n p → (f : ℕ) → f ≡ cond (leb most (c .lines)) tooMany n → (r : Refusal)
-      → r ≡ at f vertexFile (c .lines + 1)
+  pub vertex-bad : (n d : ℕ) (p : Cursor) → x ≡ VL.Fault n d p → (r : Refusal) → r ≡ badAt vertexFile most (c .lines) n d
       → stop (refuses r) ≡ vertexStep s most c
-  vertex-bad n p q f g r h =
-      by-bad vertexFile most vertexTest (c .lines) (beforeBy (c .lines) (c .last)) n (p .at) f g r h ∙ by (VL.Fault n p) q
+  vertex-bad n d p q r h =
+      by-bad vertexFile most vertexTest (c .lines) (beforeBy (c .lines) (c .last)) n d (p .at) r h ∙ by (VL.Fault n d p) q
 
   -- the number z, handed on as y, the last one as l
   module _ (z : ℤ) (p : Cursor) (q : x ≡ VL.Line z p) (y l : ℤ) (a : y ≡ z) (b : l ≡ c .last)
-      (f : ℕ) (g : f ≡ faultOf vertexFile most vertexTest (c .lines) (beforeBy (c .lines) l) (good y)) where
-    faulted : f ≡ faultOf vertexFile most vertexTest (c .lines) (beforeBy (c .lines) (c .last)) (good z)
+      (f : ℕ) (g : f ≡ faultOf vertexFile most vertexTest (c .lines) (beforeBy (c .lines) l) y) where
+    faulted : f ≡ faultOf vertexFile most vertexTest (c .lines) (beforeBy (c .lines) (c .last)) z
     faulted = g ∙ rw (a, b)
 
     pub vertex-fault : (f ≡ 0 → ⊥) → (r : Refusal) → r ≡ at f vertexFile (c .lines + 1) → stop (refuses r) ≡ vertexStep s most c
@@ -222,13 +228,13 @@ module _ (undirected : Bool) (most : ℕ) (place : ℤ → Found) (s : List ℕ)
   pub edge-end : (p : Cursor) → x ≡ EL.End p → stop (gives (c .lines)) ≡ withNumbers place (edgeStep undirected most place s c)
   edge-end p q = by-edge (EL.End p) q
 
-  pub edge-bad : (n : ℕ) (p : Cursor) → x ≡ EL.Fault n p → (f : ℕ) → f ≡ cond (leb most (c .lines)) tooMany n → (r : Refusal)
-      → r ≡ at f edgeFile (c .lines + 1)
+  pub edge-bad : (n d : ℕ) (p : Cursor) → x ≡ EL.Fault n d p → (r : Refusal)
+      → r ≡ badAt edgeFile most (c .lines) n d
       → stop (refuses r) ≡ withNumbers place (edgeStep undirected most place s c)
-  edge-bad n p q f g r h =
-      ap (withNumbers place) (by-bad edgeFile most (edgeTest undirected place) (c .lines) (beforeBy (c .lines) (pairOf c)) n (p .at) f g r
-      h)
-      ∙ by-edge (EL.Fault n p) q
+  edge-bad n d p q r h =
+      ap (withNumbers place)
+      (by-bad edgeFile most (edgeTest undirected place) (c .lines) (beforeBy (c .lines) (pairOf c)) n d (p .at) r h)
+      ∙ by-edge (EL.Fault n d p) q
 
   -- the edge from a to b, handed on as a′ and b′, and the one before it
   module _ (a b : ℤ) (p : Cursor) (q : x ≡ EL.Line a b p) (a′ b′ d′ e′ : ℤ) (ha : a′ ≡ a) (hb : b′ ≡ b) (hd : d′ ≡ c .first)
@@ -239,7 +245,7 @@ module _ (undirected : Bool) (most : ℕ) (place : ℤ → Found) (s : List ℕ)
     before = beforeBy (c .lines) (pairOf c)
 
     abbrev lineFault : ℕ
-    lineFault = faultOf edgeFile most (edgeTest undirected place) (c .lines) before (good (a, b))
+    lineFault = faultOf edgeFile most (edgeTest undirected place) (c .lines) before (a, b)
 
     order-is : orderFault undirected before (a, b) ≡ o
     order-is = rw (← ha, ← hb, ← hd, ← he) (sym h)

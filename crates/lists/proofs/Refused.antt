@@ -5,15 +5,16 @@ use mathlib.Core.Bool.{Bool, true, false, cond, _&&_}
 use mathlib.Core.List.{List}
 use native.Mathlib.Omega.{arith}
 use lib.IntN.{ℤ}
+use lib.ListN.{length}
 use lib.Signed.{ltZ}
 use Rattle.basis.specs.Refusal.{vertexFile, edgeFile}
 use Rattle.basis.specs.Order.{sameZ}
 use Rattle.basis.proofs.Saids.{Either, Any}
 use Rattle.graph.specs.declared.find.Found.{Found}
 use Rattle.graph.specs.Find.{isThere}
-use Rattle.text.specs.Word.{identOf}
-use Rattle.text.specs.Line.{twoOf}
+use Rattle.text.specs.Line.{identForm, edgeForm}
 use Rattle.text.specs.File.{Before, first, after}
+use Rattle.text.proofs.Breaks.{ident-right, edge-right}
 use Rattle.text.proofs.Files.{FileRefusal, file-refusal}
 use Rattle.lists.specs.Files.{vertexTest, identifiers, isAbove, edgeTest, edgesOf}
 
@@ -37,10 +38,10 @@ edge-low undirected place before e =
     go false false true false = omega arith
     go false false false d = omega arith
 
-pub vertices-refusal : (most : ℕ) (s : List ℕ) → Either Any (FileRefusal vertexFile most) (identifiers most s)
-vertices-refusal most s = file-refusal identOf vertexFile most vertexTest vertex-low s
+pub vertices-refusal : (most : ℕ) (s : List ℕ) → Either Any (FileRefusal vertexFile most (length s)) (identifiers most s)
+vertices-refusal most s = file-refusal identForm ident-right vertexFile most vertexTest vertex-low s
 
 pub edges-refusal : (undirected : Bool) (most : ℕ) (place : ℤ → Found) (s : List ℕ)
-    → Either Any (FileRefusal edgeFile most) (edgesOf undirected most place s)
+    → Either Any (FileRefusal edgeFile most (length s)) (edgesOf undirected most place s)
 edges-refusal undirected most place s =
-    file-refusal (twoOf identOf identOf) edgeFile most (edgeTest undirected place) (edge-low undirected place) s
+    file-refusal edgeForm edge-right edgeFile most (edgeTest undirected place) (edge-low undirected place) s

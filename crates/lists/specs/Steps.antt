@@ -10,7 +10,7 @@ use lib.Dec.{ltb}
 use Rattle.basis.specs.Refusal.{Said, gives, refuses, at, mapped, notAbove, selfEdge, largerFirst, vertexFile, edgeFile}
 use Rattle.basis.specs.Order.{sameZ}
 use Rattle.text.specs.Line.{LineSaid, line, none, fault, vertexLine, edgeLine}
-use Rattle.text.specs.File.{good, bad, Before, first, after, faultOf}
+use Rattle.text.specs.File.{Before, first, after, faultOf, badAt}
 use Rattle.graph.specs.Arcs.{Arc, seconds, bumps}
 use Rattle.graph.specs.declared.find.Found.{Found}
 use Rattle.graph.specs.declared.find.Found.the-variants.{At, Missing}
@@ -40,9 +40,9 @@ module _ {A : Type 0} (file most : ℕ) (test : Before A → A → ℕ) where
 
   -- after k lines, by what is read next: a line's values or its fault, or the count k where no line is left
   abbrev pub stepBy : ℕ → Before A → LineSaid A → LineStep A
-  stepBy k before (line v next) = byFault k v next (faultOf file most test k before (good v))
+  stepBy k before (line v next) = byFault k v next (faultOf file most test k before v)
   stepBy k before (none p) = stop (gives k)
-  stepBy k before (fault n p) = stop (refuses (at (faultOf file most test k before (bad n)) file (k + 1)))
+  stepBy k before (fault n c p) = stop (refuses (badAt file most k n c))
 
 -- the line before, of a reader that passed k lines
 abbrev pub beforeBy : {A : Type 0} → ℕ → A → Before A

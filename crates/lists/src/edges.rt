@@ -1,5 +1,6 @@
 // The edge file, line by line.
 use crate::Listed;
+use crate::bad_line;
 use crate::limited;
 use basis::Refusal;
 use basis::area::clear;
@@ -115,11 +116,9 @@ fn edge_step(s: &[u8], most: usize, undirected: bool, ids: &[i64], c: Edges) -> 
     let line = place.edge(s);
     match line {
         EdgeLine::End(_) => EdgeStep::Stop(Listed::Lines(k)),
-        EdgeLine::Fault(n, _) => EdgeStep::Stop(Listed::Refused(Refusal::at(
-            limited(most, k, n),
-            EDGE_FILE,
-            k + 1,
-        ))),
+        EdgeLine::Fault(n, column, _) => {
+            EdgeStep::Stop(Listed::Refused(bad_line(EDGE_FILE, most, k, n, column)))
+        }
         EdgeLine::Line(a, b, next) => {
             let fault = limited(most, k, order_fault(undirected, k, c.first, c.second, a, b));
             if fault != 0 {

@@ -1,6 +1,6 @@
 // The vertex file, line by line.
 use crate::Listed;
-use crate::limited;
+use crate::bad_line;
 use basis::Refusal;
 use basis::area::clear_signed;
 use basis::order::less;
@@ -13,7 +13,7 @@ ghost use mathlib.Core.Path.{_≡_};
 ghost use Prim.Native.Nat.{_+_, _-_, _<_, _^_};
 ghost use lib.ListN.{length, set};
 ghost use Rattle.basis.specs.Refusal.{vertexFile, mapped};
-ghost use Rattle.text.specs.File.{good, faultOf};
+ghost use Rattle.text.specs.File.{faultOf};
 ghost use Rattle.lists.specs.Files.{vertexTest, identifiers};
 ghost use Rattle.lists.specs.Calls.{listedSays, vertexOutcome, vertexCall};
 ghost use Rattle.lists.specs.Steps.{beforeBy, vertexStep, vertexStepSays, idsInto, idsLeft};
@@ -33,7 +33,7 @@ enum VertexStep {
 
 // The fault of a vertex line z after k lines, or 0.
 fn vertex_fault(most: usize, k: usize, last: i64, z: i64) -> usize
-    ensures { λ r. ⌜ r ≡ faultOf vertexFile most vertexTest k (beforeBy k last) (good z) ⌝ }
+    ensures { λ r. ⌜ r ≡ faultOf vertexFile most vertexTest k (beforeBy k last) z ⌝ }
 {
     if most <= k {
         return TOO_MANY;
@@ -58,11 +58,9 @@ fn vertex_step(s: &[u8], most: usize, c: Vertices) -> VertexStep
     let line = place.vertex(s);
     match line {
         VertexLine::End(_) => VertexStep::Stop(Listed::Lines(k)),
-        VertexLine::Fault(n, _) => VertexStep::Stop(Listed::Refused(Refusal::at(
-            limited(most, k, n),
-            VERTEX_FILE,
-            k + 1,
-        ))),
+        VertexLine::Fault(n, column, _) => {
+            VertexStep::Stop(Listed::Refused(bad_line(VERTEX_FILE, most, k, n, column)))
+        }
         VertexLine::Line(z, next) => {
             let fault = vertex_fault(most, k, last, z);
             if fault != 0 {

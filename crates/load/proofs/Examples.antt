@@ -3,12 +3,12 @@ use mathlib.Core.Path.{_≡_, refl}
 use mathlib.Core.List.{List, [], _∷_}
 use Prim.Native.Nat.{ℕ}
 use lib.IntN.{pos, negsuc}
-use Rattle.basis.specs.Refusal.{gives, refuses, at, plain}
+use Rattle.basis.specs.Refusal.{gives, refuses, atColumn, at, plain}
 use Rattle.basis.specs.Scan.{each, mem}
 use Rattle.basis.specs.Area.{column}
 use Rattle.text.specs.Bytes.{bytes}
 use Rattle.text.specs.Word.{within}
-use Rattle.text.specs.Line.{lineBy, twoOf}
+use Rattle.text.specs.Line.{lineBy, twoOf, twoStop}
 use Rattle.text.specs.File.{linesFrom, valuesFrom}
 use Rattle.graph.specs.Find.{placeFrom}
 use Rattle.lists.specs.Files.{edgeTest}
@@ -88,3 +88,12 @@ not-there = refl
 twice : loaded library 0 (roomOf 3 4 4 4 4) three (bytes "1 2\n1 2\n") ≡ refuses (at 4 2 2)
 unfolding three each mem within lineBy twoOf placeFrom linesFrom valuesFrom edgeTest arcsRead listsRead loaded
 twice = refl
+
+-- a tab behind the third vertex is in column 2 of line 3, and one behind the first edge's second number in column 4 of line 1
+tab-behind-vertex : loaded library 0 (roomOf 3 4 4 4 4) (bytes "1\n2\n3\t\n") star ≡ refuses (atColumn 2 1 3 2)
+unfolding star each mem within lineBy twoOf placeFrom linesFrom valuesFrom edgeTest arcsRead listsRead loaded
+tab-behind-vertex = refl
+
+tab-behind-edge : loaded library 0 (roomOf 3 4 4 4 4) three (bytes "1 2\t\n") ≡ refuses (atColumn 2 2 1 4)
+unfolding three each mem within lineBy twoOf twoStop placeFrom linesFrom valuesFrom edgeTest arcsRead listsRead loaded
+tab-behind-edge = refl

@@ -12,9 +12,9 @@ use lib.IntN.{ℤ}
 use Rattle.basis.specs.Refusal.{gives, edgeFile}
 use Rattle.basis.specs.Order.{risingZ}
 use Rattle.basis.proofs.Tests.{clash}
-use Rattle.text.specs.Word.{identOf}
-use Rattle.text.specs.Line.{twoOf}
+use Rattle.text.specs.Line.{edgeForm}
 use Rattle.text.specs.File.{Before, first, after, Passes}
+use Rattle.text.proofs.Breaks.{edge-right}
 use Rattle.text.proofs.Files.{file-accepted}
 use Rattle.graph.specs.Arcs.{Arc}
 use Rattle.graph.specs.Find.{placeIn}
@@ -85,4 +85,4 @@ module _ (ids : List ℤ) (rise : risingZ ids ≡ true) where
     pub valid-file : (most : ℕ) (s : List ℕ) (es : List (ℤ × ℤ)) → edgesOf undirected most (placeIn ids) s ≡ gives es
         → Valid undirected (length ids) (allNumbered (placeIn ids) es)
     valid-file most s es e =
-        valid-edges first es (file-accepted (twoOf identOf identOf) edgeFile most (edgeTest undirected (placeIn ids)) s es .0 e .pass)
+        valid-edges first es (file-accepted edgeForm edge-right edgeFile most (edgeTest undirected (placeIn ids)) s es .0 e .pass)

@@ -10,11 +10,12 @@ use Rattle.basis.specs.declared.refusal.Refusal.{Refusal}
 use Rattle.basis.specs.Refusal.{Said, gives, refuses, claimFile}
 use Rattle.basis.specs.Order.{sameZ}
 use Rattle.basis.proofs.Saids.{refused-given}
-use Rattle.text.specs.Word.{Word, identOf}
+use Rattle.text.specs.Word.{identOf}
 use Rattle.text.specs.Decimal.{decimalOf}
-use Rattle.text.specs.Line.{lineBy, twoOf}
+use Rattle.text.specs.Line.{Form, lineBy, twoOf, identForm, pairForm, decimalForm}
 use Rattle.text.specs.File.{noTest, GoodFile, FirstFault}
 use Rattle.text.specs.declared.decimal.Decimal.{Decimal}
+use Rattle.text.proofs.Breaks.{RightStop, ident-right, decimal-right, pair-right}
 use Rattle.text.proofs.Files.{file-accepted, file-refused}
 use Rattle.matching.specs.Claim.{claimLines, numberLines, coefficientLines, claimedOf}
 use Rattle.matching.specs.Verdict.{Verdict, matched, incompleteAt, mismatchAt, Fraction}
@@ -24,29 +25,29 @@ use Rattle.matching.proofs.Leasts.{first-least, line-exactly, unlike-le
 use Rattle.matching.proofs.Meaning.{same-list, accepted-exactly, incomplete-exactly, mismatch-exactly, equal-exactly}
 
 -- ---- a claim's lines, on its bytes: read exactly where they say the lines, at most so many; refused exactly at the first fault
-module _ {A : Type 0} (word : List ℕ → Word A) (most : ℕ) (s : List ℕ) where
-  claim-read : (l : List (ℤ × A)) → (claimLines (lineBy (twoOf identOf word)) most s ≡ gives l)
-      ↔ GoodFile (twoOf identOf word) most noTest s l
-  claim-read l = file-accepted (twoOf identOf word) claimFile most noTest s l
+module _ {A : Type 0} (form : Form A) (R : RightStop form) (most : ℕ) (s : List ℕ) where
+  claim-read : (l : List (ℤ × A)) → (claimLines (lineBy (pairForm form)) most s ≡ gives l)
+      ↔ GoodFile (twoOf identOf (form .word)) most noTest s l
+  claim-read l = file-accepted (pairForm form) (pair-right form R) claimFile most noTest s l
 
-  claim-refused : (r : Refusal) → (claimLines (lineBy (twoOf identOf word)) most s ≡ refuses r)
-      ↔ FirstFault (twoOf identOf word) claimFile most noTest s r
-  claim-refused r = file-refused (twoOf identOf word) claimFile most noTest s r
+  claim-refused : (r : Refusal) → (claimLines (lineBy (pairForm form)) most s ≡ refuses r)
+      ↔ FirstFault (twoOf identOf (form .word)) claimFile most noTest s r
+  claim-refused r = file-refused (pairForm form) (pair-right form R) claimFile most noTest s r
 
 module _ (most : ℕ) (s : List ℕ) where
   pub numbers-read : (l : List (ℤ × ℤ)) → (numberLines most s ≡ gives l) ↔ GoodFile (twoOf identOf identOf) most noTest s l
-  numbers-read l = claim-read identOf most s l
+  numbers-read l = claim-read identForm ident-right most s l
 
   pub numbers-refused : (r : Refusal) → (numberLines most s ≡ refuses r) ↔ FirstFault (twoOf identOf identOf) claimFile most noTest s r
-  numbers-refused r = claim-refused identOf most s r
+  numbers-refused r = claim-refused identForm ident-right most s r
 
   pub coefficients-read : (l : List (ℤ × Decimal))
       → (coefficientLines most s ≡ gives l) ↔ GoodFile (twoOf identOf decimalOf) most noTest s l
-  coefficients-read l = claim-read decimalOf most s l
+  coefficients-read l = claim-read decimalForm decimal-right most s l
 
   pub coefficients-refused : (r : Refusal) → (coefficientLines most s ≡ refuses r)
       ↔ FirstFault (twoOf identOf decimalOf) claimFile most noTest s r
-  coefficients-refused r = claim-refused decimalOf most s r
+  coefficients-refused r = claim-refused decimalForm decimal-right most s r
 
 -- ---- a verdict is given on lines that were read, and a refusal is theirs
 module _ {A : Type 0} (ids : List ℤ) (mismatch : List A → ℕ) where
@@ -62,19 +63,19 @@ module _ {A : Type 0} (ids : List ℤ) (mismatch : List A → ℕ) where
   on-fault (refuses q) r = (λ e. cc, λ e. cc)
 
 -- ---- by any method that says where values match and at which place they are wrong
-module _ {A : Type 0} (word : List ℕ → Word A) (most : ℕ) (ids : List ℤ) (mismatch : List A → ℕ) (Matches : List A → Type 0)
+module _ {A : Type 0} (form : Form A) (R : RightStop form) (most : ℕ) (ids : List ℤ) (mismatch : List A → ℕ) (Matches : List A → Type 0)
     (Wrong : List A → ℕ → Type 0)
     (match : (vs : List A) → (mismatch vs ≡ 0) ↔ Matches vs)
     (wrong : (vs : List A) (i : ℕ) → (mismatch vs ≡ suc i) ↔ Least (Wrong vs) i)
     (s : List ℕ) where
   abbrev read : Said (List (ℤ × A))
-  read = claimLines (lineBy (twoOf identOf word)) most s
+  read = claimLines (lineBy (pairForm form)) most s
 
-  read-as : {l : List (ℤ × A)} {v : Verdict} → GoodFile (twoOf identOf word) most noTest s l → judgedBy ids mismatch (gives l) ≡ gives v
+  read-as : {l : List (ℤ × A)} {v : Verdict} → GoodFile (twoOf identOf (form .word)) most noTest s l → judgedBy ids mismatch (gives l) ≡ gives v
       → judgedBy ids mismatch read ≡ gives v
-  read-as {l} g e = ap (judgedBy ids mismatch) (claim-read word most s l .1 g) ∙ e
+  read-as {l} g e = ap (judgedBy ids mismatch) (claim-read form R most s l .1 g) ∙ e
 
-  pub judged-exactly : Judges word most ids Matches Wrong s (judgedBy ids mismatch read)
+  pub judged-exactly : Judges (form .word) most ids Matches Wrong s (judgedBy ids mismatch read)
   judged-exactly =
       record {
         accepted = (
@@ -83,7 +84,7 @@ module _ {A : Type 0} (word : List ℕ → Word A) (most : ℕ) (ids : List ℤ)
               let m = accepted-exactly ids mismatch (h .0) .0 (h .2) in
               record {
                 lines = h .0;
-                file = claim-read word most s (h .0) .0 (h .1);
+                file = claim-read form R most s (h .0) .0 (h .1);
                 complete = m .0;
                 matches = match (claimedOf (h .0)) .0 (m .1);
               },
@@ -94,7 +95,7 @@ module _ {A : Type 0} (word : List ℕ → Word A) (most : ℕ) (ids : List ℤ)
               let h = on-lines ids mismatch read (incompleteAt (suc i)) e in
               record {
                 lines = h .0;
-                file = claim-read word most s (h .0) .0 (h .1);
+                file = claim-read form R most s (h .0) .0 (h .1);
                 first = incomplete-exactly ids mismatch (h .0) i .0 (h .2);
               },
           λ g. read-as (g .file) (incomplete-exactly ids mismatch (g .lines) i .1 (g .first)),
@@ -105,7 +106,7 @@ module _ {A : Type 0} (word : List ℕ → Word A) (most : ℕ) (ids : List ℤ)
               let m = mismatch-exactly ids mismatch (h .0) i .0 (h .2) in
               record {
                 lines = h .0;
-                file = claim-read word most s (h .0) .0 (h .1);
+                file = claim-read form R most s (h .0) .0 (h .1);
                 complete = m .0;
                 first = wrong (claimedOf (h .0)) i .0 (m .1);
               },
@@ -113,8 +114,8 @@ module _ {A : Type 0} (word : List ℕ → Word A) (most : ℕ) (ids : List ℤ)
               (g .complete, wrong (claimedOf (g .lines)) i .1 (g .first))),
         );
         refused = λ r. (
-          λ e. claim-refused word most s r .0 (on-fault ids mismatch read r .0 e),
-          λ f. on-fault ids mismatch read r .1 (claim-refused word most s r .1 f),
+          λ e. claim-refused form R most s r .0 (on-fault ids mismatch read r .0 e),
+          λ f. on-fault ids mismatch read r .1 (claim-refused form R most s r .1 f),
         );
       }
 
@@ -125,7 +126,7 @@ module _ (most : ℕ) (ids : List ℤ) where
       → Judges identOf most ids (λ vs. vs ≡ reference) (Differs sameZ (pos 0) (pos 0) reference) s
       (judgedBy ids (unequalLine reference) (numberLines most s))
   exact-judged reference s =
-      judged-exactly identOf most ids (unequalLine reference) (λ vs. vs ≡ reference) (Differs sameZ (pos 0) (pos 0) reference)
+      judged-exactly identForm ident-right most ids (unequalLine reference) (λ vs. vs ≡ reference) (Differs sameZ (pos 0) (pos 0) reference)
       (λ vs. same-list reference vs) (λ vs i. first-least sameZ (pos 0) (pos 0) reference vs i) s
 
   -- "Equivalence match", where labels are equal exactly at places that belong together
@@ -133,7 +134,7 @@ module _ (most : ℕ) (ids : List ℤ) where
       → (s : List ℕ)
       → Judges identOf most ids (EqualWhere n Together) (Disagrees labels) s (judgedBy ids (unlikeLine labels) (numberLines most s))
   equivalence-judged labels n long Together same s =
-      judged-exactly identOf most ids (unlikeLine labels) (EqualWhere n Together) (Disagrees labels)
+      judged-exactly identForm ident-right most ids (unlikeLine labels) (EqualWhere n Together) (Disagrees labels)
       (λ vs. equal-exactly labels vs n long Together same) (λ vs i. unlike-least labels vs i) s
 
   -- "Epsilon match"
@@ -141,5 +142,5 @@ module _ (most : ℕ) (ids : List ℤ) where
       → Judges decimalOf most ids (Alike near (0, 1) any reference) (Differs near (0, 1) any reference) s
       (judgedBy ids (farLine reference) (coefficientLines most s))
   epsilon-judged any reference s =
-      judged-exactly decimalOf most ids (farLine reference) (Alike near (0, 1) any reference) (Differs near (0, 1) any reference)
+      judged-exactly decimalForm decimal-right most ids (farLine reference) (Alike near (0, 1) any reference) (Differs near (0, 1) any reference)
       (λ vs. line-exactly near (0, 1) any reference vs) (λ vs i. first-least near (0, 1) any reference vs i) s

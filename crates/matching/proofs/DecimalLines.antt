@@ -10,15 +10,13 @@ use lib.ListN.{length, getD}
 use mir.Syntax.{w64}
 use mir.Val.{toZ, ofZ}
 use borrow.Author.Tests.{lt-ltb, le-ltb, ltb-true}
-use Rattle.basis.specs.Refusal.{Said, gives, refuses, at, plain, noRoom, tooMany, claimFile}
+use Rattle.basis.specs.Refusal.{Said, gives, refuses, atColumn, at, plain, noRoom, tooMany, claimFile}
 use Rattle.basis.specs.declared.refusal.Refusal.{Refusal}
 use Rattle.basis.specs.Order.{sameZ}
 use Rattle.basis.proofs.Tests.{bool-cases, failed, held, and-off}
 use Rattle.basis.proofs.Areas.{column-at, column-length}
 use Rattle.basis.specs.Scan.{orElse}
-use Rattle.text.specs.Word.{identOf}
-use Rattle.text.specs.Decimal.{decimalOf}
-use Rattle.text.specs.Line.{line, twoOf, coefficientLine, coefficientSays}
+use Rattle.text.specs.Line.{line, pairForm, decimalForm, coefficientLine, coefficientSays}
 use Rattle.text.specs.File.{noTest}
 use Rattle.text.specs.declared.decimal.Decimal.{Decimal}
 use Rattle.text.specs.declared.line.Cursor.{Cursor}
@@ -53,7 +51,7 @@ module _ (a b : ℕ) (s : Decimal) where
 -- ---- the lines: k of them are done, up to a place
 pub record Decimals (most : ℕ) (ids : List ℤ) (nums dens : List ℕ) (s : List ℕ) (place k incomplete mismatch : ℕ) : Type 0 where
   pub done : List (ℤ × Decimal)
-  pub passed : Passed (twoOf identOf decimalOf) claimFile most noTest s done place k
+  pub passed : Passed (pairForm decimalForm) claimFile most noTest s done place k
   pub covers : Against sameZ ids (idsOf done) k incomplete
   pub nears : Against nearWithin (fractions (length ids) nums dens) (claimedOf done) k mismatch
 
@@ -73,7 +71,7 @@ module _ (most : ℕ) (ids : List ℤ) (nums dens : List ℕ) (s : List ℕ) whe
   decimals-none =
       record {
         done = [];
-        passed = passed-none (twoOf identOf decimalOf) claimFile most noTest s;
+        passed = passed-none (pairForm decimalForm) claimFile most noTest s;
         covers = against-none sameZ ids;
         nears = against-none nearWithin (fractions (length ids) nums dens);
       }
@@ -111,14 +109,14 @@ module _ (most : ℕ) (ids : List ℤ) (nums dens : List ℕ) (s : List ℕ) whe
           → (j : Judged) → says j ≡ gives (verdictOf i mismatch)
           → says j ≡ judgedBy ids (farWithin (fractions (length ids) nums dens)) (coefficientLines most s)
       decimals-end c q =
-          ended (passed-end (twoOf identOf decimalOf) claimFile most noTest s (h .passed) (c .at) (sym e ∙ ap coefficientSays q))
+          ended (passed-end (pairForm decimalForm) claimFile most noTest s (h .passed) (c .at) (sym e ∙ ap coefficientSays q))
 
       module _ (l : k < most) where
-        pub decimals-fault : (n : ℕ) (c : Cursor) → x ≡ CL.Fault n c → (r : Refusal) → r ≡ at n claimFile (k + 1)
+        pub decimals-fault : (n b : ℕ) (c : Cursor) → x ≡ CL.Fault n b c → (r : Refusal) → r ≡ atColumn n claimFile (k + 1) b
             → refuses r ≡ judgedBy ids (farWithin (fractions (length ids) nums dens)) (coefficientLines most s)
         unfolding judgedBy
-        decimals-fault n c q r p =
-            rw (passed-fault (twoOf identOf decimalOf) claimFile most noTest s (h .passed) l n (c .at) (sym e ∙ ap coefficientSays q), p)
+        decimals-fault n b c q r p =
+            rw (passed-fault (pairForm decimalForm) claimFile most noTest s (h .passed) l n b (c .at) (sym e ∙ ap coefficientSays q), p)
 
         pub decimals-next : (id : ℤ) (d : Decimal) (c : Cursor) → x ≡ CL.Line id d c
             → {i : ℕ} → i ≡ coverStep ids k (toZ w64 (ofZ w64 id)) incomplete → {m : ℕ} → m ≡ nearStep (length ids) nums dens k d mismatch
@@ -126,7 +124,7 @@ module _ (most : ℕ) (ids : List ℤ) (nums dens : List ℕ) (s : List ℕ) whe
         decimals-next id d c q r r′ =
             record {
               done = h .done ++ ((id, d) ∷ []);
-              passed = passed-next (twoOf identOf decimalOf) claimFile most noTest s (h .passed) l (id, d) (c .at) here refl;
+              passed = passed-next (pairForm decimalForm) claimFile most noTest s (h .passed) l (id, d) (c .at) here refl;
               covers = rw (ids-more (h .done) (id, d), r, bits-back id (coefficient-range s place id d (c .at) here))
                   (against-next sameZ ids (pos 0) (idsOf (h .done)) k incomplete (h .covers) id);
               nears = rw (values-more (h .done) (id, d), r′, ← placed (length ids) nums dens k d)
@@ -140,12 +138,12 @@ module _ (most : ℕ) (ids : List ℤ) (nums dens : List ℕ) (s : List ℕ) whe
     pub decimals-over : most ≤ k → place < length s → (r : Refusal) → r ≡ at tooMany claimFile (k + 1)
         → refuses r ≡ judgedBy ids (farWithin (fractions (length ids) nums dens)) (coefficientLines most s)
     unfolding judgedBy
-    decimals-over l g r p = rw (passed-over (twoOf identOf decimalOf) claimFile most noTest s (h .passed) l g, p)
+    decimals-over l g r p = rw (passed-over (pairForm decimalForm) claimFile most noTest s (h .passed) l g, p)
 
     pub decimals-full : length s ≤ place → (i : ℕ) → i ≡ endLine (length ids) k incomplete
         → (j : Judged) → says j ≡ gives (verdictOf i mismatch)
         → says j ≡ judgedBy ids (farWithin (fractions (length ids) nums dens)) (coefficientLines most s)
-    decimals-full g = ended (passed-full (twoOf identOf decimalOf) claimFile most noTest s (h .passed) g)
+    decimals-full g = ended (passed-full (pairForm decimalForm) claimFile most noTest s (h .passed) g)
 
   -- ---- the whole call, by the test of room t
   module _ {t : Bool} (e : t ≡ (leb (length ids) (length nums) && leb (length ids) (length dens))) where

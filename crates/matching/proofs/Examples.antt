@@ -5,12 +5,13 @@ use mathlib.Core.List.{List, [], _∷_}
 use Prim.Native.Nat.{ℕ}
 use lib.IntN.{pos}
 use Rattle.basis.specs.Limits.{mostVertices}
-use Rattle.basis.specs.Refusal.{Said, gives, refuses, at}
+use Rattle.basis.specs.Refusal.{Said, gives, refuses, atColumn, at}
 use Rattle.basis.specs.Scan.{every, each, mem}
 use Rattle.text.specs.Bytes.{bytes}
 use Rattle.text.specs.Word.{within}
 use Rattle.text.specs.Decimal.{digitOf, pastPoint, wholeIsGood, signedPower, powerAt, partsOf, fractionOf, decimalOf}
-use Rattle.text.specs.Line.{lineBy, twoOf}
+use Rattle.text.specs.Stop.{isSign, digitsStop, powerStop, partsStop, fractionStop, decimalStop}
+use Rattle.text.specs.Line.{lineBy, twoOf, twoStop}
 use Rattle.text.specs.File.{linesFrom, valuesFrom}
 use Rattle.matching.specs.Close.{isClose}
 use Rattle.matching.specs.Claim.{numberLines, coefficientLines}
@@ -33,13 +34,13 @@ pub record Others : Type 0 where
   pub surplus : depthClaim 4 (bytes "1 0\n2 1\n3 1\n4 1\n") ≡ gives (incompleteAt 4)
   pub other : depthClaim 3 (bytes "1 5\n4 1\n3 1\n") ≡ gives (incompleteAt 2)
   pub tooMany : depthClaim 2 (bytes "1 0\n2 1\nx") ≡ refuses (at 1 3 3)
-  pub malformed : depthClaim 3 (bytes "2 0\n2 1\n3 01\n") ≡ refuses (at 2 3 3)
+  pub malformed : depthClaim 3 (bytes "2 0\n2 1\n3 01\n") ≡ refuses (atColumn 2 3 3 4)
   pub outside : depthClaim 3 (bytes "2 0\n2 9223372036854775808\n") ≡ refuses (at 3 3 2)
   pub scientific : coefficientClaim (1, 2) (bytes "1 5.0e-01\n") ≡ gives matched
   pub zero : coefficientClaim (0, 1) (bytes "1 0.00e+99\n") ≡ gives matched
   pub notZero : coefficientClaim (0, 1) (bytes "1 1e-99\n") ≡ gives (mismatchAt 1)
   pub huge : coefficientClaim (1, 1) (bytes "1 1e+99\n") ≡ gives (mismatchAt 1)
-  pub bare : coefficientClaim (1, 1) (bytes "1 1.\n") ≡ refuses (at 2 3 1)
+  pub bare : coefficientClaim (1, 1) (bytes "1 1.\n") ≡ refuses (atColumn 2 3 1 5)
   -- 17 digits on both sides of the line, which is 0.33336 and sixes for ever
   pub lastInside : coefficientClaim (1, 3) (bytes "1 3.3336666666666666e-01\n") ≡ gives matched
   pub firstOutside : coefficientClaim (1, 3) (bytes "1 3.3336666666666667e-01\n") ≡ gives (mismatchAt 1)
@@ -49,8 +50,8 @@ pub record Others : Type 0 where
   pub largestDown : coefficientClaim (1, 4294770690) (bytes "1 99999999999999999e-99\n") ≡ gives (mismatchAt 1)
 
 pub others : Others
-unfolding judgedBy firstLine every each mem linesFrom valuesFrom lineBy twoOf isClose decimalOf fractionOf partsOf powerAt signedPower
-    wholeIsGood pastPoint digitOf within
+unfolding judgedBy firstLine every each mem linesFrom valuesFrom lineBy twoOf twoStop isClose decimalOf fractionOf partsOf powerAt
+    signedPower wholeIsGood pastPoint digitOf within isSign digitsStop powerStop partsStop fractionStop decimalStop
 others = record {
   matches = refl;
   mismatches = refl;

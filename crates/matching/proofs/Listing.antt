@@ -4,7 +4,6 @@ use mathlib.Core.Bool.{false}
 use mathlib.Core.List.{List, [], _∷_, _++_, map, append-assoc}
 use Prim.Native.Nat.{ℕ, suc, _≤_}
 use native.Mathlib.Omega.{arith}
-use borrow.Author.Tests.{eq-eqb, ne-eqb, eqb-false}
 use lib.IntN.{ℤ}
 use lib.ListN.{length}
 use mir.Syntax.{w64}
@@ -14,10 +13,11 @@ use Rattle.basis.specs.Scan.{mem}
 use Rattle.text.specs.Word.{Word, value, within, identOf}
 use Rattle.text.specs.Decimal.{decimalOf}
 use Rattle.text.specs.Bytes.{lf, space}
-use Rattle.text.specs.Line.{past, twoOf, lineBy}
+use Rattle.text.specs.Line.{Form, twoOf, lineBy, identForm, pairForm, decimalForm}
 use Rattle.text.specs.File.{joined, Says, first, noTest}
 use Rattle.text.specs.declared.decimal.Decimal.{Decimal}
-use Rattle.text.proofs.Bytes.{mem-cut, not-head, not-tail, mem-join, upTo-cut, past-stop, past-more}
+use Rattle.text.proofs.Bytes.{mem-cut, mem-join, upTo-cut, past-cut}
+use Rattle.text.proofs.Breaks.{RightStop, ident-right, decimal-right, pair-right}
 use Rattle.text.proofs.Files.{file-accepted, passes-all}
 use Rattle.write.specs.Number.{signedText}
 use Rattle.write.proofs.Texts.{signed-without}
@@ -53,11 +53,6 @@ pub record Spelled {A : Type 0} (word : List ℕ → Word A) (x : WrittenLine A)
 abbrev pub AllSpelled : {A : Type 0} → (List ℕ → Word A) → List (WrittenLine A) → Type 0
 AllSpelled word [] = Unit {0}
 AllSpelled word (x ∷ l) = Spelled word x × AllSpelled word l
-
-past-cut : (c : ℕ) (bs r : List ℕ) → mem c bs ≡ false → past c (bs ++ c ∷ r) ≡ r
-past-cut c [] r h = past-stop c c r (eq-eqb c c refl)
-past-cut c (b ∷ bs) r h =
-    past-more c b (bs ++ c ∷ r) (ne-eqb c b (λ e. eqb-false b c (not-head c b bs h) (sym e))) ∙ past-cut c bs r (not-tail c b bs h)
 
 -- ---- one line
 module _ {A : Type 0} (word : List ℕ → Word A) (x : WrittenLine A) (h : Spelled word x) where
@@ -105,12 +100,12 @@ pairs-length [] = refl
 pairs-length (x ∷ l) = ap suc (pairs-length l)
 
 -- the lines that a claim's text was written from
-lines-back : {A : Type 0} (word : List ℕ → Word A) (most : ℕ) (l : List (WrittenLine A)) → AllSpelled word l → length l ≤ most
-    → claimLines (lineBy (twoOf identOf word)) most (claimText l) ≡ gives (pairsOf l)
-lines-back word most l h f =
-    file-accepted (twoOf identOf word) claimFile most noTest (claimText l) (pairsOf l) .1
+lines-back : {A : Type 0} (form : Form A) → RightStop form → (most : ℕ) (l : List (WrittenLine A)) → AllSpelled (form .word) l → length l ≤ most
+    → claimLines (lineBy (pairForm form)) most (claimText l) ≡ gives (pairsOf l)
+lines-back form R most l h f =
+    file-accepted (pairForm form) (pair-right form R) claimFile most noTest (claimText l) (pairsOf l) .1
     (record {
-      lines = record { words = wordsOf l; whole = written l; values = spoken word l h };
+      lines = record { words = wordsOf l; whole = written l; values = spoken (form .word) l h };
       few = omega (arith, pairs-length l);
       pass = passes-all first (pairsOf l);
     })
@@ -118,11 +113,11 @@ lines-back word most l h f =
 module _ (most : ℕ) where
   pub numbers-back : (l : List (WrittenLine ℤ)) → AllSpelled identOf l → length l ≤ most
       → numberLines most (claimText l) ≡ gives (pairsOf l)
-  numbers-back l h f = lines-back identOf most l h f
+  numbers-back l h f = lines-back identForm ident-right most l h f
 
   pub coefficients-back : (l : List (WrittenLine Decimal)) → AllSpelled decimalOf l → length l ≤ most
       → coefficientLines most (claimText l) ≡ gives (pairsOf l)
-  coefficients-back l h f = lines-back decimalOf most l h f
+  coefficients-back l h f = lines-back decimalForm decimal-right most l h f
 
 -- ---- a claim that lists the reference output
 abbrev pub listed : List ℤ → List ℤ → List (WrittenLine ℤ)

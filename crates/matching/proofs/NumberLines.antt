@@ -12,12 +12,11 @@ use lib.Seq.{take-suc-set}
 use mir.Syntax.{w64}
 use mir.Val.{toZ, ofZ}
 use borrow.Author.Tests.{lt-ltb, ltb-true, ltb-false}
-use Rattle.basis.specs.Refusal.{gives, refuses, at, tooMany, claimFile}
+use Rattle.basis.specs.Refusal.{gives, refuses, atColumn, at, tooMany, claimFile}
 use Rattle.basis.specs.declared.refusal.Refusal.{Refusal}
 use Rattle.basis.specs.Order.{sameZ}
 use Rattle.basis.proofs.Tests.{bool-cases}
-use Rattle.text.specs.Word.{identOf}
-use Rattle.text.specs.Line.{line, twoOf, claimLine, edgeSays}
+use Rattle.text.specs.Line.{line, edgeForm, claimLine, edgeSays}
 use Rattle.text.specs.File.{noTest}
 use Rattle.text.specs.declared.line.Cursor.{Cursor}
 use Rattle.text.specs.declared.line.EdgeLine.{EdgeLine}
@@ -33,7 +32,7 @@ use Rattle.matching.proofs.Readings.{ids-more, values-more}
 -- k lines are done, up to a place: while none of them is incomplete, they are the first k vertices' lines and their values are kept
 pub record Numbers (most : ℕ) (ids : List ℤ) (s : List ℕ) (size : ℕ) (claimed : List ℤ) (place k incomplete : ℕ) : Type 0 where
   pub done : List (ℤ × ℤ)
-  pub passed : Passed (twoOf identOf identOf) claimFile most noTest s done place k
+  pub passed : Passed edgeForm claimFile most noTest s done place k
   pub covers : Against sameZ ids (idsOf done) k incomplete
   pub kept : length claimed ≡ size
   pub within : incomplete ≡ 0 → k ≤ length ids
@@ -55,7 +54,7 @@ module _ (most : ℕ) (ids : List ℤ) (s : List ℕ) where
   numbers-none claimed =
       record {
         done = [];
-        passed = passed-none (twoOf identOf identOf) claimFile most noTest s;
+        passed = passed-none edgeForm claimFile most noTest s;
         covers = against-none sameZ ids;
         kept = refl;
         within = λ e. omega arith;
@@ -86,14 +85,14 @@ module _ (most : ℕ) (ids : List ℤ) (s : List ℕ) where
     module _ {x : EdgeLine} (e : edgeSays x ≡ claimLine s place) where
       pub numbers-end : (c : Cursor) → x ≡ EL.End c → {i : ℕ} → i ≡ endLine (length ids) k incomplete
           → ReadOf most ids s size claimed (Lines i)
-      numbers-end c q = ended (passed-end (twoOf identOf identOf) claimFile most noTest s (h .passed) (c .at) (sym e ∙ ap edgeSays q))
+      numbers-end c q = ended (passed-end edgeForm claimFile most noTest s (h .passed) (c .at) (sym e ∙ ap edgeSays q))
 
       module _ (l : k < most) where
-        pub numbers-fault : (n : ℕ) (c : Cursor) → x ≡ EL.Fault n c → {r : Refusal} → r ≡ at n claimFile (k + 1)
+        pub numbers-fault : (n d : ℕ) (c : Cursor) → x ≡ EL.Fault n d c → {r : Refusal} → r ≡ atColumn n claimFile (k + 1) d
             → ReadOf most ids s size claimed (Fault r)
-        numbers-fault n c q p =
+        numbers-fault n d c q p =
             record {
-              tells = passed-fault (twoOf identOf identOf) claimFile most noTest s (h .passed) l n (c .at) (sym e ∙ ap edgeSays q)
+              tells = passed-fault edgeForm claimFile most noTest s (h .passed) l n d (c .at) (sym e ∙ ap edgeSays q)
                   ∙ ap refuses (sym p);
               kept = h .kept;
             }
@@ -105,7 +104,7 @@ module _ (most : ℕ) (ids : List ℤ) (s : List ℕ) where
         numbers-next id v c q room r r′ =
             record {
               done = h .done ++ ((id, v) ∷ []);
-              passed = passed-next (twoOf identOf identOf) claimFile most noTest s (h .passed) l (id, v) (c .at) here refl;
+              passed = passed-next edgeForm claimFile most noTest s (h .passed) l (id, v) (c .at) here refl;
               covers = rw (ids-more (h .done) (id, v), r, p) covered;
               kept = rw r′ kept′;
               within = λ z. omega (arith, cover-zero ids k (toZ w64 (ofZ w64 id)) incomplete (sym r ∙ z) .1);
@@ -137,7 +136,7 @@ module _ (most : ℕ) (ids : List ℤ) (s : List ℕ) where
     pub numbers-over : most ≤ k → place < length s → {r : Refusal} → r ≡ at tooMany claimFile (k + 1)
         → ReadOf most ids s size claimed (Fault r)
     numbers-over l g p =
-        record { tells = passed-over (twoOf identOf identOf) claimFile most noTest s (h .passed) l g ∙ ap refuses (sym p); kept = h .kept }
+        record { tells = passed-over edgeForm claimFile most noTest s (h .passed) l g ∙ ap refuses (sym p); kept = h .kept }
 
     pub numbers-full : length s ≤ place → {i : ℕ} → i ≡ endLine (length ids) k incomplete → ReadOf most ids s size claimed (Lines i)
-    numbers-full g = ended (passed-full (twoOf identOf identOf) claimFile most noTest s (h .passed) g)
+    numbers-full g = ended (passed-full edgeForm claimFile most noTest s (h .passed) g)

@@ -81,8 +81,8 @@ fn read_coefficients(
             CoefficientLine::End(_) => {
                 return verdict_of(ended(ids, k, incomplete), mismatch);
             }
-            CoefficientLine::Fault(number, _) => {
-                return Judged::Refused(Refusal::at(number, CLAIM_FILE, k + 1));
+            CoefficientLine::Fault(number, column, _) => {
+                return Judged::Refused(Refusal::at_column(number, CLAIM_FILE, k + 1, column));
             }
             CoefficientLine::Line(id, s, next) => {
                 incomplete = covered(ids, k, id, incomplete);

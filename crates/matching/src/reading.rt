@@ -73,8 +73,8 @@ pub(crate) fn read_numbers(most: usize, ids: &[i64], claim: &[u8], claimed: &mut
             EdgeLine::End(_) => {
                 return Read::Lines(ended(ids, k, incomplete));
             }
-            EdgeLine::Fault(number, _) => {
-                return Read::Fault(Refusal::at(number, CLAIM_FILE, k + 1));
+            EdgeLine::Fault(number, column, _) => {
+                return Read::Fault(Refusal::at_column(number, CLAIM_FILE, k + 1, column));
             }
             EdgeLine::Line(id, value, next) => {
                 incomplete = covered(ids, k, id, incomplete);

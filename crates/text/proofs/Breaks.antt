@@ -20,7 +20,7 @@ use Rattle.text.specs.Decimal.{decimalOf}
 use Rattle.text.specs.Grammar.{WholePart, FractionPart, PowerPart, noPoint, point, noPower, plus, minus}
 use Rattle.text.specs.Grammar.{wholeDigits, fractionDigits, fractionBytes, powerDigits, powerBytes, partBytes, DecimalForm}
 use Rattle.text.specs.Stop.{identStop, decimalStop}
-use Rattle.text.specs.Line.{upTo, past, Form, both, twoOf, twoStop, identForm, pairForm, decimalForm}
+use Rattle.text.specs.Line.{upTo, past, Form, both, twoOf, twoStop, identForm, pairForm, edgeForm, decimalForm}
 use Rattle.text.specs.Column.{fileEnd}
 use Rattle.text.proofs.Bytes.{cut-at, upTo-none, upTo-cut, upTo-take, upTo-le, upTo-all, past-cut, mem-cut, mem-join, mem-left}
 use Rattle.text.proofs.Stops.{cond-le, stop-le, decimal-never-outside, NeverOutside}
@@ -260,3 +260,6 @@ module _ {A : Type 0} (form : Form A) (R : RightStop form) where
         unbroken = λ w. two-stray w lf refl (ident-right .unbroken) (R .unbroken);
         unended = λ w. two-stray w fileEnd refl (ident-right .unended) (R .unended);
       }
+
+pub edge-right : RightStop edgeForm
+edge-right = pair-right identForm ident-right

@@ -17,10 +17,10 @@ use Rattle.basis.proofs.Tests.{clash, no-case, false-of, bool-cases}
 use Rattle.basis.proofs.Scans.{mem-head}
 use Rattle.text.specs.Bytes.{lf}
 use Rattle.text.specs.Word.{Word, malformed, outside, value, wellFormed, identOf}
-use Rattle.text.specs.Line.{LineSaid, line, none, fault, upTo, Form, columnIn, lineSays, lineBy, identForm, pairForm, decimalForm}
+use Rattle.text.specs.Line.{LineSaid, line, none, fault, upTo, Form, columnIn, lineSays, lineBy, identForm, pairForm, edgeForm, decimalForm}
 use Rattle.text.specs.Column.{GoodLine, CanGoOn, fileEnd, wholeLine, Column, TellsColumn, Columns}
 use Rattle.text.proofs.Bytes.{upTo-none, cut-at, mem-left, mem-cut, not-head, not-tail}
-use Rattle.text.proofs.Breaks.{RightStop, ident-right, decimal-right, pair-right}
+use Rattle.text.proofs.Breaks.{RightStop, ident-right, decimal-right, pair-right, edge-right}
 
 -- ---- fewer bytes go on where more do, so a line has one column
 module _ {A : Type 0} (word : List ℕ → Word A) where
@@ -178,7 +178,7 @@ pub columns : Columns
 columns =
     record {
       vertex = tells identForm ident-right;
-      edge = tells (pairForm identForm) (pair-right identForm ident-right);
-      claim = tells (pairForm identForm) (pair-right identForm ident-right);
+      edge = tells edgeForm edge-right;
+      claim = tells edgeForm edge-right;
       coefficient = tells (pairForm decimalForm) (pair-right decimalForm decimal-right);
     }

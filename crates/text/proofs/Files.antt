@@ -55,7 +55,7 @@ module _ {A : Type 0} (form : Form A) (file most : ℕ) (test : Before A → A �
     unfolding left linesFrom valuesFrom
     left-none p e = rw (e, linesFrom)
 
-    pub left-bad : (n c p : ℕ) → lineBy form s place ≡ fault n c p → left k before place ≡ refuses (badAt file most test k n c)
+    pub left-bad : (n c p : ℕ) → lineBy form s place ≡ fault n c p → left k before place ≡ refuses (badAt file most k n c)
     unfolding left linesFrom valuesFrom
     left-bad n c p e = rw (e, linesFrom)
 

@@ -38,22 +38,23 @@ abbrev pub unless : {A : Type 0} → ℕ → ℕ → ℕ → Said A → Said A
 unless zero file k rest = rest
 unless (suc n) file k rest = refuses (at (suc n) file k)
 
+-- the refusal of a line after k others, in a file of at most so many lines, by the number and the column of its form or range: 1 before all
+-- others
+abbrev pub badAt : ℕ → ℕ → ℕ → ℕ → ℕ → Refusal
+badAt file most k number column = cond (leb most k) (at tooMany file (k + 1)) (atColumn number file (k + 1) column)
+
 -- the lines of a file of at most `most` lines, by a test of a line's values after the line before it: the number of a fault, or 0
 module _ {A : Type 0} (file most : ℕ) (test : Before A → A → ℕ) where
   -- the fault of a line of good form and range after k others: 1 before all others, then the test
   abbrev pub faultOf : ℕ → Before A → A → ℕ
   faultOf k before v = cond (leb most k) tooMany (test before v)
 
-  -- the refusal of a line after k others by the number and the column of its form or range: 1 before all others
-  abbrev pub badAt : ℕ → ℕ → ℕ → Refusal
-  badAt k number column = cond (leb most k) (at tooMany file (k + 1)) (atColumn number file (k + 1) column)
-
   -- the values of all lines, or the refusal at the first line with a fault
   unfoldable pub valuesFrom : ℕ → Before A → List (Line A) → Said (List A)
   valuesFrom k before [] = gives []
   valuesFrom k before (good v ∷ ls) =
       unless (faultOf k before v) file (k + 1) (mapped (λ vs. v ∷ vs) (valuesFrom (k + 1) (after v) ls))
-  valuesFrom k before (bad n c ∷ ls) = refuses (badAt k n c)
+  valuesFrom k before (bad n c ∷ ls) = refuses (badAt file most k n c)
 
   -- the same from the first line of a file on, which has none before it
   abbrev pub valuesOf : List (Line A) → Said (List A)

@@ -88,6 +88,10 @@ identForm = record { word = identOf; stop = identStop }
 abbrev pub pairForm : {A : Type 0} → Form A → Form (ℤ × A)
 pairForm second = record { word = twoOf identOf (second .word); stop = twoStop (second .stop) }
 
+-- "An edge line is two with one space between.": its form
+abbrev pub edgeForm : Form (ℤ × ℤ)
+edgeForm = pairForm identForm
+
 -- "a plain or scientific decimal": the form of a coefficient
 abbrev pub decimalForm : Form Decimal
 decimalForm = record { word = decimalOf; stop = decimalStop }
@@ -98,7 +102,7 @@ vertexLine s at = lineBy identForm s at
 
 -- "An edge line is two with one space between."
 abbrev pub edgeLine : List ℕ → ℕ → LineSaid (ℤ × ℤ)
-edgeLine s at = lineBy (pairForm identForm) s at
+edgeLine s at = lineBy edgeForm s at
 
 -- "identifier, one space, value. For BFS, WCC and CDLP the value is in identifier form."
 abbrev pub claimLine : List ℕ → ℕ → LineSaid (ℤ × ℤ)

@@ -12,9 +12,9 @@ use mir.Syntax.{w64}
 use mir.Val.{SFits}
 use Rattle.basis.specs.Scan.{each, mem}
 use Rattle.basis.proofs.Tests.{and-first, and-second}
-use Rattle.text.specs.Word.{Word, value, within, isDigit, countOf, signedOf, identOf}
+use Rattle.text.specs.Word.{value, within, isDigit, countOf, signedOf, identOf}
 use Rattle.text.specs.Bytes.{lf}
-use Rattle.text.specs.Line.{line, lineBy, vertexLine}
+use Rattle.text.specs.Line.{line, Form, lineBy, identForm, vertexLine}
 use Rattle.text.proofs.Bytes.{within-yes, within-is}
 use Rattle.text.proofs.Cuts.{cut-line}
 use Rattle.write.specs.Put.{written, putAt}
@@ -71,18 +71,18 @@ module _ (o : List ℕ) (at : ℕ) {o′ : List ℕ} {p : ℕ} where
   signed-back z f w room = rw (wrote-text o at (signedText z) w room) (ident-back z f)
 
 -- ---- a word that is written with an LF behind it is read as a line, and the reader's place past it is the one that the writer answered
-module _ {A : Type 0} (word : List ℕ → Word A) (x : A) (bs : List ℕ) (said : word bs ≡ value x) (none : mem lf bs ≡ false) where
+module _ {A : Type 0} (form : Form A) (x : A) (bs : List ℕ) (said : form .word bs ≡ value x) (none : mem lf bs ≡ false) where
   pub line-wrote : (o : List ℕ) (at : ℕ) {o′ : List ℕ} {p : ℕ} → written o′ p ≡ putAt o at (bs ++ (lf ∷ []))
       → at + length (bs ++ (lf ∷ [])) ≤ length o
-      → lineBy word o′ at ≡ line x p
+      → lineBy form o′ at ≡ line x p
   line-wrote o at {o′} {p} w room =
       let e : drop at o′ ≡ bs ++ lf ∷ drop (at + length (bs ++ (lf ∷ []))) o =
       wrote-after o at (bs ++ (lf ∷ [])) w room ∙ append-snoc bs lf (drop (at + length (bs ++ (lf ∷ []))) o) in
       let q : at + length bs + 1 ≡ p = omega (arith, wrote-next o at (bs ++ (lf ∷ [])) w room, length-append bs (lf ∷ [])) in
-      cut-line word o′ at bs (drop (at + length (bs ++ (lf ∷ []))) o) x e none said ∙ ap (line x) q
+      cut-line form o′ at bs (drop (at + length (bs ++ (lf ∷ []))) o) x e none said ∙ ap (line x) q
 
 pub vertex-back : (z : ℤ) → SFits w64 z → (o : List ℕ) (at : ℕ) {o′ : List ℕ} {p : ℕ}
     → written o′ p ≡ putAt o at (signedText z ++ (lf ∷ []))
     → at + length (signedText z ++ (lf ∷ [])) ≤ length o → vertexLine o′ at ≡ line z p
 unfolding within
-vertex-back z f = line-wrote identOf z (signedText z) (ident-back z f) (signed-without z lf refl)
+vertex-back z f = line-wrote identForm z (signedText z) (ident-back z f) (signed-without z lf refl)

@@ -12,6 +12,15 @@ enum-told c = search needs
 enum-known-line : tie.Need-enum-known-line
 enum-known-line c = search needs
 
+bad-line-requires : tie.Need-bad-line-requires
+bad-line-requires c κs = search needs
+
+enum-known-line-2 : tie.Need-enum-known-line-2
+enum-known-line-2 c = search needs
+
+order-fault-requires : tie.Need-order-fault-requires
+order-fault-requires c κs = search needs
+
 limited-requires : tie.Need-limited-requires
 limited-requires c κs = search needs
 
@@ -20,21 +29,6 @@ add-at c = search needs
 
 at-requires : tie.Need-at-requires
 at-requires c κs = search needs
-
-enum-known-line-2 : tie.Need-enum-known-line-2
-enum-known-line-2 c = search needs
-
-order-fault-requires : tie.Need-order-fault-requires
-order-fault-requires c κs = search needs
-
-limited-requires-2 : tie.Need-limited-requires-2
-limited-requires-2 c κs = search needs
-
-add-at-2 : tie.Need-add-at-2
-add-at-2 c = search needs
-
-at-requires-2 : tie.Need-at-requires-2
-at-requires-2 c κs = search needs
 
 returns : tie.Need-returns
 returns c = search (edge-fault, needs, c .before .if1 .taken)
@@ -45,17 +39,17 @@ look-up-requires c κs = search needs
 enum-told-2 : tie.Need-enum-told-2
 enum-told-2 c = search needs
 
-add-at-3 : tie.Need-add-at-3
-add-at-3 c = search needs
+add-at-2 : tie.Need-add-at-2
+add-at-2 c = search needs
 
-at-requires-3 : tie.Need-at-requires-3
-at-requires-3 c κs = search needs
+at-requires-2 : tie.Need-at-requires-2
+at-requires-2 c κs = search needs
 
 enum-known-joined : tie.Need-enum-known-joined
 enum-known-joined c = search needs
 
-add-t32 : tie.Need-add-t32
-add-t32 c = search needs
+add-t31 : tie.Need-add-t31
+add-t31 c = search needs
 
 returns-2 : tie.Need-returns-2
 returns-2 c = search edge-end
@@ -76,21 +70,19 @@ edge-step-spec =
     edge-requires
     enum-told
     enum-known-line
+    bad-line-requires
+    enum-known-line-2
+    order-fault-requires
     limited-requires
     add-at
     at-requires
-    enum-known-line-2
-    order-fault-requires
-    limited-requires-2
-    add-at-2
-    at-requires-2
     returns
     look-up-requires
     enum-told-2
-    add-at-3
-    at-requires-3
+    add-at-2
+    at-requires-2
     enum-known-joined
-    add-t32
+    add-t31
     returns-2
     returns-3
     returns-4

@@ -12,14 +12,8 @@ enum-told c = search needs
 enum-known-line : tie.Need-enum-known-line
 enum-known-line c = search needs
 
-limited-requires : tie.Need-limited-requires
-limited-requires c κs = search needs
-
-add-at : tie.Need-add-at
-add-at c = search needs
-
-at-requires : tie.Need-at-requires
-at-requires c κs = search needs
+bad-line-requires : tie.Need-bad-line-requires
+bad-line-requires c κs = search needs
 
 enum-known-line-2 : tie.Need-enum-known-line-2
 enum-known-line-2 c = search needs
@@ -27,17 +21,17 @@ enum-known-line-2 c = search needs
 vertex-fault-requires : tie.Need-vertex-fault-requires
 vertex-fault-requires c κs = search needs
 
-add-at-2 : tie.Need-add-at-2
-add-at-2 c = search needs
+add-at : tie.Need-add-at
+add-at c = search needs
 
-at-requires-2 : tie.Need-at-requires-2
-at-requires-2 c κs = search needs
+at-requires : tie.Need-at-requires
+at-requires c κs = search needs
 
 returns : tie.Need-returns
 returns c = search (vertex-fault, needs, c .before .if1 .taken)
 
-add-t22 : tie.Need-add-t22
-add-t22 c = search needs
+add-t21 : tie.Need-add-t21
+add-t21 c = search needs
 
 returns-2 : tie.Need-returns-2
 returns-2 c = search vertex-end
@@ -55,15 +49,13 @@ vertex-step-spec =
     vertex-requires
     enum-told
     enum-known-line
-    limited-requires
-    add-at
-    at-requires
+    bad-line-requires
     enum-known-line-2
     vertex-fault-requires
-    add-at-2
-    at-requires-2
+    add-at
+    at-requires
     returns
-    add-t22
+    add-t21
     returns-2
     returns-3
     returns-4)

@@ -34,11 +34,11 @@ returns c = search decimals-end
 enum-known-line : tie.Need-enum-known-line Inv-loop μ-loop
 enum-known-line c = search needs
 
-add-at : tie.Need-add-at Inv-loop μ-loop
-add-at c = search needs
+add-at-column : tie.Need-add-at-column Inv-loop μ-loop
+add-at-column c = search needs
 
-at-requires : tie.Need-at-requires Inv-loop μ-loop
-at-requires c κs = search needs
+at-column-requires : tie.Need-at-column-requires Inv-loop μ-loop
+at-column-requires c κs = search needs
 
 returns-2 : tie.Need-returns-2 Inv-loop μ-loop
 returns-2 c = search decimals-fault
@@ -61,11 +61,11 @@ loop-less c = search needs
 loop-again : tie.Need-loop-again Inv-loop μ-loop
 loop-again c = search (decimals-next, needs)
 
-add-at-2 : tie.Need-add-at-2 Inv-loop μ-loop
-add-at-2 c = search needs
+add-at : tie.Need-add-at Inv-loop μ-loop
+add-at c = search needs
 
-at-requires-2 : tie.Need-at-requires-2 Inv-loop μ-loop
-at-requires-2 c κs = search needs
+at-requires : tie.Need-at-requires Inv-loop μ-loop
+at-requires c κs = search needs
 
 returns-3 : tie.Need-returns-3 Inv-loop μ-loop
 returns-3 c = search decimals-over
@@ -92,8 +92,8 @@ read-coefficients-spec =
     verdict-of-requires
     returns
     enum-known-line
-    add-at
-    at-requires
+    add-at-column
+    at-column-requires
     returns-2
     enum-known-line-2
     covered-requires
@@ -101,8 +101,8 @@ read-coefficients-spec =
     add-k
     loop-less
     loop-again
-    add-at-2
-    at-requires-2
+    add-at
+    at-requires
     returns-3
     ended-requires-2
     verdict-of-requires-2

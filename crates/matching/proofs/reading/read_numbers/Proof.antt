@@ -33,11 +33,11 @@ returns c = search numbers-end
 enum-known-line : tie.Need-enum-known-line Inv-loop μ-loop
 enum-known-line c = search needs
 
-add-at : tie.Need-add-at Inv-loop μ-loop
-add-at c = search needs
+add-at-column : tie.Need-add-at-column Inv-loop μ-loop
+add-at-column c = search needs
 
-at-requires : tie.Need-at-requires Inv-loop μ-loop
-at-requires c κs = search needs
+at-column-requires : tie.Need-at-column-requires Inv-loop μ-loop
+at-column-requires c κs = search needs
 
 same-length-2 : tie.Need-same-length-2 Inv-loop μ-loop
 same-length-2 c = search needs
@@ -63,11 +63,11 @@ loop-less c = search needs
 loop-again : tie.Need-loop-again Inv-loop μ-loop
 loop-again c = search (numbers-next, needs)
 
-add-at-2 : tie.Need-add-at-2 Inv-loop μ-loop
-add-at-2 c = search needs
+add-at : tie.Need-add-at Inv-loop μ-loop
+add-at c = search needs
 
-at-requires-2 : tie.Need-at-requires-2 Inv-loop μ-loop
-at-requires-2 c κs = search needs
+at-requires : tie.Need-at-requires Inv-loop μ-loop
+at-requires c κs = search needs
 
 same-length-3 : tie.Need-same-length-3 Inv-loop μ-loop
 same-length-3 c = search needs
@@ -97,8 +97,8 @@ read-numbers-spec =
     same-length
     returns
     enum-known-line
-    add-at
-    at-requires
+    add-at-column
+    at-column-requires
     same-length-2
     returns-2
     enum-known-line-2
@@ -107,8 +107,8 @@ read-numbers-spec =
     add-k
     loop-less
     loop-again
-    add-at-2
-    at-requires-2
+    add-at
+    at-requires
     same-length-3
     returns-3
     ended-requires-2
