@@ -89,9 +89,9 @@ cases =
     -- P1 "`-9223372036854775808` reads": the number, and the place past the line
     (vertexOf (bytes "-9223372036854775808\n") is reads (line (minusOf 9223372036854775808) 21))
     -- P2 "`9223372036854775808` is 3"
-    ∷ (vertexOf (bytes "9223372036854775808\n") is reads (fault 3 0))
+    ∷ (vertexOf (bytes "9223372036854775808\n") is reads (fault 3 0 0))
     -- P3 "`-0` is 2"
-    ∷ (vertexOf (bytes "-0\n") is reads (fault 2 0))
+    ∷ (vertexOf (bytes "-0\n") is reads (fault 2 2 0))
     -- P4 `bfs 2 / 5 / -3 9223372036854775807 / 2 0 / 5 1 / 9 1 / 20 2`
     ∷ (bfsFrom (pos 2) is results (gives tt) (pos 9223372036854775807 ∷ pos 0 ∷ pos 1 ∷ pos 1 ∷ pos 2 ∷ []))
     -- P5 `wcc / 5 / -3 -3 / 2 2 / 5 2 / 9 2 / 20 2`

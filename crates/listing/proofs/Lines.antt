@@ -31,10 +31,15 @@ module _ (o : List ℕ) (at : ℕ) {o₁ o₂ o₃ : List ℕ} {p₁ p₂ p₃ :
       → written o₃ p₃ ≡ putAt o at (a ++ (b ++ c))
   three a b c x y z = put-then o at a x (b ++ c) (put-then o₁ p₁ b y c z)
 
-  pub numbers-put : (r : Refusal) → written o₁ p₁ ≡ putAt o at (spacedText (r .number)) → written o₂ p₂ ≡ putAt o₁ p₁ (spacedText (r .file))
-      → written o₃ p₃ ≡ putAt o₂ p₂ (spacedText (r .line)) → written o₃ p₃ ≡ putAt o at (numbersText r)
+  pub numbers-put : (r : Refusal) {o₄ : List ℕ} {p₄ : ℕ} → written o₁ p₁ ≡ putAt o at (spacedText (r .number))
+      → written o₂ p₂ ≡ putAt o₁ p₁ (spacedText (r .file))
+      → written o₃ p₃ ≡ putAt o₂ p₂ (spacedText (r .line)) → written o₄ p₄ ≡ putAt o₃ p₃ (spacedText (r .column))
+      → written o₄ p₄ ≡ putAt o at (numbersText r)
   unfolding numbersText
-  numbers-put r = three (spacedText (r .number)) (spacedText (r .file)) (spacedText (r .line))
+  numbers-put r x y z w =
+      put-then o at (spacedText (r .number)) x (spacedText (r .file) ++ (spacedText (r .line) ++ spacedText (r .column)))
+      (put-then o₁ p₁ (spacedText (r .file)) y (spacedText (r .line) ++ spacedText (r .column))
+      (put-then o₂ p₂ (spacedText (r .line)) z (spacedText (r .column)) w))
 
   pub refused-put : (r : Refusal) → written o₁ p₁ ≡ putAt o at refusedWord → written o₂ p₂ ≡ putAt o₁ p₁ (numbersText r)
       → written o₃ p₃ ≡ putAt o₂ p₂ (lf ∷ []) → written o₃ p₃ ≡ putAt o at (refusedText r)

@@ -18,11 +18,11 @@ refusedWord = bytes "refused"
 unfoldable pub spacedText : ℕ → List ℕ
 spacedText n = space ∷ countText n
 
--- "the three numbers, one space apart": number, file and line, with a space before each
+-- "the three numbers, one space apart": number, file and line, with a space before each; 02 K2: "the desk program prints all four"
 unfoldable pub numbersText : Refusal → List ℕ
-numbersText r = spacedText (r .number) ++ (spacedText (r .file) ++ spacedText (r .line))
+numbersText r = spacedText (r .number) ++ (spacedText (r .file) ++ (spacedText (r .line) ++ spacedText (r .column)))
 
--- "prints one line, `refused` and the three numbers, one space apart": with its LF
+-- "prints one line, `refused` and the three numbers, one space apart", now four: with its LF
 unfoldable pub refusedText : Refusal → List ℕ
 refusedText r = refusedWord ++ (numbersText r ++ (lf ∷ []))
 

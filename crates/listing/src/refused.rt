@@ -17,16 +17,17 @@ pub fn put_spaced(out: &mut [u8], at: usize, n: usize) -> usize
     put_number(out, next, n)
 }
 
-// The three numbers, each after a space.
+// The four numbers, each after a space.
 fn put_numbers(out: &mut [u8], at: usize, x: Refusal) -> usize
     ensures { λ r. ⌜ written (now (out .exit)) r ≡ putAt (now (out .entry)) at (numbersText x) ⌝ }
 {
     let a = put_spaced(out, at, x.number);
     let b = put_spaced(out, a, x.file);
-    put_spaced(out, b, x.line)
+    let c = put_spaced(out, b, x.line);
+    put_spaced(out, c, x.column)
 }
 
-// `refused` and the three numbers.
+// `refused` and the four numbers.
 pub fn put_refused(out: &mut [u8], at: usize, x: Refusal) -> usize
     ensures { λ r. ⌜ written (now (out .exit)) r ≡ putAt (now (out .entry)) at (refusedText x) ⌝ }
 {

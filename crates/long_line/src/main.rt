@@ -23,7 +23,7 @@ fn main() {
     let x = at.vertex(&s);
     match x {
         VertexLine::End(k) => print_two(0, k.at),
-        VertexLine::Fault(n, k) => print_two(n, k.at),
+        VertexLine::Fault(n, _, k) => print_two(n, k.at),
         VertexLine::Line(_, k) => print_two(1, k.at),
     }
 }

@@ -11,13 +11,13 @@ use lib.ListN.{length, getD, take, drop, length-take, drop-of-length-le}
 use lib.Seq.{drop-cons, getD-take}
 use Rattle.basis.specs.Scan.{mem}
 use Rattle.basis.proofs.Tests.{bool-cases, clash}
-use Rattle.text.specs.Word.{Word, malformed, value}
+use Rattle.text.specs.Word.{Word, malformed, outside, value}
 use Rattle.text.specs.Bytes.{lf}
-use Rattle.text.specs.Line.{lineSays}
-use Rattle.text.specs.Scan.{Scanned, scanned, lineOf}
+use Rattle.text.specs.Line.{columnIn, lineSays}
+use Rattle.text.specs.Scan.{Scanned, scanned, columnAt, lineOf}
 use Rattle.text.proofs.Words.{Reads}
 use Rattle.text.proofs.Lines.{line-end, line-reads}
-use Rattle.plan.specs.Lines.{lfs, inSheet, sheetLine, begins}
+use Rattle.plan.specs.Lines.{lfs, inSheet, wordAlone, sheetLine, begins}
 use Rattle.plan.proofs.Words.{begins-word, begins-ended, is-word}
 
 -- ---- the loop that counts LFs
@@ -44,7 +44,12 @@ module _ (s : List ℕ) (at number i x : ℕ) (inv : number + lfs (drop i (take 
   pub number-end : at ≤ i → number ≡ x
   number-end h = past-all (simp length-take (omega arith))
 
--- ---- a line by what is scanned of it; a missing line is as one that is malformed
+-- ---- a line by what is scanned of it, whatever its column; a missing line is as one that is malformed
+no-column : {A : Type 0} (s : List ℕ) (at next c d : ℕ) (w : Word A) → inSheet s (lineSays at next c w) ≡ inSheet s (lineSays at next d w)
+no-column s at next c d malformed = refl
+no-column s at next c d outside = refl
+no-column s at next c d (value v) = refl
+
 pub line-said : {A : Type 0} (word : List ℕ → Word A) (s : List ℕ) (at : ℕ) (x : Scanned A) → Reads lf word s at x
     → inSheet s (lineOf at x) ≡ sheetLine word s at
 unfolding sheetLine mem
@@ -52,8 +57,9 @@ line-said word s at x r =
     bool-cases (leb (length s) at) _
     (λ e. let h : length s ≤ at = leb-true (length s) at e in
     let m : x .said ≡ malformed = r .unended (ap (mem lf) (drop-of-length-le s h)) in
-    ap (λ w. inSheet s (lineSays at (x .next) w)) m ∙ ap (inSheet s) (line-end word s at h))
-    (λ e. ap (inSheet s) (line-reads word s at x (leb-false (length s) at e) r))
+    ap (λ w. inSheet s (lineSays at (x .next) (columnAt at (x .next)) w)) m ∙ ap (inSheet s) (line-end (wordAlone word) s at h))
+    (λ e. no-column s at (x .next) (columnAt at (x .next)) (columnIn (wordAlone word) s at) (x .said)
+    ∙ ap (inSheet s) (line-reads (wordAlone word) s at x (columnIn (wordAlone word) s at) (leb-false (length s) at e) r (λ _. refl)))
 
 -- ---- what stands before the LF of the line at a place
 abbrev pub Line : List ℕ → ℕ → List ℕ → List ℕ → Type 0

@@ -24,7 +24,7 @@ use Rattle.text.proofs.Bytes.{drop-past}
 use Rattle.text.proofs.Words.{count-stray}
 use Rattle.text.proofs.Counts.{counts-one}
 use Rattle.text.proofs.Cuts.{Cut, line-cut, cut-line}
-use Rattle.plan.specs.Lines.{sheetFault, inSheet, sheetLine, isWord}
+use Rattle.plan.specs.Lines.{sheetFault, inSheet, wordAlone, sheetLine, isWord}
 use Rattle.plan.specs.Jobs.{jobOf}
 use Rattle.plan.specs.Sheet.{mostJobs, mostBytes, directedWord, undirectedWord, modeOf, modeLine, limited, countLine}
 use Rattle.plan.specs.Sheet.{anyOf, nextOf, linePast, linesPast, block, blockOf, section, plan, sections, ended, sheetCheck}
@@ -38,16 +38,16 @@ module _ {A : Type 0} (word : List ℕ → Word A) (s : List ℕ) (place : ℕ) 
   given-line : (x : LineSaid A) (v : A) (next : ℕ) → inSheet s x ≡ gives (v, next) → x ≡ line v next
   given-line (line u k) v next e = let q = given-one e in ap (λ (x : A × ℕ). line (x .0) (x .1)) q
   given-line (none k) v next e = refused-given e
-  given-line (fault n k) v next e = refused-given e
+  given-line (fault n c k) v next e = refused-given e
 
-  sheet-cut : (v : A) (next : ℕ) → sheetLine word s place ≡ gives (v, next) → Cut word s place v next
+  sheet-cut : (v : A) (next : ℕ) → sheetLine word s place ≡ gives (v, next) → Cut (wordAlone word) s place v next
   unfolding sheetLine
-  sheet-cut v next e = line-cut word s place v next (given-line (lineBy word s place) v next e)
+  sheet-cut v next e = line-cut (wordAlone word) s place v next (given-line (lineBy (wordAlone word) s place) v next e)
 
   cut-sheet : (w r : List ℕ) (v : A) → drop place s ≡ w ++ lf ∷ r → mem lf w ≡ false → word w ≡ value v
       → sheetLine word s place ≡ gives (v, place + length w + 1)
   unfolding sheetLine
-  cut-sheet w r v e h g = ap (inSheet s) (cut-line word s place w r v e h g)
+  cut-sheet w r v e h g = ap (inSheet s) (cut-line (wordAlone word) s place w r v e h g)
 
 -- ---- lines one after another: those of jobs, or any
 module _ {A : Type 0} (word : List ℕ → Word A) (jobs : Bool) (s : List ℕ)
@@ -64,7 +64,7 @@ module _ {A : Type 0} (word : List ℕ → Word A) (jobs : Bool) (s : List ℕ)
   first-line k place to next e l =
       let r = mapped-gives (λ v. v .1) (sheetLine word s place) next (sym e) in
       let v : A = r .0 .0 in
-      let c : Cut word s place v next = subst (Cut word s place v) (sym (r .2)) (sheet-cut word s place v (r .0 .1) (r .1)) in
+      let c : Cut (wordAlone word) s place v next = subst (Cut (wordAlone word) s place v) (sym (r .2)) (sheet-cut word s place v (r .0 .1) (r .1)) in
       record {
         lines = c .w ++ lf ∷ l .lines;
         values = v ∷ l .values;
@@ -125,7 +125,7 @@ module _ {A : Type 0} (word : List ℕ → Word A) (jobs : Bool) (limit : ℕ) (
       by true q h = (leb-true (c .0) limit q, given-one h)
       by false q h = refused-given h
 
-  section-made : (place n from to : ℕ) → Cut countOf s place n from → n ≤ limit → Lines word jobs s same n from to
+  section-made : (place n from to : ℕ) → Cut (wordAlone countOf) s place n from → n ≤ limit → Lines word jobs s same n from to
       → SectionCut place (block n from to)
   section-made place n from to c few l =
       record {

@@ -13,7 +13,7 @@ use Rattle.basis.specs.Limits.{deskVertices, deskEdges}
 use Rattle.text.specs.Word.{Word, countOf}
 use Rattle.text.specs.Line.{LineSaid, line, none, fault, lineBy}
 use Rattle.text.proofs.Places.{Moved, Placed, places}
-use Rattle.plan.specs.Lines.{inSheet, sheetLine}
+use Rattle.plan.specs.Lines.{inSheet, wordAlone, sheetLine}
 use Rattle.plan.specs.Jobs.{jobOf}
 use Rattle.plan.specs.Sheet.{mostJobs, mostBytes, modeOf, limited, countLine, anyOf, nextOf}
 use Rattle.plan.specs.Sheet.{linePast, linesPast, block, blockOf, section, sections, ended, sheetCheck}
@@ -31,11 +31,11 @@ Past s place x = Moved s place (x .1)
 line-past : {A : Type 0} (s : List ℕ) (place : ℕ) (x : LineSaid A) → Placed s place x → Gives (Past s place) (inSheet s x)
 line-past s place (line v next) h = h
 line-past s place (none p) h = tt
-line-past s place (fault n p) h = tt
+line-past s place (fault n c p) h = tt
 
 pub sheet-line : {A : Type 0} (word : List ℕ → Word A) (s : List ℕ) (place : ℕ) → Gives (Past s place) (sheetLine word s place)
 unfolding sheetLine
-sheet-line word s place = line-past s place (lineBy word s place) (places word s place)
+sheet-line word s place = line-past s place (lineBy (wordAlone word) s place) (places (wordAlone word) s place)
 
 pub line-moved : {A : Type 0} (word : List ℕ → Word A) (s : List ℕ) (place : ℕ) (v : A) (next : ℕ)
     → sheetLine word s place ≡ gives (v, next) → Moved s place next

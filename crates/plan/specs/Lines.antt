@@ -8,7 +8,7 @@ use Rattle.basis.specs.Refusal.{Said, gives, refuses, at, badForm, sheetFile}
 use Rattle.basis.specs.declared.refusal.Refusal.{Refusal}
 use Rattle.text.specs.Word.{Word}
 use Rattle.text.specs.Bytes.{lf}
-use Rattle.text.specs.Line.{LineSaid, line, none, fault, lineBy}
+use Rattle.text.specs.Line.{LineSaid, line, none, fault, Form, lineBy}
 
 -- how many LFs stand among the bytes
 unfoldable pub lfs : List ℕ → ℕ
@@ -19,7 +19,7 @@ lfs (b ∷ l) = elim (eqb b lf) [ true ↦ suc (lfs l) | false ↦ lfs l ]
 abbrev pub lineNumber : List ℕ → ℕ → ℕ
 lineNumber s place = 1 + lfs (take place s)
 
--- "line by line, with file 4"
+-- "line by line, with file 4"; 02 K2: "the column is 0 except for refusal 2 of a vertex, edge or claim line"
 abbrev pub sheetFault : List ℕ → ℕ → ℕ → Refusal
 sheetFault s place number = at number sheetFile (lineNumber s place)
 
@@ -27,11 +27,15 @@ sheetFault s place number = at number sheetFile (lineNumber s place)
 abbrev pub inSheet : {A : Type 0} → List ℕ → LineSaid A → Said (A × ℕ)
 inSheet s (line v next) = gives (v, next)
 inSheet s (none place) = refuses (sheetFault s place badForm)
-inSheet s (fault number place) = refuses (sheetFault s place number)
+inSheet s (fault number column place) = refuses (sheetFault s place number)
+
+-- a sheet's own refusals have no column, so of the words on its lines it is not asked where they break off
+abbrev pub wordAlone : {A : Type 0} → (List ℕ → Word A) → Form A
+wordAlone word = record { word = word; stop = λ bs. 0 }
 
 -- the line at a place, by what its bytes say as a word
 unfoldable pub sheetLine : {A : Type 0} → (List ℕ → Word A) → List ℕ → ℕ → Said (A × ℕ)
-sheetLine word s place = inSheet s (lineBy word s place)
+sheetLine word s place = inSheet s (lineBy (wordAlone word) s place)
 
 -- a list begins with the bytes of a word
 unfoldable pub begins : List ℕ → List ℕ → Bool

@@ -51,27 +51,35 @@ abbrev refusedJobSheet : List ℕ
 refusedJobSheet = bytes "undirected\n2\n-3\n2\n1\n-3 2\n3\nbfs 7\ncdlp -1\nlcc\n"
 
 abbrev refusedJobOutput : List ℕ
-refusedJobOutput = bytes "refused 10 0 0\nrefused 11 0 0\nlcc\n2\n-3 0/1\n2 0/1\n"
+refusedJobOutput = bytes "refused 10 0 0 0\nrefused 11 0 0 0\nlcc\n2\n-3 0/1\n2 0/1\n"
 
 -- a refused load prints one line
 abbrev refusedLoadSheet : List ℕ
 refusedLoadSheet = bytes "directed\n1\n4\n1\n4 4\n1\nwcc\n"
 
 abbrev refusedLoadOutput : List ℕ
-refusedLoadOutput = bytes "refused 5 2 1\n"
+refusedLoadOutput = bytes "refused 5 2 1 0\n"
+
+-- a stray tab behind the second vertex is in column 2 of line 2
+abbrev strayTabSheet : List ℕ
+strayTabSheet = bytes "directed\n2\n4\n5\t\n1\n4 5\n1\nwcc\n"
+
+abbrev strayTabOutput : List ℕ
+strayTabOutput = bytes "refused 2 1 2 2\n"
 
 -- a refused sheet prints one line
 abbrev refusedSheetSheet : List ℕ
 refusedSheetSheet = bytes "directed\n1\n4\n1\n4 4\n1\nwcd\n"
 
 abbrev refusedSheetOutput : List ℕ
-refusedSheetOutput = bytes "refused 2 4 7\n"
+refusedSheetOutput = bytes "refused 2 4 7 0\n"
 
 -- what the desk program prints for each
 pub outputs :
     (deskOutput paperSheet ≡ paperOutput)
     × (deskOutput refusedJobSheet ≡ refusedJobOutput)
     × (deskOutput refusedLoadSheet ≡ refusedLoadOutput)
+    × (deskOutput strayTabSheet ≡ strayTabOutput)
     × (deskOutput refusedSheetSheet ≡ refusedSheetOutput)
 unfolding column every each mem lineBy twoOf hasAt runAt countAt identAt fieldAt restAt within digits countText signedText placeFrom bisect
     targetsBetween partOf soundIds soundOffsets soundSide mirrored soundSides soundGraph edgeTest linesFrom valuesFrom arcsRead listsRead
@@ -83,4 +91,4 @@ unfolding column every each mem lineBy twoOf hasAt runAt countAt identAt fieldAt
     lccCall euclid
     gcdOf lowest jobOf lfs sheetLine begins isWord modeOf countLine linesPast section sections sheetCheck spacedText numbersText refusedText
     headText namedText pairText fractionText ratioText pairLines ratioLines planText deskOutput bfsText wccText cdlpText lccText jobsText
-outputs = (refl, refl, refl, refl)
+outputs = (refl, refl, refl, refl, refl)

@@ -56,6 +56,7 @@ pub record Brief (r : Refusal) : Type 0 where
   pub number : r .number < 10 ^ 2
   pub file : r .file < 10 ^ 1
   pub line : r .line < 10 ^ 5
+  pub column : r .column < 10 ^ 5
 
 signed-most : (z : ℤ) → Small z → length (signedText z) ≤ 20
 signed-most z h = signed-long z (record { sfits = h })
@@ -116,22 +117,24 @@ spaced-most : (k n : ℕ) → 1 ≤ k → n < 10 ^ k → length (spacedText n) �
 unfolding spacedText
 spaced-most k n h g = omega (arith, count-long k n h g)
 
-pub refused-most : (r : Refusal) → Brief r → length (refusedText r) ≤ 19
+pub refused-most : (r : Refusal) → Brief r → length (refusedText r) ≤ 25
 unfolding refusedText numbersText
 refused-most r b =
     omega (
       arith,
       length-append refusedWord (numbersText r ++ (lf ∷ [])),
       length-append (numbersText r) (lf ∷ []),
-      length-append (spacedText (r .number)) (spacedText (r .file) ++ spacedText (r .line)),
-      length-append (spacedText (r .file)) (spacedText (r .line)),
+      length-append (spacedText (r .number)) (spacedText (r .file) ++ (spacedText (r .line) ++ spacedText (r .column))),
+      length-append (spacedText (r .file)) (spacedText (r .line) ++ spacedText (r .column)),
+      length-append (spacedText (r .line)) (spacedText (r .column)),
       spaced-most 2 (r .number) (omega arith) (b .number),
       spaced-most 1 (r .file) (omega arith) (b .file),
       spaced-most 5 (r .line) (omega arith) (b .line),
+      spaced-most 5 (r .column) (omega arith) (b .column),
     )
 
 plain-brief : (n : ℕ) → n < 10 ^ 2 → Brief (plain n)
-plain-brief n h = record { number = h; file = omega arith; line = omega arith }
+plain-brief n h = record { number = h; file = omega arith; line = omega arith; column = omega arith }
 
 -- ---- what a job prints behind its line: a count line of 5 bytes, and a line of 42 for each vertex
 module _ (n : ℕ) (line listing : List ℕ) (few : n ≤ deskVertices) (long : length listing ≤ deskVertices * 42) where

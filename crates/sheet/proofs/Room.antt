@@ -1,7 +1,7 @@
 -- The output of every sheet has at most 753,744 bytes:
 -- a job prints at most 43,013 bytes behind its line, and the lines of the jobs stand in the sheet.
 -- And a sheet that is too long prints what its first 65,537 bytes print. Assumes nothing.
-use Prim.Native.Nat.{ℕ, zero, suc, _+_, _*_, _^_, _≤_, _<_}
+use Prim.Native.Nat.{ℕ, zero, suc, _+_, _-_, _*_, _^_, _≤_, _<_}
 use mathlib.Core.Path.{_≡_, refl, sym, ap, _∙_}
 use mathlib.Core.Bool.{Bool, true, false}
 use mathlib.Core.List.{List, [], _∷_}
@@ -9,7 +9,7 @@ use native.Mathlib.Omega.{arith}
 use borrow.Author.Tests.{lt-ltb, ltb-true, ltb-false}
 use lib.Dec.{eqb, leb, ltb}
 use lib.IntN.{ℤ, pos}
-use lib.ListN.{length, take, length-take}
+use lib.ListN.{length, take, drop, length-take, length-drop}
 use lib.Seq.{take-all}
 use Rattle.basis.proofs.Saids.{Either, either-cond, Any, either-refused, refused-onward}
 use Rattle.basis.specs.Refusal.{Said, gives, refuses, at, tooMany, sheetFile}
@@ -24,10 +24,11 @@ use Rattle.text.specs.File.{Says}
 use Rattle.text.proofs.Places.{Small, ident-small, LineHas, line-any}
 use Rattle.load.specs.Load.{Lists, loaded, sizeOf, outcomeOf, loadCall, desk, deskRoom}
 use Rattle.load.proofs.Refused.{load-refusal}
-use Rattle.plan.specs.Lines.{lfs, sheetFault, inSheet, sheetLine}
+use Rattle.plan.specs.Lines.{lfs, sheetFault, inSheet, wordAlone, sheetLine}
 use Rattle.plan.specs.Jobs.{jobOf}
 use Rattle.plan.specs.Sheet.{mostBytes, mostJobs, modeOf, limited, countLine, anyOf, nextOf, linePast}
 use Rattle.plan.specs.Sheet.{linesPast, blockOf, section, sections, ended, sheetCheck}
+use Rattle.plan.specs.declared.sections.Block.{Block}
 use Rattle.plan.specs.declared.sections.Plan.{Plan}
 use Rattle.plan.proofs.Places.{Accepted, accepted}
 use Rattle.write.specs.Put.{written, putAt}
@@ -38,10 +39,16 @@ use Rattle.sheet.proofs.Whole.{listsIn, lists-good}
 use Rattle.sheet.proofs.Lengths.{Brief, refused-most, jobs-most}
 
 -- ---- a load: its refusal is brief
-load-brief : (mode : ℕ) (v e : List ℕ) → Either Any Brief (loaded desk mode deskRoom v e)
-load-brief mode v e =
-    either-refused Any (λ r t. record { number = omega (arith, t .low); file = omega (arith, t .inFile); line = omega (arith, t .inLines) })
-    (loaded desk mode deskRoom v e) (load-refusal desk mode deskRoom v e)
+load-brief : (mode : ℕ) (v e : List ℕ) → length v ≤ mostBytes → length e ≤ mostBytes → Either Any Brief (loaded desk mode deskRoom v e)
+load-brief mode v e lv le =
+    either-refused Any
+    (λ r t. record {
+      number = omega (arith, t .low);
+      file = omega (arith, t .inFile);
+      line = omega (arith, t .inLines);
+      column = omega (arith, t .inBytes);
+    })
+    (loaded desk mode deskRoom v e) (load-refusal desk mostBytes mode deskRoom v e lv le)
 
 -- ---- an accepted load: its identifiers are in range
 ids-small : (ws : List (List ℕ)) (ids : List ℤ) → Says identOf ws ids → All Small ids
@@ -74,9 +81,16 @@ module _ (s : List ℕ) (p : Plan) (a : Accepted s p) where
             (p .jobs .from) (omega (arith, w .rise, w .inside)),
       )
 
+  -- a section is no longer than the sheet
+  section-short : (b : Block) → length (linesIn b s) ≤ mostBytes
+  section-short b = omega (arith, a .short, length-take (b .to - b .from) (drop (b .from) s), length-drop (b .from) s)
+
   plan-most : length (planText s p) ≤ mostOutput
   unfolding planText loadCall
-  plan-most = plan-by (listsIn s p) refl (load-brief (modeNumber (p .directed)) (linesIn (p .vertices) s) (linesIn (p .edges) s))
+  plan-most =
+      plan-by (listsIn s p) refl
+      (load-brief (modeNumber (p .directed)) (linesIn (p .vertices) s) (linesIn (p .edges) s) (section-short (p .vertices))
+      (section-short (p .edges)))
 
 -- ---- a refused sheet: its refusal is brief
 lfs-few : (l : List ℕ) → lfs l ≤ length l
@@ -90,16 +104,22 @@ lfs-few (b ∷ l) = by (eqb b lf) refl (lfs-few l)
 
 module _ (s : List ℕ) (short : length s ≤ mostBytes) where
   fault-brief : (place n : ℕ) → n < 10 ^ 2 → Brief (sheetFault s place n)
-  fault-brief place n h = record { number = h; file = omega arith; line = omega (arith, lfs-few (take place s), length-take place s) }
+  fault-brief place n h =
+      record {
+        number = h;
+        file = omega arith;
+        line = omega (arith, lfs-few (take place s), length-take place s);
+        column = omega arith;
+      }
 
   in-sheet : {A : Type 0} (x : LineSaid A) → LineHas Any x → Either Any Brief (inSheet s x)
   in-sheet (line v next) h = tt
   in-sheet (none place) h = fault-brief place 2 (omega arith)
-  in-sheet (fault n place) h = fault-brief place n (omega (arith, h .1))
+  in-sheet (fault n c place) h = fault-brief place n (omega (arith, h .1))
 
   line-brief : {A : Type 0} (word : List ℕ → Word A) (place : ℕ) → Either Any Brief (sheetLine word s place)
   unfolding sheetLine
-  line-brief word place = in-sheet (lineBy word s place) (line-any word s place)
+  line-brief word place = in-sheet (lineBy (wordAlone word) s place) (line-any (wordAlone word) s place)
 
   next-brief : {A : Type 0} (x : Said (A × ℕ)) → Either Any Brief x → Either Any Brief (nextOf x)
   next-brief (gives x) h = tt
@@ -138,7 +158,8 @@ module _ (s : List ℕ) (short : length s ≤ mostBytes) where
 checked-brief : (s : List ℕ) → Either Any Brief (sheetCheck s)
 unfolding sheetCheck
 checked-brief s =
-    either-cond Any Brief (ltb mostBytes (length s)) _ _ (λ _. record { number = omega arith; file = omega arith; line = omega arith })
+    either-cond Any Brief (ltb mostBytes (length s)) _ _ 
+    (λ _. record { number = omega arith; file = omega arith; line = omega arith; column = omega arith })
     (λ t. let short : length s ≤ mostBytes = ltb-false mostBytes (length s) t in
     refused-onward Brief (sections s) (ended s) (sections-brief s short)
     (λ p. either-cond Any Brief (ltb (p .jobs .to) (length s)) _ _ (λ _. fault-brief s short (p .jobs .to) 2 (omega arith)) (λ _. tt)))

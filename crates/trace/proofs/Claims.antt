@@ -14,10 +14,9 @@ use Rattle.basis.specs.Refusal.{Said, gives, refuses, plain, noRoom, claimFile}
 use Rattle.basis.specs.Order.{sameZ}
 use Rattle.basis.proofs.Tests.{and-first, and-second, and-both}
 use Rattle.basis.proofs.Areas.{column-length}
-use Rattle.text.specs.Word.{Word, identOf}
-use Rattle.text.specs.Decimal.{decimalOf}
-use Rattle.text.specs.Line.{lineBy, twoOf}
+use Rattle.text.specs.Line.{Form, lineBy, pairForm, edgeForm, decimalForm}
 use Rattle.text.specs.File.{noTest}
+use Rattle.text.proofs.Breaks.{RightStop, decimal-right, pair-right, edge-right}
 use Rattle.text.proofs.Files.{file-accepted, FileRefusal, file-refusal}
 use Rattle.graph.specs.Sound.{Graph, names, soundGraph, outward}
 use Rattle.graph.proofs.Sounds.{sound-of}
@@ -36,13 +35,14 @@ use Rattle.trace.specs.Steps.{deskJudged}
 -- ---- the lines of a claim
 
 -- of a claim that may have so many: the line after its last has room
-module _ {A : Type 0} (word : List ℕ → Word A) (s : List ℕ) (room : ℕ) where
-  lines-readable : (most : ℕ) → 1 + most < room → Readable room (claimLines (lineBy word) most s) (λ l. 1 + length l)
+module _ {A : Type 0} (form : Form A) (R : RightStop form) (s : List ℕ) (room : ℕ) where
+  lines-readable : (most : ℕ) → 1 + most < room → Readable room (claimLines (lineBy form) most s) (λ l. 1 + length l)
   lines-readable most h =
       record {
-        values = λ l e. let f = file-accepted word claimFile most noTest s l .0 e .few in omega arith;
+        values = λ l e. let f = file-accepted form R claimFile most noTest s l .0 e .few in omega arith;
         refusals = λ r e.
-            let m : FileRefusal claimFile most r = rw e at (file-refusal word claimFile most noTest (λ before v. omega arith) s) in
+            let m : FileRefusal claimFile most (length s) r =
+            rw e at (file-refusal form R claimFile most noTest (λ before v. omega arith) s) in
             (m .some, record { number = omega (arith, m .low); file = omega (arith, m .inFile); line = omega (arith, m .inLines) });
       }
 
@@ -98,10 +98,10 @@ module _ (room : ℕ) (some : Call.mostLines + 1 < room) where
 
   module _ (most : ℕ) (few : most ≤ Call.mostLines) (g : Graph) (s : List ℕ) (kernel : ℕ) (parameter : ℤ) where
     numbers-readable : Readable room (numberLines most s) (λ l. 1 + length l)
-    numbers-readable = lines-readable (twoOf identOf identOf) s room most (omega arith)
+    numbers-readable = lines-readable edgeForm edge-right s room most (omega arith)
 
     decimals-readable : Readable room (coefficientLines most s) (λ l. 1 + length l)
-    decimals-readable = lines-readable (twoOf identOf decimalOf) s room most (omega arith)
+    decimals-readable = lines-readable (pairForm decimalForm) (pair-right decimalForm decimal-right) s room most (omega arith)
 
     wcc-small : soundGraph g ≡ true → Small room (asRefusal (judgedBy (names g) (unlikeLine (wccOf g)) (numberLines most s)))
     wcc-small h =

@@ -4,13 +4,13 @@ use mathlib.Core.Bool.{Bool, true, false, cond}
 use Prim.Native.Nat.{ℕ, _≤_, _<_}
 use native.Mathlib.Omega.{arith}
 use Rattle.basis.specs.declared.refusal.Refusal.{Refusal}
-use Rattle.basis.specs.Refusal.{Said, gives, refuses, at, plain, onward, mapped}
+use Rattle.basis.specs.Refusal.{Said, gives, refuses, atColumn, plain, onward, mapped}
 use Rattle.basis.proofs.Saids.{refused-given}
 use Rattle.trace.specs.Code.{placed, coded, numberIn, fileIn, lineIn, wide, Small, Readable}
 
 -- ---- reading back
 
--- the three numbers of a refusal stand in its code
+-- a refusal's number, file and line stand in its code
 module _ (r : Refusal) (s : Small wide r) where
   pub number-back : numberIn (placed r) ≡ r .number
   number-back = omega arith
@@ -21,13 +21,13 @@ module _ (r : Refusal) (s : Small wide r) where
   pub line-back : lineIn (placed r) ≡ r .line
   line-back = omega arith
 
--- so no two refusals have one code
-pub placed-one : (r s : Refusal) → Small wide r → Small wide s → placed r ≡ placed s → r ≡ s
-placed-one r s p q e =
+-- so two refusals that have one code differ in their columns alone: 02 K2, "The host call keeps its number without the column"
+pub placed-one : (r s : Refusal) → Small wide r → Small wide s → placed r ≡ placed s → r .column ≡ s .column → r ≡ s
+placed-one r s p q e c =
     let n : r .number ≡ s .number = sym (number-back r p) ∙ ap numberIn e ∙ number-back s q in
     let f : r .file ≡ s .file = sym (file-back r p) ∙ ap fileIn e ∙ file-back s q in
     let l : r .line ≡ s .line = sym (line-back r p) ∙ ap lineIn e ∙ line-back s q in
-    let one : at (r .number) (r .file) (r .line) ≡ at (s .number) (s .file) (s .line) = cc in one
+    let one : atColumn (r .number) (r .file) (r .line) (r .column) ≡ atColumn (s .number) (s .file) (s .line) (s .column) = cc in one
 
 -- values stand in a code with number 0 and file 0, which no refusal has
 module _ {A : Type 0} (value : A → ℕ) (x : A) (h : value x < wide) where

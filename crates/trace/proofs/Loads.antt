@@ -18,10 +18,10 @@ use Rattle.trace.specs.Load.{loadValue, loadTold, loadTells}
 use Rattle.trace.proofs.Codes.{onward-readable, readable-by, readable-given, readable-refused, readable-silent, untold}
 
 -- ---- what is refused
-refusal-readable : {A : Type 0} (room : ℕ) (limits : Limits) → limits .vertices + limits .edges + 1 < room → (s : Said A)
-    → Either Any (LoadRefusal limits) s → Readable room s untold
-refusal-readable room limits few (gives x) h = readable-silent x (omega arith)
-refusal-readable room limits few (refuses r) h =
+refusal-readable : {A : Type 0} (room size : ℕ) (limits : Limits) → limits .vertices + limits .edges + 1 < room → (s : Said A)
+    → Either Any (LoadRefusal limits size) s → Readable room s untold
+refusal-readable room size limits few (gives x) h = readable-silent x (omega arith)
+refusal-readable room size limits few (refuses r) h =
     readable-refused r (h .some)
     (record { number = omega (arith, h .low); file = omega (arith, h .inFile); line = omega (arith, h .inLines) })
 
@@ -29,7 +29,9 @@ pub loaded-readable : (room : ℕ) (limits : Limits) → limits .vertices + limi
     → (mode : ℕ) (r : Room) (vertices edges : List ℕ)
     → Readable room (loaded limits mode r vertices edges) untold
 loaded-readable room limits few mode r vertices edges =
-    refusal-readable room limits few (loaded limits mode r vertices edges) (load-refusal limits mode r vertices edges)
+    let size : ℕ = length vertices + length edges in
+    refusal-readable room size limits few (loaded limits mode r vertices edges)
+    (load-refusal limits size mode r vertices edges (omega arith) (omega arith))
 
 -- ---- the call at library limits
 module _ (mode : ℕ) (room : Room) (vertices edges : List ℕ) where
