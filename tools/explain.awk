@@ -3,7 +3,7 @@
 BEGIN {
     # the sheet's bytes as numbers, since not every awk takes a NUL; from[i] is where line i begins. The last line is what stands behind the
     # last line end, which is nothing in a sheet as it should be. A sheet above 65,536 bytes is refused whole, so no more are read.
-    from[last = 1] = 1
+    from[1] = last = 1
     while ((("od -An -v -tu1 -N65537 '" sheet "'") | getline numbers) > 0) {
         count = split(numbers, part, " ")
         for (i = 1; i <= count; i++) {
@@ -12,6 +12,7 @@ BEGIN {
         }
     }
     from[last + 1] = bytes + 2
+    # a count is shown as it stands
     edges = 3 + shown(2, 0)
     jobs = edges + 1 + shown(edges, 0)
     range = "a number is outside -9223372036854775808 to 9223372036854775807"
@@ -49,7 +50,7 @@ function unchecked(refusal, at) {
 # how many bytes a line has before its line end
 function size(at) { return at > last ? 0 : from[at + 1] - from[at] - 1 }
 
-# a byte as it is shown: those that do not print as in C
+# a byte as it is shown: as in C where it does not print
 function form(code) {
     if (code == 9) return "\\t"
     if (code == 13) return "\\r"
@@ -82,6 +83,7 @@ function culprit(at, column,    code) {
     return code < 32 || code == 127 ? "a control character" : "here"
 }
 
+# as many spaces
 function blank(text) {
     gsub(/./, " ", text)
     return text

@@ -297,5 +297,5 @@ pub fn record(dice: &mut Dice) -> Vec<u8> {
         damage_line(dice, &mut line);
     }
     let kind = if dice.one_in(4) { kind.to_ascii_uppercase() } else { kind };
-    [&[kind], &line[..], b"\n"].concat()
+    [&[kind][..], &line, b"\n"].concat()
 }
