@@ -1,6 +1,7 @@
 //! compare [CASES]: the engine's host calls against the independent implementation, on random and damaged inputs from fixed seeds; every
 //! area that is lent stands between pages that may not be touched. compare sheets COUNT FOLDER: writes so many random and damaged sheets,
-//! each with what the independent implementation prints for it.
+//! each with what the independent implementation prints for it. compare lines COUNT FOLDER: writes so many random and damaged lines for the
+//! program `columns`, in files that it takes, each with what it has to print.
 
 mod fence;
 mod inputs;
@@ -10,6 +11,7 @@ use inputs::Dice;
 use reference::book::Book;
 use reference::claims::{self, Verdict};
 use reference::lists::{self, Graph, Lent, Room};
+use reference::places::{self, Form};
 use reference::{kernels, plain, Refusal, LIBRARY};
 use trace_engine::calls;
 
@@ -299,7 +301,11 @@ fn agree(cases: u64) {
 fn write_sheets(count: u64, folder: &str) {
     for seed in 0..count {
         let mut dice = Dice::new(seed + 1_000_000_007);
-        let lists = inputs::lists(&mut dice);
+        let mut lists = inputs::lists(&mut dice);
+        if seed % 4 == 0 {
+            let file = if seed % 8 == 0 { &mut lists.vertices } else { &mut lists.edges };
+            inputs::damage_within(&mut Dice::new(seed + 3_000_000_019), file);
+        }
         let mut sheet = inputs::sheet(&mut dice, &lists);
         if dice.one_in(2) {
             inputs::damage(&mut dice, &mut sheet);
@@ -309,12 +315,45 @@ fn write_sheets(count: u64, folder: &str) {
     }
 }
 
+/// What the program `columns` has to print for a record.
+fn column_line(record: &[u8]) -> String {
+    let (kind, line) = record.split_first().unwrap();
+    let form = match kind.to_ascii_lowercase() {
+        b'v' => Form::Vertex,
+        b'l' => Form::Coefficient,
+        _ => Form::Pair,
+    };
+    let file = if kind.is_ascii_uppercase() { &line[..line.len() - 1] } else { line };
+    match lists::lines(file).first().map(|line| places::fault(form, line)) {
+        Some((number, column)) => format!("{} {}\n", number, column),
+        None => "end\n".to_string(),
+    }
+}
+
+fn write_lines(count: u64, folder: &str) {
+    let mut files: Vec<(Vec<u8>, String)> = vec![Default::default()];
+    for seed in 0..count {
+        let record = inputs::record(&mut Dice::new(seed + 2_000_000_011));
+        if files.last().unwrap().0.len() + record.len() > 65_536 {
+            files.push(Default::default());
+        }
+        let (lines, out) = files.last_mut().unwrap();
+        *out += &column_line(&record);
+        lines.extend(record);
+    }
+    for (i, (lines, out)) in files.iter().enumerate() {
+        std::fs::write(format!("{}/{}.lines", folder, i), lines).unwrap();
+        std::fs::write(format!("{}/{}.out", folder, i), out).unwrap();
+    }
+}
+
 fn main() {
     let words: Vec<String> = std::env::args().skip(1).collect();
     match words.iter().map(String::as_str).collect::<Vec<_>>()[..] {
         [] => agree(24_000),
         ["sheets", count, folder] => write_sheets(count.parse().unwrap(), folder),
+        ["lines", count, folder] => write_lines(count.parse().unwrap(), folder),
         [cases] => agree(cases.parse().unwrap()),
-        _ => panic!("compare [CASES] | compare sheets COUNT FOLDER"),
+        _ => panic!("compare [CASES] | compare sheets COUNT FOLDER | compare lines COUNT FOLDER"),
     }
 }

@@ -1,4 +1,4 @@
-//! Random lists, claims and damage, from a seed.
+//! Random lists, claims, lines and damage, from a seed.
 
 use reference::kernels;
 use reference::lists::Graph;
@@ -210,4 +210,92 @@ pub fn sheet(dice: &mut Dice, lists: &Lists) -> Vec<u8> {
         text.extend_from_slice(format!("{}\n", job).as_bytes());
     }
     text
+}
+
+/// So many digits, the first of them above 0.
+fn digits(dice: &mut Dice, count: usize) -> String {
+    (0..count).map(|i| if i == 0 { *dice.pick(b"123456789") } else { *dice.pick(b"0123456789") } as char).collect()
+}
+
+/// A number in identifier form: at an end of the range, far outside it, or any.
+fn number(dice: &mut Dice) -> String {
+    match dice.below(8) {
+        0 => "0".to_string(),
+        1 => dice.pick(&["9223372036854775807", "9223372036854775808", "-9223372036854775808", "-9223372036854775809"]).to_string(),
+        2 => {
+            let count = 20 + dice.below(41);
+            format!("{}{}", dice.pick(&["", "-"]), digits(dice, count))
+        }
+        3 => (dice.next() as i64).to_string(),
+        _ => (dice.below(2_000) as i64 - 1_000).to_string(),
+    }
+}
+
+/// A coefficient: at times of 15 to 19 digits; with its point behind any of them, the last included, or without one; with a power or none.
+fn coefficient(dice: &mut Dice) -> String {
+    let count = if dice.one_in(2) { 15 + dice.below(5) } else { 1 + dice.below(9) };
+    let mut text = match dice.below(4) {
+        0 => format!("0.{}", digits(dice, count - 1)),
+        1 => digits(dice, count),
+        _ => {
+            let mut text = digits(dice, count);
+            text.insert(1 + dice.below(count), '.');
+            text
+        }
+    };
+    if dice.one_in(2) {
+        text += &format!("e{}{:02}", dice.pick(&["+", "-"]), dice.below(100));
+    }
+    text
+}
+
+/// One damage to a line: a byte changed, gone, put in or twice, the line cut short, something behind it, or a number of another form.
+fn damage_line(dice: &mut Dice, line: &mut Vec<u8>) {
+    const BYTES: &[u8] = b"0123456789-+. eE\t\r\0\x01\x1f\x7f\x80\xff/:x";
+    const ENDS: &[&str] = &[" ", "\t", "\r", "\0", " 1", "x", ".", ".5", "e", "e+", "e+1", "e-001", "e12", "E+00"];
+    const NUMBERS: &str =
+        " - -0 -01 --1 00 007 +1 9223372036854775808 -9223372036854775809 99999999999999999999999999 0. .5 1..5 1.5.5 01.5 \
+        -0.5 1e 1e5 1e+5 1e+005 1E+05 1.e+05 e+05 0e-00 12345678901234567. 12345678901234567e+17 123456789012345678 0.12345678901234567";
+    let at = dice.below(line.len() + 1);
+    match dice.below(9) {
+        0 | 1 if at < line.len() => line[at] = *dice.pick(BYTES),
+        2 if at < line.len() => drop(line.remove(at)),
+        3 if at < line.len() => line.insert(at, line[at]),
+        4 => line.truncate(at),
+        5 => line.extend_from_slice(dice.pick(ENDS).as_bytes()),
+        6 | 7 => {
+            let mut words: Vec<&[u8]> = line.split(|&b| b == b' ').collect();
+            let k = dice.below(words.len());
+            words[k] = dice.pick(&NUMBERS.split(' ').collect::<Vec<_>>()).as_bytes();
+            *line = words.join(&b' ');
+        }
+        _ => line.insert(at, *dice.pick(BYTES)),
+    }
+}
+
+/// One line of a file damaged, and as many lines as before.
+pub fn damage_within(dice: &mut Dice, file: &mut Vec<u8>) {
+    let mut lines: Vec<Vec<u8>> = file.split(|&b| b == b'\n').map(<[u8]>::to_vec).collect();
+    if lines.len() > 1 {
+        let i = dice.below(lines.len() - 1);
+        damage_line(dice, &mut lines[i]);
+        *file = lines.join(&b'\n');
+    }
+}
+
+/// A line for the program `columns`, mostly a damaged one: its kind (`v` vertex, `e` edge, `c` claim of numbers, `l` of coefficients; a
+/// capital letter where the line ends with the file), its bytes, an LF.
+pub fn record(dice: &mut Dice) -> Vec<u8> {
+    let kind = *dice.pick(b"vecl");
+    let mut line = match kind {
+        b'v' => number(dice),
+        b'l' => format!("{} {}", number(dice), coefficient(dice)),
+        _ => format!("{} {}", number(dice), number(dice)),
+    }
+    .into_bytes();
+    for _ in 0..*dice.pick(&[0, 1, 1, 1, 2]) {
+        damage_line(dice, &mut line);
+    }
+    let kind = if dice.one_in(4) { kind.to_ascii_uppercase() } else { kind };
+    [&[kind][..], &line, b"\n"].concat()
 }

@@ -2,7 +2,8 @@
 
 use crate::big::Big;
 use crate::lists::{self, Graph, Line};
-use crate::{at, kernels, plain, Limits, Refusal};
+use crate::places::{self, Form};
+use crate::{kernels, plain, Limits, Refusal};
 use std::cmp::Ordering;
 
 /// A plain or scientific decimal, exactly: digits · 10^up / 10^down.
@@ -67,7 +68,8 @@ enum Values {
     Decimals(Vec<(i64, Decimal)>),
 }
 
-fn coefficient_line(line: &Line) -> Result<(i64, Decimal), u64> {
+/// An identifier, one space and a decimal.
+pub fn coefficient_line(line: &Line) -> Result<(i64, Decimal), u64> {
     let space = line.bytes.iter().position(|&b| b == b' ');
     let cut = space.filter(|_| line.ended).ok_or(2u64)?;
     let value = decimal(&line.bytes[cut + 1..]).ok_or(2u64)?;
@@ -76,8 +78,9 @@ fn coefficient_line(line: &Line) -> Result<(i64, Decimal), u64> {
 
 fn read(claim: &[u8], coefficients: bool, most: usize) -> Result<Values, Refusal> {
     let (mut numbers, mut decimals) = (Vec::new(), Vec::new());
+    let form = if coefficients { Form::Coefficient } else { Form::Pair };
     for (i, line) in lists::lines(claim).iter().enumerate() {
-        let refused = |number| at(number, 3, i + 1);
+        let refused = |number| places::refused(number, 3, i + 1, form, line);
         if i >= most {
             return Err(refused(1));
         }

@@ -5,14 +5,16 @@ pub mod book;
 pub mod claims;
 pub mod kernels;
 pub mod lists;
+pub mod places;
 pub mod sheet;
 
-/// A refusal: its number, a file number and a line, 0 where there is none.
+/// A refusal: its number, a file number, a line and a column, each 0 where there is none.
 #[derive(Clone, Copy, Debug, PartialEq, Eq)]
 pub struct Refusal {
     pub number: u64,
     pub file: u64,
     pub line: u64,
+    pub column: u64,
 }
 
 pub fn plain(number: u64) -> Refusal {
@@ -20,7 +22,7 @@ pub fn plain(number: u64) -> Refusal {
 }
 
 pub fn at(number: u64, file: u64, line: usize) -> Refusal {
-    Refusal { number, file, line: line as u64 }
+    Refusal { number, file, line: line as u64, column: 0 }
 }
 
 /// The numbers that bound a call: library or desk.

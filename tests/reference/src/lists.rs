@@ -1,6 +1,7 @@
 //! "Lists": identifiers, lines, and the two files.
 
-use crate::{at, plain, Limits, Refusal};
+use crate::places::{self, Form};
+use crate::{plain, Limits, Refusal};
 
 #[derive(Clone, Copy, Debug, PartialEq, Eq)]
 pub enum Ident {
@@ -142,7 +143,7 @@ pub fn load(mode: u64, vertices: &[u8], edges: &[u8], limits: Limits, room: Room
 fn vertex_file(file: &[u8], most: usize) -> Result<Vec<i64>, Refusal> {
     let mut ids: Vec<i64> = Vec::new();
     for (i, line) in lines(file).iter().enumerate() {
-        let refused = |number| at(number, 1, i + 1);
+        let refused = |number| places::refused(number, 1, i + 1, Form::Vertex, line);
         if i >= most {
             return Err(refused(1));
         }
@@ -159,7 +160,7 @@ fn edge_file(mode: u64, file: &[u8], most: usize, ids: &[i64]) -> Result<Vec<(us
     let mut edges = Vec::new();
     let mut before: Option<(i64, i64)> = None;
     for (i, line) in lines(file).iter().enumerate() {
-        let refused = |number| at(number, 2, i + 1);
+        let refused = |number| places::refused(number, 2, i + 1, Form::Pair, line);
         if i >= most {
             return Err(refused(1));
         }

@@ -19,7 +19,7 @@ pub fn output(sheet: &[u8]) -> String {
 }
 
 fn refused(r: Refusal) -> String {
-    format!("refused {} {} {}\n", r.number, r.file, r.line)
+    format!("refused {} {} {} {}\n", r.number, r.file, r.line, r.column)
 }
 
 /// Lines of a sheet, one after the other: a missing or unended one is 2 at its line.

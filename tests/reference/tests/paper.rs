@@ -1,6 +1,7 @@
 //! The paper's own examples.
 
-use reference::{book::Book, claims, kernels, lists, sheet, DESK};
+use reference::places::{self, Form};
+use reference::{book::Book, claims, kernels, lists, sheet, Refusal, DESK};
 
 const SHEET: &str = "directed\n5\n-3\n2\n5\n9\n20\n5\n2 5\n2 9\n5 2\n5 9\n9 20\n4\nbfs 2\nwcc\ncdlp 2\nlcc\n";
 
@@ -62,4 +63,109 @@ fn four_vertices_p12() {
     assert_eq!([book.join(0, 1), book.join(2, 3), book.join(1, 3)], [Ok(true), Ok(true), Ok(true)]);
     assert_eq!(book, Book { parents: vec![0, 0, 0, 2], sizes: vec![4, 1, 2, 1] });
     assert_eq!(book.count(), Ok(1));
+}
+
+#[test]
+fn columns_k2() {
+    use Form::{Coefficient, Pair, Vertex};
+    let examples: &[(Form, &[u8], (u64, u64))] = &[
+        (Vertex, b"\n", (2, 1)),
+        (Vertex, b"12", (2, 3)),
+        (Vertex, b"12\t\n", (2, 3)),
+        (Vertex, b"1 2\n", (2, 2)),
+        (Vertex, b"-0\n", (2, 2)),
+        (Vertex, b"-\n", (2, 2)),
+        (Vertex, b"00\n", (2, 2)),
+        (Vertex, b"007\n", (2, 2)),
+        (Vertex, b"+1\n", (2, 1)),
+        (Vertex, b"12\r\n", (2, 3)),
+        (Vertex, b"12\0\n", (2, 3)),
+        (Vertex, b"\xff\n", (2, 1)),
+        (Vertex, b"99999999999999999999x\n", (2, 21)),
+        (Vertex, b"99999999999999999999\n", (3, 0)),
+        (Vertex, b"99999999999999999999", (2, 21)),
+        (Vertex, b"12\n", (0, 0)),
+        (Pair, b"\n", (2, 1)),
+        (Pair, b"7\n", (2, 2)),
+        (Pair, b"7", (2, 2)),
+        (Pair, b"7 \n", (2, 3)),
+        (Pair, b"7  8\n", (2, 3)),
+        (Pair, b"7\t8\n", (2, 2)),
+        (Pair, b"7 8 9\n", (2, 4)),
+        (Pair, b"7 8 \n", (2, 4)),
+        (Pair, b"7 8\r\n", (2, 4)),
+        (Pair, b" 7 8\n", (2, 1)),
+        (Pair, b"9223372036854775808 02\n", (2, 22)),
+        (Pair, b"9223372036854775808 2\n", (3, 0)),
+        (Coefficient, b"7 \n", (2, 3)),
+        (Coefficient, b"7 .5\n", (2, 3)),
+        (Coefficient, b"7 -1\n", (2, 3)),
+        (Coefficient, b"7 1.\n", (2, 5)),
+        (Coefficient, b"7 01\n", (2, 4)),
+        (Coefficient, b"7 1.2.3\n", (2, 6)),
+        (Coefficient, b"7 1e5\n", (2, 5)),
+        (Coefficient, b"7 1e+5\n", (2, 7)),
+        (Coefficient, b"7 12345678901234567.\n", (2, 20)),
+        (Coefficient, b"7 12345678901234567e+00\n", (0, 0)),
+        (Coefficient, b"7 1.23456789012345678\n", (2, 21)),
+        (Coefficient, b"9223372036854775808 1.\n", (2, 23)),
+    ];
+    for &(form, file, said) in examples {
+        assert_eq!(places::fault(form, &lists::lines(file)[0]), said, "{:?} {:?}", form, String::from_utf8_lossy(file));
+    }
+}
+
+/// The four numbers of a refused sheet, load, job and claim; the host call's number has no column.
+#[test]
+fn four_numbers_k2() {
+    assert_eq!(sheet::output(b"directed\n1\n1\t\n0\n0\n"), "refused 2 1 1 2\n");
+    assert_eq!(sheet::output(b"directed\n2\n1\n2\n1\n1  2\n0\n"), "refused 2 2 1 3\n");
+    assert_eq!(sheet::output(b"directed\n1\n1\n0\n2\nbfs 2\nwcc\n"), "refused 10 0 0 0\nwcc\n1\n1 1\n");
+    assert_eq!(sheet::output(b"directed\n1\n1\n0\n1\nwcc"), "refused 2 4 6 0\n");
+    let refusal = |claim: &[u8]| claims::verdict(&graph(), 4, 0, claim, DESK).unwrap_err();
+    assert_eq!(refusal(b"-3 0\n2 1.\n"), Refusal { number: 2, file: 3, line: 2, column: 5 });
+    assert_eq!(refusal(b"-3 0\n9223372036854775808 1\n"), Refusal { number: 3, file: 3, line: 2, column: 0 });
+    assert_eq!(claims::host_verdict(b"1\n", b"", b"1\t1\n", 1, 2, 0), 2_300_001);
+}
+
+/// Whether the bytes can go on to a good line, by trying ends: wherever a good line is cut, one of these can follow. Which line is good,
+/// the test of a whole line's form says, which knows no columns.
+fn goes_on(form: Form, front: &[u8]) -> bool {
+    [&b""[..], b"\n", b"0\n", b"1\n", b"00\n", b"+00\n", b" 0\n", b"1 0\n"].into_iter().any(|end| {
+        let file = [front, end].concat();
+        let line = &lists::lines(&file)[..];
+        line.len() == 1 && line[0].ended && places::fault(form, &line[0]).0 != 2
+    })
+}
+
+/// All lines that begin so and have up to so many bytes more: the column by the table is the one by trying. `bad` is the column where the
+/// front part goes wrong, if it does.
+fn columns_agree(form: Form, front: &mut Vec<u8>, bad: Option<u64>, more: usize) {
+    let bad = bad.or_else(|| if goes_on(form, front) { None } else { Some(front.len() as u64) });
+    let ended = front.last() == Some(&b'\n');
+    let at_end = if ended { 0 } else { front.len() as u64 + 1 };
+    if !front.is_empty() {
+        let line = lists::Line { bytes: &front[..front.len() - usize::from(ended)], ended };
+        assert_eq!(places::column(form, &line), bad.unwrap_or(at_end), "{:?} {:?}", form, String::from_utf8_lossy(front));
+        assert_eq!(places::fault(form, &line).0 == 2, !ended || bad.is_some());
+    }
+    if more > 0 && !ended {
+        for &byte in b"019-.e+ \t\n" {
+            front.push(byte);
+            columns_agree(form, front, bad, more - 1);
+            front.pop();
+        }
+    }
+}
+
+#[test]
+fn columns_by_trying() {
+    let fronts: [&[u8]; 8] =
+        [b"", b"-9", b"7 ", b"7 1e", b"7 123456789012345", b"7 0.12345678901234", b"7 12345678901234.5", b"99999999999999999999 "];
+    for form in [Form::Vertex, Form::Pair, Form::Coefficient] {
+        for front in fronts {
+            let bad = (1..front.len()).find(|&k| !goes_on(form, &front[..k])).map(|k| k as u64);
+            columns_agree(form, &mut front.to_vec(), bad, if front.is_empty() { 5 } else { 4 });
+        }
+    }
 }
