@@ -119,7 +119,8 @@ module _ (s : List ℕ) (most : ℕ) (ids₀ : List ℤ) where
 
   module _ (c : Vertices) (ids : List ℤ) (r : Listing c ids) (x : VertexStep) (told : vertexStepSays x ≡ vertexStep s most c) where
     listing-moved : (d : Vertices) → x ≡ VS.More d
-        → Moved identForm vertexFile most vertexTest s (c .lines) (beforeBy (c .lines) (c .last)) (c .at .at) (d .last) (d .at .at) (d .lines)
+        → Moved identForm vertexFile most vertexTest s (c .lines) (beforeBy (c .lines) (c .last)) (c .at .at) (d .last) (d .at .at)
+        (d .lines)
     unfolding vertexStep
     listing-moved d e =
         left-more identForm vertexFile most vertexTest s (c .lines) (beforeBy (c .lines) (c .last)) (c .at .at)

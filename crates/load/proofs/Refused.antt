@@ -1,4 +1,4 @@
--- The refusal of a load: its number is from 1 to 12, its file none or one of the two, its line within their limits or the one after, and its
+-- The refusal of a load: its number is from 1 to 12, its file none or one of the two, its line within their limits or the one after, its
 -- column within their bytes or the one after. Assumes nothing.
 use Prim.Native.Nat.{ℕ, _+_, _≤_, _<_}
 use mathlib.Core.Bool.{Bool, true, false}
@@ -48,8 +48,8 @@ module _ (limits : Limits) (size : ℕ) where
       let undirected = isUndirected mode in
       let ids = identifiers (limits .vertices) v in
       either-cond Any (LoadRefusal limits size) (leb mode 1) _ _
-      (λ _. refused-onward (LoadRefusal limits size) ids _ (of-file vertexFile (limits .vertices) (length v) (omega arith) (omega arith) lv ids
-      (vertices-refusal (limits .vertices) v))
+      (λ _. refused-onward (LoadRefusal limits size) ids _
+      (of-file vertexFile (limits .vertices) (length v) (omega arith) (omega arith) lv ids (vertices-refusal (limits .vertices) v))
       (λ i. refused-onward (LoadRefusal limits size) (withRoom (placesFor room i) i) _
       (of-room (placesFor room i) i)
       (λ i. let es = edgesOf undirected (limits .edges) (placeIn i) e in

@@ -71,8 +71,8 @@ module _ {A : Type 0} (form : Form A) (R : RightStop form) (most : ℕ) (ids : L
   abbrev read : Said (List (ℤ × A))
   read = claimLines (lineBy (pairForm form)) most s
 
-  read-as : {l : List (ℤ × A)} {v : Verdict} → GoodFile (twoOf identOf (form .word)) most noTest s l → judgedBy ids mismatch (gives l) ≡ gives v
-      → judgedBy ids mismatch read ≡ gives v
+  read-as : {l : List (ℤ × A)} {v : Verdict} → GoodFile (twoOf identOf (form .word)) most noTest s l
+      → judgedBy ids mismatch (gives l) ≡ gives v → judgedBy ids mismatch read ≡ gives v
   read-as {l} g e = ap (judgedBy ids mismatch) (claim-read form R most s l .1 g) ∙ e
 
   pub judged-exactly : Judges (form .word) most ids Matches Wrong s (judgedBy ids mismatch read)
@@ -142,5 +142,6 @@ module _ (most : ℕ) (ids : List ℤ) where
       → Judges decimalOf most ids (Alike near (0, 1) any reference) (Differs near (0, 1) any reference) s
       (judgedBy ids (farLine reference) (coefficientLines most s))
   epsilon-judged any reference s =
-      judged-exactly decimalForm decimal-right most ids (farLine reference) (Alike near (0, 1) any reference) (Differs near (0, 1) any reference)
+      judged-exactly decimalForm decimal-right most ids (farLine reference) (Alike near (0, 1) any reference)
+      (Differs near (0, 1) any reference)
       (λ vs. line-exactly near (0, 1) any reference vs) (λ vs i. first-least near (0, 1) any reference vs i) s

@@ -100,8 +100,8 @@ pairs-length [] = refl
 pairs-length (x ∷ l) = ap suc (pairs-length l)
 
 -- the lines that a claim's text was written from
-lines-back : {A : Type 0} (form : Form A) → RightStop form → (most : ℕ) (l : List (WrittenLine A)) → AllSpelled (form .word) l → length l ≤ most
-    → claimLines (lineBy (pairForm form)) most (claimText l) ≡ gives (pairsOf l)
+lines-back : {A : Type 0} (form : Form A) → RightStop form → (most : ℕ) (l : List (WrittenLine A)) → AllSpelled (form .word) l
+    → length l ≤ most → claimLines (lineBy (pairForm form)) most (claimText l) ≡ gives (pairsOf l)
 lines-back form R most l h f =
     file-accepted (pairForm form) (pair-right form R) claimFile most noTest (claimText l) (pairsOf l) .1
     (record {

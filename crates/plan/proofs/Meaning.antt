@@ -64,7 +64,8 @@ module _ {A : Type 0} (word : List ℕ → Word A) (jobs : Bool) (s : List ℕ)
   first-line k place to next e l =
       let r = mapped-gives (λ v. v .1) (sheetLine word s place) next (sym e) in
       let v : A = r .0 .0 in
-      let c : Cut (wordAlone word) s place v next = subst (Cut (wordAlone word) s place v) (sym (r .2)) (sheet-cut word s place v (r .0 .1) (r .1)) in
+      let c : Cut (wordAlone word) s place v next = subst (Cut (wordAlone word) s place v) (sym (r .2))
+      (sheet-cut word s place v (r .0 .1) (r .1)) in
       record {
         lines = c .w ++ lf ∷ l .lines;
         values = v ∷ l .values;

@@ -158,7 +158,7 @@ module _ (s : List ℕ) (short : length s ≤ mostBytes) where
 checked-brief : (s : List ℕ) → Either Any Brief (sheetCheck s)
 unfolding sheetCheck
 checked-brief s =
-    either-cond Any Brief (ltb mostBytes (length s)) _ _ 
+    either-cond Any Brief (ltb mostBytes (length s)) _ _
     (λ _. record { number = omega arith; file = omega arith; line = omega arith; column = omega arith })
     (λ t. let short : length s ≤ mostBytes = ltb-false mostBytes (length s) t in
     refused-onward Brief (sections s) (ended s) (sections-brief s short)

@@ -1,5 +1,5 @@
--- Where the bytes of a line break off, for each form of a line: from those before that place a good line could go on, with the one there none
--- can. Assumes nothing.
+-- Where the bytes of a line break off, for each form of a line: from those before that place a good line could go on, with the one there
+-- none can. Assumes nothing.
 use Prim.Native.Nat.{ℕ, suc, _+_, _≤_, _<_}
 use mathlib.Core.Path.{_≡_, refl, sym, ap, _∙_}
 use mathlib.Core.List.{List, [], _∷_, _++_, append-assoc}
@@ -117,7 +117,8 @@ module _ {A : Type 0} (form : Form A) (R : RightStop form) where
   word = twoOf identOf (form .word)
 
   -- the form of a word by its parts, or one that has no space
-  two-well : (u v : List ℕ) → mem space u ≡ false → wellFormed (word (u ++ space ∷ v)) ≡ (wellFormed (identOf u) && wellFormed (form .word v))
+  two-well : (u v : List ℕ) → mem space u ≡ false
+      → wellFormed (word (u ++ space ∷ v)) ≡ (wellFormed (identOf u) && wellFormed (form .word v))
   unfolding twoOf
   two-well u v n = rw (mem-cut space u v, upTo-cut space u v n, past-cut space u v n) (both-wells (identOf u) (form .word v))
 
@@ -131,7 +132,8 @@ module _ {A : Type 0} (form : Form A) (R : RightStop form) where
   spaceless u h = false-of (mem space u) (λ e. clash h (ap wellFormed (ident-stray space refl refl u e)))
 
   -- a word whose first bytes u, with no space in them, belong in no identifier
-  first-bad : (u t : List ℕ) → mem space u ≡ false → ((r : List ℕ) → wellFormed (identOf (u ++ r)) ≡ false) → wellFormed (word (u ++ t)) ≡ false
+  first-bad : (u t : List ℕ) → mem space u ≡ false → ((r : List ℕ) → wellFormed (identOf (u ++ r)) ≡ false)
+      → wellFormed (word (u ++ t)) ≡ false
   first-bad u t n h =
       bool-cases (mem space t) _
       (λ e. let m : mem space (u ++ upTo space t) ≡ false = mem-join space u (upTo space t) n (upTo-none space t) in

@@ -17,7 +17,7 @@ use Rattle.basis.proofs.Tests.{clash, no-case, false-of, bool-cases}
 use Rattle.basis.proofs.Scans.{mem-head}
 use Rattle.text.specs.Bytes.{lf}
 use Rattle.text.specs.Word.{Word, malformed, outside, value, wellFormed, identOf}
-use Rattle.text.specs.Line.{LineSaid, line, none, fault, upTo, Form, columnIn, lineSays, lineBy, identForm, pairForm, edgeForm, decimalForm}
+use Rattle.text.specs.Line.{none, fault, upTo, Form, columnIn, lineSays, lineBy, identForm, pairForm, edgeForm, decimalForm}
 use Rattle.text.specs.Column.{GoodLine, CanGoOn, fileEnd, wholeLine, Column, TellsColumn, Columns}
 use Rattle.text.proofs.Bytes.{upTo-none, cut-at, mem-left, mem-cut, not-head, not-tail}
 use Rattle.text.proofs.Breaks.{RightStop, ident-right, decimal-right, pair-right, edge-right}

@@ -35,13 +35,14 @@ module _ {A : Type 0} (form : Form A) (s : List ℕ) (place : ℕ) where
     where
       go : (t u : Bool) → mem lf (drop place s) ≡ u
           → cond t (none place)
-          (cond u (lineSays place (place + length (upTo lf (drop place s)) + 1) (columnIn form s place) (form .word (upTo lf (drop place s))))
+          (cond u
+          (lineSays place (place + length (upTo lf (drop place s)) + 1) (columnIn form s place) (form .word (upTo lf (drop place s))))
           (fault badForm (columnIn form s place) place)) ≡ line v next → Cut v next
       go true u q h = no-case cc
       go false false q h = no-case cc
       go false true q h =
-          let n = says-line (place + length (upTo lf (drop place s)) + 1) (columnIn form s place) (form .word (upTo lf (drop place s))) v next
-          h in
+          let n = says-line (place + length (upTo lf (drop place s)) + 1) (columnIn form s place) (form .word (upTo lf (drop place s)))
+          v next h in
           let c = cut-at lf (drop place s) q in
           let d = drop-past s (upTo lf (drop place s)) (past lf (drop place s)) place lf c in
           record {

@@ -6,12 +6,11 @@ use native.Mathlib.Omega.{arith}
 use lib.IntN.{pos, negsuc}
 use Rattle.basis.specs.Scan.{each, mem}
 use Rattle.text.specs.Bytes.{bytes}
-use Rattle.text.specs.Word.{malformed, value, within}
+use Rattle.text.specs.Word.{within}
 use Rattle.text.specs.Decimal.{decimal, digitOf, pastPoint, wholeIsGood, signedPower, powerAt, partsOf, fractionOf, decimalOf}
 use Rattle.text.specs.Grammar.{nought, number, noPoint, point, noPower, plus, minus, DecimalForm}
 use Rattle.text.specs.Line.{line, none, fault, lineBy, twoOf, twoStop, vertexLine, edgeLine, claimLine, coefficientLine}
 use Rattle.text.specs.Stop.{isSign, digitsStop, powerStop, partsStop, fractionStop, decimalStop}
-use Rattle.text.specs.Scan.{scanned, hasAt, decimalAt, restAt}
 
 -- vertex lines
 pub record VertexLines : Type 0 where
@@ -58,12 +57,16 @@ pub record WhereInLine : Type 0 where
   pub claim-tab : claimLine (bytes "-3 20\t\n") 0 ≡ fault 2 6 0
   pub point-behind-all-digits : coefficientLine (bytes "7 12345678901234567.5\n") 0 ≡ fault 2 20 0
   pub power-behind-all-digits : coefficientLine (bytes "7 12345678901234567e+1\n") 0 ≡ fault 2 23 0
+  pub eighteenth-digit : coefficientLine (bytes "7 123456789012345678\n") 0 ≡ fault 2 20 0
   pub point-and-line-end : coefficientLine (bytes "7 1.\n") 0 ≡ fault 2 5 0
+  pub second-point : coefficientLine (bytes "7 1.5.\n") 0 ≡ fault 2 6 0
+  pub third-digit-of-power : coefficientLine (bytes "7 1e+123\n") 0 ≡ fault 2 8 0
+  pub power-unended : coefficientLine (bytes "7 1e") 0 ≡ fault 2 5 0
   pub good-but-unended : coefficientLine (bytes "7 1.5") 0 ≡ fault 2 6 0
 
 pub where-in-line : WhereInLine
-unfolding each mem within lineBy twoOf twoStop digitOf pastPoint wholeIsGood signedPower powerAt partsOf fractionOf decimalOf isSign digitsStop
-    powerStop partsStop fractionStop decimalStop
+unfolding each mem within lineBy twoOf twoStop digitOf pastPoint wholeIsGood signedPower powerAt partsOf fractionOf decimalOf isSign
+    digitsStop powerStop partsStop fractionStop decimalStop
 where-in-line = record {
   empty-line = refl;
   file-ends = refl;
@@ -81,7 +84,11 @@ where-in-line = record {
   claim-tab = refl;
   point-behind-all-digits = refl;
   power-behind-all-digits = refl;
+  eighteenth-digit = refl;
   point-and-line-end = refl;
+  second-point = refl;
+  third-digit-of-power = refl;
+  power-unended = refl;
   good-but-unended = refl;
 }
 
@@ -136,8 +143,8 @@ pub record CoefficientLines : Type 0 where
   pub form-of-second : coefficientLine (bytes "9223372036854775808 x\n") 0 ≡ fault 2 21 0
 
 pub coefficient-lines : CoefficientLines
-unfolding each mem within lineBy twoOf twoStop digitOf pastPoint wholeIsGood signedPower powerAt partsOf fractionOf decimalOf isSign digitsStop
-    powerStop partsStop fractionStop decimalStop
+unfolding each mem within lineBy twoOf twoStop digitOf pastPoint wholeIsGood signedPower powerAt partsOf fractionOf decimalOf isSign
+    digitsStop powerStop partsStop fractionStop decimalStop
 coefficient-lines =
     record {
       half = refl;
@@ -190,75 +197,6 @@ forms =
             says = refl;
           };
     }
-
--- where a decimal breaks off
-pub record Stops : Type 0 where
-  pub stop-empty : decimalStop [] ≡ 0
-  pub stop-none : decimalStop (bytes "x") ≡ 0
-  pub stop-point-first : decimalStop (bytes ".5") ≡ 0
-  pub stop-zeros : decimalStop (bytes "00") ≡ 1
-  pub stop-zero-seven : decimalStop (bytes "07") ≡ 1
-  pub stop-stray : decimalStop (bytes "1x") ≡ 1
-  pub stop-eighteenth : decimalStop (bytes "123456789012345678") ≡ 17
-  pub stop-point-after-seventeen : decimalStop (bytes "12345678901234567.") ≡ 17
-  pub stop-eighteenth-after-point : decimalStop (bytes "0.12345678901234567") ≡ 18
-  pub stop-point-last : decimalStop (bytes "1.") ≡ 2
-  pub stop-after-point : decimalStop (bytes "1.x") ≡ 2
-  pub stop-second-point : decimalStop (bytes "1.5.") ≡ 3
-  pub stop-space : decimalStop (bytes "1.5 ") ≡ 3
-  pub stop-no-sign : decimalStop (bytes "1e5") ≡ 2
-  pub stop-no-digit : decimalStop (bytes "1e+x") ≡ 3
-  pub stop-one-digit : decimalStop (bytes "1e+1") ≡ 4
-  pub stop-third-digit : decimalStop (bytes "1e+123") ≡ 5
-  pub stop-power-after-seventeen : decimalStop (bytes "12345678901234567e") ≡ 18
-  pub stop-good : decimalStop (bytes "3.25e-01") ≡ 8
-
-pub stops : Stops
-unfolding within pastPoint wholeIsGood isSign digitsStop powerStop partsStop fractionStop decimalStop
-stops = record {
-  stop-empty = refl;
-  stop-none = refl;
-  stop-point-first = refl;
-  stop-zeros = refl;
-  stop-zero-seven = refl;
-  stop-stray = refl;
-  stop-eighteenth = refl;
-  stop-point-after-seventeen = refl;
-  stop-eighteenth-after-point = refl;
-  stop-point-last = refl;
-  stop-after-point = refl;
-  stop-second-point = refl;
-  stop-space = refl;
-  stop-no-sign = refl;
-  stop-no-digit = refl;
-  stop-one-digit = refl;
-  stop-third-digit = refl;
-  stop-power-after-seventeen = refl;
-  stop-good = refl;
-}
-
--- the rest of a line of an LCC claim, from place 2 on
-pub record Rests : Type 0 where
-  pub rest-point-last : restAt (bytes "7 1.\n") 2 ≡ scanned malformed 4
-  pub rest-one-digit : restAt (bytes "7 1e+1\n") 2 ≡ scanned malformed 6
-  pub rest-space : restAt (bytes "7 1.5 \n") 2 ≡ scanned malformed 5
-  pub rest-file-ends : restAt (bytes "7 1.5") 2 ≡ scanned malformed 5
-  pub rest-file-breaks-off : restAt (bytes "7 1e") 2 ≡ scanned malformed 4
-  pub rest-stray : restAt (bytes "7 1x") 2 ≡ scanned malformed 3
-  pub rest-good : restAt (bytes "7 1.5\n") 2 ≡ scanned (value (decimal 15 0 1)) 6
-
-pub rests : Rests
-unfolding within digitOf pastPoint wholeIsGood signedPower powerAt partsOf fractionOf decimalOf isSign digitsStop powerStop partsStop
-    fractionStop decimalStop hasAt decimalAt restAt
-rests = record {
-  rest-point-last = refl;
-  rest-one-digit = refl;
-  rest-space = refl;
-  rest-file-ends = refl;
-  rest-file-breaks-off = refl;
-  rest-stray = refl;
-  rest-good = refl;
-}
 
 -- a vertex line of n nines
 abbrev pub nines : ℕ → List ℕ

@@ -19,7 +19,8 @@ use Rattle.text.specs.Word.{Word, malformed, outside, value, wellFormed}
 use Rattle.text.specs.Bytes.{lf}
 use Rattle.text.specs.Line.{LineSaid, line, none, fault, upTo, past, Form, columnIn, lineSays, lineBy}
 use Rattle.text.specs.File.{Line, good, bad, linesFrom, linesOf, Before, first, after, unless, faultOf, badAt, valuesFrom}
-use Rattle.text.specs.File.{valuesOf, noTest, joined, Says, Passes, lastOf, GoodFile, Fails, over, unended, wrong, beyond, tested, FirstFault}
+use Rattle.text.specs.File.{valuesOf, noTest, joined, Says, Passes, lastOf, GoodFile}
+use Rattle.text.specs.File.{Fails, over, unended, wrong, beyond, tested, FirstFault}
 use Rattle.text.specs.Column.{wholeLine, Column}
 use Rattle.text.proofs.Bytes.{cut-at, upTo-none, upTo-le, drop-past}
 use Rattle.text.proofs.Cuts.{cut-line}

@@ -104,8 +104,12 @@ ident-goes [] = record { rest = 48 ∷ []; good = refl }
 ident-goes (b ∷ bs) = by (eqb b 45) refl
   where
     by : (t : Bool) → eqb b 45 ≡ t → Goes identOf (take (cond t (suc (minusStop bs)) (countStop (b ∷ bs))) (b ∷ bs))
-    by true e = let g = minus-goes bs in record { rest = g .rest; good = ap wellFormed (ident-is b (take (minusStop bs) bs ++ g .rest) true e) ∙ g .good }
-    by false e = let g = count-goes (b ∷ bs) in record { rest = g .rest; good = count-ident (take (countStop (b ∷ bs)) (b ∷ bs) ++ g .rest) (g .good) }
+    by true e =
+        let g = minus-goes bs in
+        record { rest = g .rest; good = ap wellFormed (ident-is b (take (minusStop bs) bs ++ g .rest) true e) ∙ g .good }
+    by false e =
+        let g = count-goes (b ∷ bs) in
+        record { rest = g .rest; good = count-ident (take (countStop (b ∷ bs)) (b ∷ bs) ++ g .rest) (g .good) }
 
 -- ---- with the byte there none can
 -- behind digits, with a byte that is none
@@ -168,7 +172,9 @@ count-next s at = by (drop at s) refl
     by [] e =
         let h = past-at s at e in
         rw (← has-past s at 48 h, nothing-past s at h) (sym (add-zero at))
-    by (b ∷ bs) e = let h = head-at s at b bs e in rw (count-by s at b (h .0) (h .1), e) (go (runVal 0 (b ∷ bs)) (eqb b 48) (within 49 57 b) refl)
+    by (b ∷ bs) e =
+        let h = head-at s at b bs e in
+        rw (count-by s at b (h .0) (h .1), e) (go (runVal 0 (b ∷ bs)) (eqb b 48) (within 49 57 b) refl)
       where
         go : (n : ℕ) (p q : Bool) → within 49 57 b ≡ q
             → cond p (scanned {A = ℕ} (value 0) (at + 1)) (cond q (scanned (value n) (at + runLen (b ∷ bs))) (scanned malformed at)) .next
@@ -177,38 +183,33 @@ count-next s at = by (drop at s) refl
         go n false true w = omega (arith, len-digit b bs (first-digit b w))
         go n false false w = sym (add-zero at)
 
+-- what the scanner says after a `-`
+abbrev minusAt : List ℕ → ℕ → Scanned ℤ
+minusAt s at = cond (hasAt s at 48) (scanned malformed at) (signedAt true (countAt s at))
+
+minus-next : (s : List ℕ) (at : ℕ) → minusAt s at .next ≡ at + minusStop (drop at s)
+minus-next s at = by (drop at s) refl
+  where
+    by : (l : List ℕ) → drop at s ≡ l → minusAt s at .next ≡ at + minusStop l
+    by [] e = rw (← has-past s at 48 (past-at s at e)) (count-next s at ∙ ap (λ (l : List ℕ). at + countStop l) e)
+    by (b ∷ bs) e = let h = head-at s at b bs e in rw (← has-yes s at 48 (h .0), h .1) (go (eqb b 48))
+      where
+        go : (t : Bool) → cond t (scanned malformed at) (signedAt true (countAt s at)) .next ≡ at + cond t 0 (countStop (b ∷ bs))
+        go true = sym (add-zero at)
+        go false = count-next s at ∙ ap (λ (l : List ℕ). at + countStop l) e
+
 pub ident-next : (s : List ℕ) (at : ℕ) → identAt s at .next ≡ at + identStop (drop at s)
 unfolding identAt
 ident-next s at = by (drop at s) refl
   where
     by : (l : List ℕ) → drop at s ≡ l → identAt s at .next ≡ at + identStop l
-    by [] e = let h = past-at s at e in rw (← has-past s at 45 h) (count-next s at ∙ ap (λ (l : List ℕ). at + countStop l) e)
-    by (b ∷ bs) e =
-        let h = head-at s at b bs e in
-        rw (← has-yes s at 45 (h .0), h .1) (go (eqb b 45))
+    by [] e = rw (← has-past s at 45 (past-at s at e)) (count-next s at ∙ ap (λ (l : List ℕ). at + countStop l) e)
+    by (b ∷ bs) e = let h = head-at s at b bs e in rw (← has-yes s at 45 (h .0), h .1) (go (eqb b 45))
       where
-        minus : cond (hasAt s (at + 1) 48) (scanned malformed (at + 1)) (signedAt true (countAt s (at + 1))) .next ≡ at + suc (minusStop bs)
-        minus = after bs (sym (drop-drop 1 at s) ∙ ap (drop 1) e)
-          where
-            after : (l : List ℕ) → drop (at + 1) s ≡ l
-                → cond (hasAt s (at + 1) 48) (scanned malformed (at + 1)) (signedAt true (countAt s (at + 1))) .next ≡ at + suc (minusStop l)
-            after [] f =
-                let h = past-at s (at + 1) f in
-                rw (← has-past s (at + 1) 48 h) (count-next s (at + 1) ∙ ap (λ (l : List ℕ). at + 1 + countStop l) f ∙ omega arith)
-            after (x ∷ xs) f =
-                let h = head-at s (at + 1) x xs f in
-                rw (← has-yes s (at + 1) 48 (h .0), h .1) (zero (eqb x 48))
-              where
-                zero : (t : Bool) → cond t (scanned malformed (at + 1)) (signedAt true (countAt s (at + 1))) .next
-                    ≡ at + suc (cond t 0 (countStop (x ∷ xs)))
-                zero true = omega arith
-                zero false = count-next s (at + 1) ∙ ap (λ (l : List ℕ). at + 1 + countStop l) f ∙ omega arith
-
-        go : (t : Bool)
-            → cond t (cond (hasAt s (at + 1) 48) (scanned malformed (at + 1)) (signedAt true (countAt s (at + 1))))
-            (signedAt false (countAt s at)) .next
+        go : (t : Bool) → cond t (minusAt s (at + 1)) (signedAt false (countAt s at)) .next
             ≡ at + cond t (suc (minusStop bs)) (countStop (b ∷ bs))
-        go true = minus
+        go true =
+            minus-next s (at + 1) ∙ ap (λ (l : List ℕ). at + 1 + minusStop l) (sym (drop-drop 1 at s) ∙ ap (drop 1) e) ∙ omega arith
         go false = count-next s at ∙ ap (λ (l : List ℕ). at + countStop l) e
 
 -- ---- what stands behind a byte of no identifier does not matter

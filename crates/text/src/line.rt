@@ -95,7 +95,7 @@ fn edge_outside(c: Cursor, second: Scan) -> EdgeLine
 {
     let at = c.at;
     match second {
-        Scan::Bad(p) => EdgeLine::Fault(BAD_FORM, column(at, p), c),
+        Scan::Bad(q) => EdgeLine::Fault(BAD_FORM, column(at, q), c),
         Scan::Outside(_) => EdgeLine::Fault(OUT_OF_RANGE, 0, c),
         Scan::Value(_, _) => EdgeLine::Fault(OUT_OF_RANGE, 0, c),
     }
