@@ -22,7 +22,8 @@
  *    0  the claim matches (line 0)
  *   20  the claim is incomplete: its first line whose identifier isn't the graph's at that place, or the first missing or surplus line
  *   21  the claim is complete and does not match: its first mismatch
- * Files: 1 vertex, 2 edge, 3 claim, 0 none. Lines count from 1; 0 where no line applies. Verdicts carry file 3.
+ * Files: 1 vertex, 2 edge, 3 claim, 0 none. Lines count from 1; 0 where no line applies. Verdicts carry file 3. The column at which a line
+ * of the wrong form (2) breaks off, which the desk program prints, is not in the coded numbers.
  * A verdict is no refusal: TRACE_REFUSED and TRACE_VERDICT_REFUSED hold of the numbers 1 to 12 alone.
  */
 #ifndef TRACE_H

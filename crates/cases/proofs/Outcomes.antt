@@ -5,6 +5,7 @@ use denote.Ref.{now}
 use Rattle.graph.specs.Part.{partOf}
 use Rattle.basis.proofs.refusal.Refusal.plain as basis-plain
 use Rattle.basis.proofs.refusal.Refusal.at as basis-at
+use Rattle.basis.proofs.refusal.Refusal.at_column as basis-at_column
 use Rattle.basis.proofs.order.less as basis-less
 use Rattle.basis.proofs.order.same as basis-same
 use Rattle.basis.proofs.order.lesser as basis-lesser
@@ -117,6 +118,13 @@ basis-plain-one = record {
 pub basis-at-one : One basis-at.ended (λ M 𝓤. basis-at.clauses 𝓤)
 basis-at-one = record {
   promise = basis-at.Reads.Learnt;
+  told = refl;
+  one = λ _ _ _ _ _ _ p q. (meet p q, refl);
+}
+
+pub basis-at_column-one : One basis-at_column.ended (λ M 𝓤. basis-at_column.clauses 𝓤)
+basis-at_column-one = record {
+  promise = basis-at_column.Reads.Learnt;
   told = refl;
   one = λ _ _ _ _ _ _ p q. (meet p q, refl);
 }

@@ -77,7 +77,7 @@ impl File {
     }
 }
 
-/// A refusal: why, in which file, at which line (from 1; 0 where no line applies).
+/// A refusal: why, in which file, at which line (from 1; 0 where no line applies). The host calls answer no column.
 #[derive(Clone, Copy, Debug, PartialEq, Eq)]
 pub struct Refusal {
     pub reason: Reason,
