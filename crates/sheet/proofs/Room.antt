@@ -1,7 +1,7 @@
 -- The output of every sheet has at most 753,744 bytes:
 -- a job prints at most 43,013 bytes behind its line, and the lines of the jobs stand in the sheet.
 -- And a sheet that is too long prints what its first 65,537 bytes print. Assumes nothing.
-use Prim.Native.Nat.{ℕ, zero, suc, _+_, _-_, _*_, _^_, _≤_, _<_}
+use Prim.Native.Nat.{ℕ, zero, suc, _-_, _*_, _^_, _≤_, _<_}
 use mathlib.Core.Path.{_≡_, refl, sym, ap, _∙_}
 use mathlib.Core.Bool.{Bool, true, false}
 use mathlib.Core.List.{List, [], _∷_}

@@ -4,7 +4,7 @@ use Prim.Native.Nat.{ℕ, suc, _+_, _≤_, _<_}
 use mathlib.Core.Path.{_≡_, refl, sym, ap, _∙_}
 use mathlib.Core.List.{List, [], _∷_, _++_, append-assoc}
 use mathlib.Core.Bool.{Bool, true, false, cond, _&&_, _||_}
-use mathlib.Core.Logic.{⊎-elim}
+use mathlib.Core.Logic.{_↔_, ⊎-elim}
 use native.Mathlib.Omega.{arith}
 use native.Mathlib.Nat.{eq-or-lt-of-le}
 use lib.Dec.{eqb}
@@ -17,16 +17,17 @@ use Rattle.basis.proofs.Scans.{each-append, each-mem, mem-append}
 use Rattle.text.specs.Bytes.{lf, space}
 use Rattle.text.specs.Word.{Word, malformed, outside, value, wellFormed, within, isDigit, identOf}
 use Rattle.text.specs.Decimal.{decimalOf}
-use Rattle.text.specs.Grammar.{WholePart, FractionPart, PowerPart, noPoint, point, noPower, plus, minus}
-use Rattle.text.specs.Grammar.{wholeDigits, fractionDigits, fractionBytes, powerDigits, powerBytes, partBytes, DecimalForm}
-use Rattle.text.specs.Stop.{identStop, decimalStop}
+use Rattle.text.specs.Grammar.{FractionPart, PowerPart, noPoint, point, noPower, plus, minus}
+use Rattle.text.specs.Grammar.{wholeDigits, fractionDigits, fractionBytes, powerDigits, powerBytes}
+use Rattle.text.specs.Stop.{identStop}
 use Rattle.text.specs.Line.{upTo, past, Form, both, twoOf, twoStop, identForm, pairForm, edgeForm, decimalForm}
-use Rattle.text.specs.Column.{fileEnd}
+use Rattle.text.specs.Column.{Formed, IsDecimal, TwoWords, fileEnd}
+use Rattle.text.specs.declared.decimal.Decimal.{Decimal}
 use Rattle.text.proofs.Bytes.{cut-at, upTo-none, upTo-cut, upTo-take, upTo-le, upTo-all, past-cut, mem-cut, mem-join, mem-left}
 use Rattle.text.proofs.Stops.{cond-le, stop-le, decimal-never-outside, NeverOutside}
 use Rattle.text.proofs.Firsts.{stop-first}
 use Rattle.text.proofs.Goings.{Goes, stop-goes}
-use Rattle.text.proofs.Grammars.{form-of}
+use Rattle.text.proofs.Grammars.{form-of, decimal-grammar}
 use Rattle.text.proofs.Words.{ident-stray}
 use Rattle.text.proofs.Idents.{ident-short, ident-goes, ident-breaks}
 
@@ -71,25 +72,27 @@ power-marks noPower h = refl
 power-marks (plus x y) h = each-more (x ∷ y ∷ []) h
 power-marks (minus x y) h = each-more (x ∷ y ∷ []) h
 
-decimal-marks : (w : List ℕ) → wellFormed (decimalOf w) ≡ true → each ofDecimal w ≡ true
-decimal-marks w h = by (decimalOf w) refl (decimal-never-outside w) h
+pub decimal-formed : (w : List ℕ) → Formed decimalOf w ↔ IsDecimal w
+decimal-formed w = (λ h. by (decimalOf w) refl (decimal-never-outside w) h, λ x. ap wellFormed (decimal-grammar w (x .0) .1 (x .1)))
   where
-    by : (x : Word _) → decimalOf w ≡ x → NeverOutside x → wellFormed x ≡ true → each ofDecimal w ≡ true
-    by malformed e n k = clash k refl
-    by outside e n k = absurd n
-    by (value d) e n k =
-        let f = form-of w d e in
-        let g = f .good in
-        let p = f .parts in
-        ap (each ofDecimal) (f .bytes)
-        ∙ each-append ofDecimal (wholeDigits (p .whole)) (fractionBytes (p .fraction) ++ powerBytes (p .power))
-        ∙ and-both (each-more (wholeDigits (p .whole)) (g .wholes))
-        (each-append ofDecimal (fractionBytes (p .fraction)) (powerBytes (p .power))
-        ∙ and-both (fraction-marks (p .fraction) (g .fractions)) (power-marks (p .power) (g .powers)))
+    by : (x : Word Decimal) → decimalOf w ≡ x → NeverOutside x → wellFormed x ≡ true → IsDecimal w
+    by malformed e n h = clash h refl
+    by outside e n h = absurd n
+    by (value d) e n h = (d, form-of w d e)
+
+decimal-marks : (w : List ℕ) → IsDecimal w → each ofDecimal w ≡ true
+decimal-marks w (d, f) =
+    let g = f .good in
+    let p = f .parts in
+    ap (each ofDecimal) (f .bytes)
+    ∙ each-append ofDecimal (wholeDigits (p .whole)) (fractionBytes (p .fraction) ++ powerBytes (p .power))
+    ∙ and-both (each-more (wholeDigits (p .whole)) (g .wholes))
+    (each-append ofDecimal (fractionBytes (p .fraction)) (powerBytes (p .power))
+    ∙ and-both (fraction-marks (p .fraction) (g .fractions)) (power-marks (p .power) (g .powers)))
 
 decimal-stray : (c : ℕ) → ofDecimal c ≡ false → (w : List ℕ) → mem c w ≡ true → wellFormed (decimalOf w) ≡ false
 decimal-stray c d w h =
-    false-of (wellFormed (decimalOf w)) (λ k. clash (each-mem ofDecimal w (decimal-marks w k) c h) d)
+    false-of (wellFormed (decimalOf w)) (λ k. clash (each-mem ofDecimal w (decimal-marks w (decimal-formed w .0 k)) c h) d)
 
 pub decimal-right : RightStop decimalForm
 unfolding within
@@ -131,6 +134,9 @@ module _ {A : Type 0} (form : Form A) (R : RightStop form) where
   unfolding within
   spaceless u h = false-of (mem space u) (λ e. clash h (ap wellFormed (ident-stray space refl refl u e)))
 
+  pub words-two : (u v : List ℕ) → Formed identOf u → Formed (form .word) v → Formed word (u ++ space ∷ v)
+  words-two u v h k = two-well u v (spaceless u h) ∙ and-both h k
+
   -- a word whose first bytes u, with no space in them, belong in no identifier
   first-bad : (u t : List ℕ) → mem space u ≡ false → ((r : List ℕ) → wellFormed (identOf (u ++ r)) ≡ false)
       → wellFormed (word (u ++ t)) ≡ false
@@ -164,6 +170,22 @@ module _ {A : Type 0} (form : Form A) (R : RightStop form) where
         ))
         (λ _. omega (arith, ident-short first, upTo-le space w))
 
+    -- a good word is a good first one, a space and a good second one
+    pub two-words : Formed word w → TwoWords (Formed identOf) (Formed (form .word)) w
+    two-words h =
+        bool-cases (mem space w) _
+        (λ m. let q : w ≡ first ++ space ∷ second = cut-at space w m in
+        let z : (wellFormed (identOf first) && wellFormed (form .word second)) ≡ true =
+        sym (two-well first second (upTo-none space w)) ∙ ap (λ (l : List ℕ). wellFormed (word l)) (sym q) ∙ h in
+        record {
+          first = first;
+          second = second;
+          between = q;
+          firstFormed = and-first (wellFormed (identOf first)) (wellFormed (form .word second)) z;
+          secondFormed = and-second (wellFormed (identOf first)) (wellFormed (form .word second)) z;
+        })
+        (λ m. clash h (two-none w m))
+
     -- the bytes up to k places into the first word, and into the second
     first-take : (k : ℕ) → k ≤ length first → take k w ≡ take k first
     first-take k h = sym (take-take k (length first) w h) ∙ ap (take k) (upTo-take space w)
@@ -187,7 +209,7 @@ module _ {A : Type 0} (form : Form A) (R : RightStop form) where
               rest = g .rest;
               good = ap (λ (l : List ℕ). wellFormed (word (l ++ g .rest))) d
                   ∙ ap (λ (l : List ℕ). wellFormed (word l)) (append-assoc first (space ∷ take k second) (g .rest))
-                  ∙ two-well first (take k second ++ g .rest) (upTo-none space w) ∙ and-both h (g .good);
+                  ∙ words-two first (take k second ++ g .rest) h (g .good);
             }
         by false e =
             let k : ℕ = identStop first in
@@ -199,7 +221,7 @@ module _ {A : Type 0} (form : Form A) (R : RightStop form) where
               rest = g .rest ++ space ∷ v;
               good = ap (λ (l : List ℕ). wellFormed (word (l ++ (g .rest ++ space ∷ v)))) d
                   ∙ ap (λ (l : List ℕ). wellFormed (word l)) (sym (append-assoc (take k first) (g .rest) (space ∷ v)))
-                  ∙ two-well (take k first ++ g .rest) v (spaceless (take k first ++ g .rest) (g .good)) ∙ and-both (g .good) (o .good);
+                  ∙ words-two (take k first ++ g .rest) v (g .good) (o .good);
             }
 
     two-breaks : (t : List ℕ) → twoStop (form .stop) w < length w → wellFormed (word (take (suc (twoStop (form .stop) w)) w ++ t)) ≡ false

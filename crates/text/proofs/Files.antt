@@ -21,7 +21,7 @@ use Rattle.text.specs.Line.{LineSaid, line, none, fault, upTo, past, For
 use Rattle.text.specs.File.{Line, good, bad, linesFrom, linesOf, Before, first, after, unless, faultOf, badAt, valuesFrom}
 use Rattle.text.specs.File.{valuesOf, noTest, joined, Says, Passes, lastOf, GoodFile}
 use Rattle.text.specs.File.{Fails, over, unended, wrong, beyond, tested, FirstFault}
-use Rattle.text.specs.Column.{wholeLine, Column}
+use Rattle.text.specs.Column.{Formed, wholeLine, Column}
 use Rattle.text.proofs.Bytes.{cut-at, upTo-none, upTo-le, drop-past}
 use Rattle.text.proofs.Cuts.{cut-line}
 use Rattle.text.proofs.Places.{line-moves, none-stays}
@@ -317,7 +317,7 @@ module _ {A : Type 0} (form : Form A) (R : RightStop form) (file most : ℕ) (te
           ≡ lineSays (c .place) (c .place + length (upTo lf (drop (c .place) s)) + 1) (columnIn form s (c .place)) x
       ended m x e = line-ended form s (c .place) within (rw (c .here) m) ∙ rw (c .here, e)
 
-      told : Column word (wholeLine (f .rest)) (f .column) → columnIn form s (c .place) ≡ f .column
+      told : Column (Formed word) (wholeLine (f .rest)) (f .column) → columnIn form s (c .place) ≡ f .column
       told x = ap (λ (l : List ℕ). form .stop (upTo lf l) + 1) (c .here) ∙ sym (column-is form R (f .rest) (f .column) x)
 
       by : Fails word most (test (lastOf first (f .passed))) (length (f .passed)) (f .rest) (f .number) (f .column)
@@ -364,7 +364,7 @@ pub record FileRefusal (file most size : ℕ) (r : Refusal) : Type 0 where
 module _ {A : Type 0} (form : Form A) (R : RightStop form) (file most : ℕ) (test : Before A → A → ℕ)
     (small : (before : Before A) (v : A) → test before v ≤ 7) (s : List ℕ) where
   -- a column is within the bytes that are left, or one behind them
-  column-most : (words : List (List ℕ)) (rest : List ℕ) (c : ℕ) → s ≡ joined words ++ rest → Column (form .word) (wholeLine rest) c
+  column-most : (words : List (List ℕ)) (rest : List ℕ) (c : ℕ) → s ≡ joined words ++ rest → Column (Formed (form .word)) (wholeLine rest) c
       → c ≤ length s + 1
   column-most words rest c e x =
       omega (
@@ -378,7 +378,7 @@ module _ {A : Type 0} (form : Form A) (R : RightStop form) (file most : ℕ) (te
   fault-refusal : (r : Refusal) → FirstFault (form .word) file most test s r → FileRefusal file most (length s) r
   fault-refusal r f = rw (f .refusal) (by (f .fails))
     where
-      wide : Column (form .word) (wholeLine (f .rest)) (f .column) → f .column ≤ length s + 1
+      wide : Column (Formed (form .word)) (wholeLine (f .rest)) (f .column) → f .column ≤ length s + 1
       wide = column-most (f .words) (f .rest) (f .column) (f .whole)
 
       by : Fails (form .word) most (test (lastOf first (f .passed))) (length (f .passed)) (f .rest) (f .number) (f .column)

@@ -3,7 +3,7 @@
 use Prim.Native.Nat.{ℕ, suc, _+_, _≤_, _<_}
 use mathlib.Core.Path.{_≡_, refl, sym, ap, _∙_}
 use mathlib.Core.List.{List, [], _∷_, _++_}
-use mathlib.Core.Bool.{Bool, true, false, cond, _&&_}
+use mathlib.Core.Bool.{Bool, true, false, cond}
 use native.Mathlib.Omega.{arith}
 use native.Mathlib.Nat.{add-zero}
 use lib.Dec.{eqb}
@@ -12,7 +12,7 @@ use lib.Seq.{length-take-le, getD-take, getD-drop, drop-drop}
 use lib.IntN.{ℤ}
 use borrow.Author.Tests.{eqb-true}
 use Rattle.basis.specs.Scan.{each, mem}
-use Rattle.basis.proofs.Tests.{clash, bool-cases, and-off}
+use Rattle.basis.proofs.Tests.{clash, bool-cases}
 use Rattle.basis.proofs.Scans.{each-fail, each-append}
 use Rattle.text.specs.Word.{Word, malformed, outside, value, wellFormed, within, isDigit, runLen, runVal}
 use Rattle.text.specs.Word.{countOf, signedOf, afterMinus, identOf}

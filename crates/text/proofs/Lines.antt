@@ -16,7 +16,7 @@ use Rattle.text.specs.Word.{Word, malformed, outside, value, wellFormed,
 use Rattle.text.specs.Decimal.{decimalOf}
 use Rattle.text.specs.Stop.{identStop, decimalStop}
 use Rattle.text.specs.Bytes.{lf, space}
-use Rattle.text.specs.Line.{LineSaid, line, none, fault, upTo, past, Form, columnIn, lineSays, lineBy, both, twoOf, twoStop}
+use Rattle.text.specs.Line.{line, none, fault, upTo, past, Form, columnIn, lineSays, lineBy, both, twoOf, twoStop}
 use Rattle.text.specs.Line.{identForm, pairForm, decimalForm, vertexLine, edgeLine, coefficientLine, edgeSays, coefficientSays}
 use Rattle.text.specs.Scan.{Scanned, scanned, hasAt, closed, fieldAt, scanSays, decimalSays}
 use Rattle.text.specs.Scan.{identAt, lineFrom, decimalAt, restAt, restSays, beside, columnAt, lineOf}

@@ -11,7 +11,7 @@ use Rattle.basis.specs.Scan.{mem}
 use Rattle.text.specs.Word.{Word, malformed, outside, value}
 use Rattle.text.specs.Bytes.{lf}
 use Rattle.text.specs.Line.{LineSaid, line, none, fault, upTo}
-use Rattle.text.specs.Column.{wholeLine, Column}
+use Rattle.text.specs.Column.{Formed, wholeLine, Column}
 
 -- a line of a file: its values, or the number and the column of its fault of form or range
 pub data Line (A : Type 0) : Type 0 where
@@ -104,9 +104,9 @@ pub record GoodFile {A : Type 0} (word : List ℕ → Word A) (most : ℕ) (test
 -- test says why
 pub data Fails {A : Type 0} (word : List ℕ → Word A) (most : ℕ) (test : A → ℕ) (k : ℕ) (rest : List ℕ) (number column : ℕ) : Type 0 where
   over : k ≡ most → number ≡ tooMany → column ≡ 0 → Fails word most test k rest number column
-  unended : k < most → mem lf rest ≡ false → number ≡ badForm → Column word (wholeLine rest) column
+  unended : k < most → mem lf rest ≡ false → number ≡ badForm → Column (Formed word) (wholeLine rest) column
       → Fails word most test k rest number column
-  wrong : k < most → mem lf rest ≡ true → word (upTo lf rest) ≡ malformed → number ≡ badForm → Column word (wholeLine rest) column
+  wrong : k < most → mem lf rest ≡ true → word (upTo lf rest) ≡ malformed → number ≡ badForm → Column (Formed word) (wholeLine rest) column
       → Fails word most test k rest number column
   beyond : k < most → mem lf rest ≡ true → word (upTo lf rest) ≡ outside → number ≡ outOfRange → column ≡ 0
       → Fails word most test k rest number column
