@@ -1,11 +1,9 @@
 -- Laws of the calls that read: for each `return` of the code what the call says, its premises the tests on the way there. Assumes nothing.
 use mathlib.Core.Path.{_≡_, sym, ap, ap₂, _∙_}
-use mathlib.Core.List.{List}
 use mathlib.Core.Bool.{Bool, true, false, not, _&&_}
 use Prim.Native.Nat.{ℕ, suc, _+_, _≤_, _<_}
 use native.Mathlib.Omega.{arith}
 use native.Mathlib.Numerals.{add-one}
-use lib.ListN.{getD}
 use lib.Dec.{leb, ltb, eqb}
 use borrow.Author.Tests.{ltb-true, leb-true, lt-ltb, le-ltb, le-leb, lt-leb, eq-eqb, ne-eqb}
 use Rattle.basis.proofs.Saids.{refused-given, given-one, check-on, check-off, check-passed, onward-passed}
@@ -15,12 +13,11 @@ use Rattle.basis.proofs.Tests.{and-first, and-second, and-both, and-off, failed
 use Rattle.book.specs.declared.Headed.{Headed}
 use Rattle.book.specs.declared.Pair.{Pair}
 use Rattle.book.specs.declared.Reading.{Reading}
-use Rattle.book.specs.Rules.{mostMoves, stop, View, WalkEnd, walkEnd, Heads, heads, walkFrom, headOf, pair, headsOf, oneHead}
+use Rattle.book.specs.Rules.{mostMoves, Next, stop, View, WalkEnd, walkEnd, Heads, heads, walkFrom, headOf, pair, headsOf, oneHead}
 use Rattle.book.specs.Rules.{sameGroup, sizeAt, groupSize, tally, isStop, groupCount, largest, limitOf, stepLimit}
-use Rattle.book.specs.Two.{nextIn}
 use Rattle.book.specs.Says.{saysHeaded, saysReading}
 use Rattle.book.specs.Steps.{saysPair}
-use Rattle.book.proofs.Walks.{walkFrom-in, next-head, next-other}
+use Rattle.book.proofs.Walks.{walkFrom-in}
 use Rattle.book.proofs.Tally.{tally-yes, tally-no}
 
 -- ---- the head
@@ -144,12 +141,6 @@ module _ (w : View) (v : ℕ) where
     unfolding groupSize
     size-at = ap (λ s. onward s (sizeAt w)) (sym e ∙ ap saysHeaded f)
 
-    pub size-zero : (x : Refusal) → w .size h ≡ 0 → x ≡ plain unsound → refuses x ≡ groupSize w v
-    size-zero x a p =
-        ap refuses p
-        ∙ sym (size-at ∙ check-off (ltb 0 (w .size h) && leb (w .size h) (w .count)) unsound _
-        (ap (λ (b : Bool). b && leb (w .size h) (w .count)) (le-ltb 0 (w .size h) (omega arith))))
-
     pub size-large : (x : Refusal) → w .count < w .size h → x ≡ plain unsound → refuses x ≡ groupSize w v
     size-large x a p =
         ap refuses p ∙ sym (size-at ∙ check-off _ unsound _ (and-off (ltb 0 (w .size h)) _ (lt-leb (w .size h) (w .count) a)))
@@ -158,11 +149,12 @@ module _ (w : View) (v : ℕ) where
     size-is a b =
         sym (size-at ∙ check-on _ unsound _ (and-both (lt-ltb 0 (w .size h) (omega (arith, a))) (le-leb (w .size h) (w .count) b)))
 
-    -- the head that is read is in the area
-    pub size-below : (w .fit ≡ true) × (h < w .count)
+    -- the head that is read is one, in the area
+    pub size-below : (w .fit ≡ true) × (h < w .count) × (w .next h ≡ stop)
     size-below =
         let t = head-inside w v (walkEnd h k) (sym e ∙ ap saysHeaded f) in
-        (t .0, walkFrom-in (w .next) (w .count) v (walkEnd h k) (t .1) (t .2) .0)
+        let b = walkFrom-in (w .next) (w .count) v (walkEnd h k) (t .1) (t .2) in
+        (t .0, b .0, b .1)
 
   -- a size that is given is one of a group of the book
   pub size-inside : (s : ℕ) → groupSize w v ≡ gives s → (w .fit ≡ true) × (0 < s) × (s ≤ w .count)
@@ -191,13 +183,13 @@ module _ (w : View) (v : ℕ) where
       pub limit-size : (w .fit ≡ true) × (0 < s) × (s ≤ w .count)
       limit-size = size-inside s (sym e ∙ ap saysReading f)
 
--- ---- the count
-module _ (ps : List ℕ) (i : ℕ) where
-  pub count-head : getD ps i 0 ≡ i → tally (λ v. isStop (nextIn ps v)) (i + 1) ≡ suc (tally (λ v. isStop (nextIn ps v)) i)
-  count-head e = rw add-one (tally-yes (λ v. isStop (nextIn ps v)) i (ap isStop (next-head ps i e)))
+-- ---- the count: t says whether i is a head
+module _ (next : ℕ → Next) (i : ℕ) (t : Bool) (e : t ≡ isStop (next i)) where
+  pub count-head : t ≡ true → tally (λ v. isStop (next v)) (i + 1) ≡ suc (tally (λ v. isStop (next v)) i)
+  count-head h = rw add-one (tally-yes (λ v. isStop (next v)) i (sym e ∙ h))
 
-  pub count-other : (getD ps i 0 ≡ i → ⊥) → tally (λ v. isStop (nextIn ps v)) (i + 1) ≡ tally (λ v. isStop (nextIn ps v)) i
-  count-other e = rw add-one (tally-no (λ v. isStop (nextIn ps v)) i (ap isStop (next-other ps i e)))
+  pub count-other : t ≡ false → tally (λ v. isStop (next v)) (i + 1) ≡ tally (λ v. isStop (next v)) i
+  count-other h = rw add-one (tally-no (λ v. isStop (next v)) i (sym e ∙ h))
 
 module _ (w : View) (t : Bool) (e : t ≡ w .fit) where
   pub count-unlent : (x : Refusal) → not t ≡ true → x ≡ plain noRoom → refuses x ≡ groupCount w

@@ -5,21 +5,21 @@ use mathlib.Core.List.{List}
 use Prim.Native.Nat.{ℕ, zero, suc, _+_, _*_, _/_, _%_, _≤_, _<_}
 use native.Mathlib.Omega.{arith}
 use native.Mathlib.Decide.{decLt}
-use lib.ListN.{length, set, length-set}
+use lib.IntN.{ℤ}
+use lib.ListN.{length}
 use lib.Dec.{leb}
 use borrow.Author.Tests.{le-leb, lt-leb}
 use Rattle.basis.specs.Limits.{mostVertices}
 use Rattle.basis.specs.Refusal.{gives, refuses, plain, unsound, check}
 use Rattle.book.specs.Rules.{mostMoves, Next, stop, to, WalkEnd, walkEnd, walk, walkFrom}
-use Rattle.book.specs.Two.{areas, nextIn, two}
+use Rattle.book.specs.One.{nextHere, one, oneBook}
 use Rattle.book.specs.Steps.{saysWalked, Walking}
 use Rattle.basis.proofs.Saids.{refused-given, given-one, check-on, check-off}
-use Rattle.book.proofs.Checks.{fits-within}
 use Rattle.book.proofs.Walks.{walk-head, walk-move, walk-late, walk-out}
 use Rattle.book.proofs.Walked.{walked-ends, walked-of}
 use Rattle.book.proofs.Forest.{Reach, reach-in, reach-walk, reach-other, reach-under}
 use Rattle.book.proofs.Faithful.{Mergeable}
-use Rattle.book.proofs.TwoBook.{faithful-two}
+use Rattle.book.proofs.OneBook.{faithful-one}
 
 module _ (next : ℕ → Next) (n : ℕ) where
   -- what a walk gives is reached
@@ -92,27 +92,34 @@ module _ (next next′ : ℕ → Next) (n top under : ℕ) (top-in : top < n) (t
           reach-late next′ n (k + 1) mostMoves 0 v top on (omega arith)
           ∙ sym (check-off (leb (k + 1) mostMoves) unsound _ (lt-leb (k + 1) mostMoves (omega arith)))
 
--- ---- the same of two areas, of a walk in one number
-module _ (ps ss : List ℕ) (u at : ℕ) (x : Walking ps ss u at) (m : at / mostVertices ≤ mostMoves) (t d : ℕ)
-    (k : Mergeable (two ps ss) t d 1) where
-  ended : walkFrom (nextIn ps) (length ps) u ≡ gives (walkEnd (at % mostVertices) (at / mostVertices))
+-- ---- the same of one area, of a walk in one number
+module _ (xs : List ℤ) (u at : ℕ) (x : Walking xs u at) (m : at / mostVertices ≤ mostMoves) (t d s : ℕ)
+    (k : Mergeable (one xs) t d s) where
+  abbrev after : List ℤ
+  after = oneBook .merged t d s xs
+
+  ended : walkFrom (nextHere xs) (length xs) u ≡ gives (walkEnd (at % mostVertices) (at / mostVertices))
   ended = sym (x .walk) ∙ walked-ends at m
 
-  pub carried-other : (at % mostVertices ≡ d → ⊥) → saysWalked at ≡ walkFrom (nextIn (set ps d t)) (length (set ps d t)) u
-  unfolding two
+  pub carried-length : length after ≡ length xs
+  unfolding one
+  carried-length = faithful-one .merged-count xs t d s
+
+  pub carried-other : (at % mostVertices ≡ d → ⊥) → saysWalked at ≡ walkFrom (nextHere after) (length after) u
+  unfolding one
   carried-other q =
       walked-ends at m
-      ∙ sym (ap (λ (n : ℕ). walkFrom (nextIn (set ps d t)) n u) (length-set ps d t)
-      ∙ walk-other (nextIn ps) (nextIn (set ps d t)) (length ps) t d (k .top-in) (k .top-head) (k .under-head) (k .apart)
-      (faithful-two .merged-under (areas ps ss) t d 1 k)
-      (faithful-two .merged-next (areas ps ss) t d 1 k) u (at % mostVertices) (at / mostVertices) (x .inside) ended q)
+      ∙ sym (ap (λ (n : ℕ). walkFrom (nextHere after) n u) carried-length
+      ∙ walk-other (nextHere xs) (nextHere after) (length xs) t d (k .top-in) (k .top-head) (k .under-head) (k .apart)
+      (faithful-one .merged-under xs t d s k)
+      (faithful-one .merged-next xs t d s k) u (at % mostVertices) (at / mostVertices) (x .inside) ended q)
 
   pub carried-under : at % mostVertices ≡ d → saysWalked ((at / mostVertices + 1) * mostVertices + t)
-      ≡ walkFrom (nextIn (set ps d t)) (length (set ps d t)) u
-  unfolding two
+      ≡ walkFrom (nextHere after) (length after) u
+  unfolding one
   carried-under q =
-      walked-of t (at / mostVertices + 1) (omega (arith, k .top-in, fits-within ps ss (x .lent)))
-      ∙ sym (ap (λ (n : ℕ). walkFrom (nextIn (set ps d t)) n u) (length-set ps d t)
-      ∙ walk-under (nextIn ps) (nextIn (set ps d t)) (length ps) t d (k .top-in) (k .top-head) (k .under-head) (k .apart)
-      (faithful-two .merged-under (areas ps ss) t d 1 k)
-      (faithful-two .merged-next (areas ps ss) t d 1 k) u (at % mostVertices) (at / mostVertices) (x .inside) ended q)
+      walked-of t (at / mostVertices + 1) (omega (arith, k .top-in, x .lent))
+      ∙ sym (ap (λ (n : ℕ). walkFrom (nextHere after) n u) carried-length
+      ∙ walk-under (nextHere xs) (nextHere after) (length xs) t d (k .top-in) (k .top-head) (k .under-head) (k .apart)
+      (faithful-one .merged-under xs t d s k)
+      (faithful-one .merged-next xs t d s k) u (at % mostVertices) (at / mostVertices) (x .inside) ended q)

@@ -2,35 +2,36 @@
 use mathlib.Core.Path.{_≡_, refl, sym, ap, ap₂, _∙_, subst}
 use mathlib.Core.List.{List, [], _∷_}
 use mathlib.Core.Bool.{Bool, true, false, not, cond}
-use mathlib.Core.Logic.{_⊎_, inl, inr}
+use mathlib.Core.Logic.{inl, inr}
 use Prim.Native.Nat.{ℕ, suc, _+_, _*_, _/_, _%_, _≤_, _<_}
 use native.Mathlib.Omega.{arith}
 use native.Mathlib.Numerals.{add-one}
-use native.Mathlib.Decide.{ℕ-discrete}
-use lib.ListN.{length, getD, set, drop, drop-of-length-le}
-use lib.Dec.{eqb}
-use lib.Seq.{drop-cons, getD-set-same, getD-set-other}
+use lib.IntN.{ℤ}
+use lib.ListN.{length, getD, drop, drop-of-length-le}
+use lib.Dec.{leb, eqb}
+use lib.Seq.{drop-cons}
+use borrow.Author.Tests.{le-leb}
 use Rattle.basis.specs.Limits.{mostVertices}
 use Rattle.basis.specs.declared.refusal.Refusal.{Refusal}
 use Rattle.basis.specs.Refusal.{Said, gives, refuses, plain, noRoom, notThere, unsound, onward, check}
-use Rattle.basis.proofs.Tests.{held}
+use Rattle.basis.proofs.Tests.{clash, no-case}
 use Rattle.book.specs.declared.Joined.{Joined}
 use Rattle.book.specs.declared.Pair.{Pair}
 use Rattle.book.specs.declared.joining.Carried.{Carried}
-use Rattle.book.specs.Rules.{mostMoves, stop, to, heads, Step, already, merge, Joining, merged, same, Machine, Outcome, outcome}
-use Rattle.book.specs.Rules.{above, mergeable, mergeHeads, walkFrom, headsOf, linkHeads, decide, writeBook}
+use Rattle.book.specs.Rules.{mostMoves, Next, stop, isStop, heads, Step, already, merge, Joining, merged, same, Machine, Outcome}
+use Rattle.book.specs.Rules.{outcome, mergeable, mergeHeads, walkFrom, headsOf, linkHeads, decide, writeBook}
 use Rattle.book.specs.Rules.{joinBook, Each, all, stopped, EachOutcome, eachOutcome, counted, behind, andOn, joinEach}
-use Rattle.book.specs.Two.{Areas, areas, nextIn, fits, two, twoBook}
+use Rattle.book.specs.One.{nextHere, one, oneBook}
 use Rattle.book.specs.Says.{saysJoined}
-use Rattle.book.specs.Steps.{saysWalked, saysPair, linkTwo, Walking, saysCarried, carriedOn}
-use Rattle.basis.proofs.Saids.{refused-given}
-use Rattle.book.proofs.Checks.{fits-of, fits-same, fits-within}
-use Rattle.book.proofs.Calls.{heads-unlent, heads-missing, heads-missing2, heads-below}
-use Rattle.book.proofs.Walks.{next-other}
+use Rattle.book.specs.Steps.{saysWalked, saysPair, AtHead, linkOne, Walking, saysCarried, carriedOn}
+use Rattle.basis.proofs.Saids.{refused-given, given-one}
+use Rattle.book.proofs.Calls.{heads-unlent, heads-missing, heads-missing2}
 use Rattle.book.proofs.Faithful.{Mergeable}
-use Rattle.book.proofs.Carried.{carried-other, carried-under}
-use Rattle.book.proofs.Walked.{heads-late, heads-late2, heads-end}
-use Rattle.book.proofs.Joins.{merge-above, merge-below, link-already, link-unsound, link-merges, two-linked, two-first, two-second}
+use Rattle.book.proofs.Forest.{Whose}
+use Rattle.book.proofs.OneBook.{faithful-one}
+use Rattle.book.proofs.Carried.{carried-length, carried-other, carried-under}
+use Rattle.book.proofs.Walked.{lent-within, heads-late, heads-late2, heads-end}
+use Rattle.book.proofs.Joins.{link-merged, one-linked, one-first, one-second}
 
 -- ---- a join whose heads are not found is refused
 module _ (M : Machine) (a : M .Area) (u : ℕ) where
@@ -46,26 +47,23 @@ module _ (M : Machine) (a : M .Area) (u : ℕ) where
   each-lost r h (w ∷ ws) e = ap (λ (d : Outcome Joining (M .Area)). andOn (d .said) (d .area) (joinEach M (d .area) u ws)) (h w)
 
 -- ---- the code's `join_each`
-module _ (ps ss : List ℕ) (u : ℕ) (t : Bool) (e : t ≡ fits ps ss) where
+module _ (xs : List ℤ) (u : ℕ) (t : Bool) (e : t ≡ leb (length xs) mostVertices) where
   module _ (ws : List ℕ) (k : length ws ≡ 0 → ⊥) (x : Refusal) where
-    pub each-unlent : not t ≡ true → x ≡ plain noRoom → eachOutcome (stopped 0 0 x) (areas ps ss) ≡ joinEach twoBook (areas ps ss) u ws
-    unfolding two
-    each-unlent f p =
-        each-lost twoBook (areas ps ss) u x (λ w. join-lost twoBook (areas ps ss) u w x (heads-unlent (two ps ss) u w t e x f p)) ws k
+    pub each-unlent : not t ≡ true → x ≡ plain noRoom → eachOutcome (stopped 0 0 x) xs ≡ joinEach oneBook xs u ws
+    unfolding one
+    each-unlent f p = each-lost oneBook xs u x (λ w. join-lost oneBook xs u w x (heads-unlent (one xs) u w t e x f p)) ws k
 
-    pub each-missing : not t ≡ false → length ps ≤ u → x ≡ plain notThere
-        → eachOutcome (stopped 0 0 x) (areas ps ss) ≡ joinEach twoBook (areas ps ss) u ws
-    unfolding two
-    each-missing f l p =
-        each-lost twoBook (areas ps ss) u x (λ w. join-lost twoBook (areas ps ss) u w x (heads-missing (two ps ss) u w t e x f l p)) ws k
+    pub each-missing : not t ≡ false → length xs ≤ u → x ≡ plain notThere → eachOutcome (stopped 0 0 x) xs ≡ joinEach oneBook xs u ws
+    unfolding one
+    each-missing f l p = each-lost oneBook xs u x (λ w. join-lost oneBook xs u w x (heads-missing (one xs) u w t e x f l p)) ws k
 
-  pub walking-start : (at : ℕ) → not t ≡ false → u < length ps → saysWalked at ≡ walkFrom (nextIn ps) (length ps) u → Walking ps ss u at
-  walking-start at f l p = record { lent = held t _ e f; inside = l; walk = p }
+  pub walking-start : (at : ℕ) → not t ≡ false → u < length xs → saysWalked at ≡ walkFrom (nextHere xs) (length xs) u → Walking xs u at
+  walking-start at f l p = record { lent = lent-within (length xs) t e f; inside = l; walk = p }
 
-pub each-none : (a : Areas) (u : ℕ) (ws : List ℕ) → length ws ≡ 0 → eachOutcome (all 0) a ≡ joinEach twoBook a u ws
+pub each-none : (xs : List ℤ) (u : ℕ) (ws : List ℕ) → length ws ≡ 0 → eachOutcome (all 0) xs ≡ joinEach oneBook xs u ws
 unfolding joinEach
-each-none a u [] e = refl
-each-none a u (w ∷ ws) e = absurd (omega arith)
+each-none xs u [] e = refl
+each-none xs u (w ∷ ws) e = absurd (omega arith)
 
 -- series behind series
 pub behind-none : {B : Type 0} (e : EachOutcome B) → behind 0 0 e ≡ e
@@ -79,7 +77,7 @@ behind-none e = ap (λ (x : Each). eachOutcome x (e .area)) (go (e .said))
         let q : k + 0 ≡ k = omega arith in
         ap₂ (λ x y. stopped x y r) q p
 
-behind-more : (k m j l : ℕ) (e : EachOutcome Areas) → behind k m (behind j l e) ≡ behind (k + j) (m + l) e
+behind-more : {B : Type 0} (k m j l : ℕ) (e : EachOutcome B) → behind k m (behind j l e) ≡ behind (k + j) (m + l) e
 unfolding behind
 behind-more k m j l e = ap (λ (x : Each). eachOutcome x (e .area)) (go (e .said))
   where
@@ -91,30 +89,30 @@ behind-more k m j l e = ap (λ (x : Each). eachOutcome x (e .area)) (go (e .said
         ap₂ (λ x y. stopped x y r) q p
 
 -- a turn of the loop, where i members were joined and m of the joins merged, and its end
-module _ (a : EachOutcome Areas) (b : Areas) (u : ℕ) (ws : List ℕ) (i m : ℕ) (f : behind i m (joinEach twoBook b u (drop i ws)) ≡ a) where
+module _ (a : EachOutcome (List ℤ)) (b : List ℤ) (u : ℕ) (ws : List ℕ) (i m : ℕ) (f : behind i m (joinEach oneBook b u (drop i ws)) ≡ a) where
   pub each-end : length ws ≤ i → eachOutcome (all m) b ≡ a
   unfolding joinEach behind
   each-end l =
       let p : m ≡ 0 + m = omega arith in
-      ap (λ (k : ℕ). eachOutcome (all k) b) p ∙ ap (λ (x : List ℕ). behind i m (joinEach twoBook b u x)) (sym (drop-of-length-le ws l)) ∙ f
+      ap (λ (k : ℕ). eachOutcome (all k) b) p ∙ ap (λ (x : List ℕ). behind i m (joinEach oneBook b u x)) (sym (drop-of-length-le ws l)) ∙ f
 
-  module _ (l : i < length ws) (c : Areas) (r : Carried) (e : outcome (saysCarried r) c ≡ joinBook twoBook b u (getD ws i 0)) where
-    turned : (s : Said Joining) → saysCarried r ≡ s → behind i m (andOn s c (joinEach twoBook c u (drop (i + 1) ws))) ≡ a
+  module _ (l : i < length ws) (c : List ℤ) (r : Carried) (e : outcome (saysCarried r) c ≡ joinBook oneBook b u (getD ws i 0)) where
+    turned : (s : Said Joining) → saysCarried r ≡ s → behind i m (andOn s c (joinEach oneBook c u (drop (i + 1) ws))) ≡ a
     unfolding joinEach
     turned s q =
-        rw add-one (ap (λ (x : Said Joining). behind i m (andOn x c (joinEach twoBook c u (drop (suc i) ws)))) (sym q)
-        ∙ ap (λ (d : Outcome Joining Areas). behind i m (andOn (d .said) (d .area) (joinEach twoBook (d .area) u (drop (suc i) ws)))) e
-        ∙ ap (λ (x : List ℕ). behind i m (joinEach twoBook b u x)) (sym (drop-cons ws i 0 l)) ∙ f)
+        rw add-one (ap (λ (x : Said Joining). behind i m (andOn x c (joinEach oneBook c u (drop (suc i) ws)))) (sym q)
+        ∙ ap (λ (d : Outcome Joining (List ℤ)). behind i m (andOn (d .said) (d .area) (joinEach oneBook (d .area) u (drop (suc i) ws)))) e
+        ∙ ap (λ (x : List ℕ). behind i m (joinEach oneBook b u x)) (sym (drop-cons ws i 0 l)) ∙ f)
 
-    pub each-merged : (on : ℕ) → r ≡ Carried.Merged on → behind (i + 1) (m + 1) (joinEach twoBook c u (drop (i + 1) ws)) ≡ a
+    pub each-merged : (on : ℕ) → r ≡ Carried.Merged on → behind (i + 1) (m + 1) (joinEach oneBook c u (drop (i + 1) ws)) ≡ a
     unfolding andOn
     each-merged on q = sym (behind-more i m 1 1 _) ∙ turned (gives merged) (ap saysCarried q)
 
-    pub each-already : r ≡ Carried.Already → behind (i + 1) m (joinEach twoBook c u (drop (i + 1) ws)) ≡ a
+    pub each-already : r ≡ Carried.Already → behind (i + 1) m (joinEach oneBook c u (drop (i + 1) ws)) ≡ a
     unfolding andOn
     each-already q =
         let z : m ≡ m + 0 = omega arith in
-        ap (λ (k : ℕ). behind (i + 1) k (joinEach twoBook c u (drop (i + 1) ws))) z ∙ sym (behind-more i m 1 0 _)
+        ap (λ (k : ℕ). behind (i + 1) k (joinEach oneBook c u (drop (i + 1) ws))) z ∙ sym (behind-more i m 1 0 _)
         ∙ turned (gives same) (ap saysCarried q)
 
     pub each-refused : (number : ℕ) (x : Refusal) → r ≡ Carried.Refused number → x ≡ plain number → eachOutcome (stopped i m x) c ≡ a
@@ -126,236 +124,175 @@ module _ (a : EachOutcome Areas) (b : Areas) (u : ℕ) (ws : List ℕ) (i m : �
         ∙ turned (refuses (plain number)) (ap saysCarried q)
 
 -- the walk that is carried on
-module _ (ps ss : List ℕ) (u at : ℕ) (r : Carried) (x : Walking ps ss u (carriedOn at r)) where
-  pub walking-on : (on : ℕ) → r ≡ Carried.Merged on → Walking ps ss u on
-  walking-on on q = subst (λ (y : Carried). Walking ps ss u (carriedOn at y)) q x
+module _ (xs : List ℤ) (u at : ℕ) (r : Carried) (x : Walking xs u (carriedOn at r)) where
+  pub walking-on : (on : ℕ) → r ≡ Carried.Merged on → Walking xs u on
+  walking-on on q = subst (λ (y : Carried). Walking xs u (carriedOn at y)) q x
 
-  pub walking-stays : r ≡ Carried.Already → Walking ps ss u at
-  walking-stays q = subst (λ (y : Carried). Walking ps ss u (carriedOn at y)) q x
+  pub walking-stays : r ≡ Carried.Already → Walking xs u at
+  walking-stays q = subst (λ (y : Carried). Walking xs u (carriedOn at y)) q x
 
--- ---- a link that merges two heads: one goes under the other
-abbrev Hung : List ℕ → ℕ → ℕ → List ℕ → Type 0
-Hung ps g h ps₁ = (ps₁ ≡ set ps h g) ⊎ (ps₁ ≡ set ps g h)
-
-module _ (ps ss : List ℕ) (g h : ℕ) (ps₁ ss₁ : List ℕ) (e : outcome (gives merged) (areas ps₁ ss₁) ≡ linkTwo ps ss g h) where
-  written : (d : Said Step) → linkHeads (two ps ss) (heads g h) ≡ d
-      → outcome (gives merged) (areas ps₁ ss₁) ≡ writeBook twoBook d (areas ps ss)
-  unfolding linkTwo
-  written d q = e ∙ ap (λ d. writeBook twoBook d (areas ps ss)) q
-
-  merges : (g ≡ h → ⊥) × Hung ps g h ps₁
-  unfolding writeBook
-  merges = same? (ℕ-discrete g h)
+-- ---- a link
+module _ (xs : List ℤ) (g h : ℕ) (ys : List ℤ) where
+  -- that merges writes what a merge writes
+  link-writes : outcome (gives merged) ys ≡ linkOne xs g h
+      → (t d s : ℕ) × (linkHeads (one xs) (heads g h) ≡ gives (merge t d s)) × (ys ≡ oneBook .merged t d s xs)
+  unfolding linkOne writeBook
+  link-writes e = go (linkHeads (one xs) (heads g h)) refl
     where
-      a : ℕ
-      a = two ps ss .size g
-
-      b : ℕ
-      b = two ps ss .size h
-
-      parents-of : Outcome Joining Areas → List ℕ
-      parents-of d = d .area .parents
-
-      said-of : Outcome Joining Areas → Said Joining
+      said-of : Outcome Joining (List ℤ) → Said Joining
       said-of d = d .said
 
-      above? : (g ≡ h → ⊥) → mergeable (two ps ss .count) a b ≡ true → (t : Bool) → above a b g h ≡ t → (g ≡ h → ⊥) × Hung ps g h ps₁
-      above? d m true q = (d, inl (ap parents-of (written _ (link-merges (two ps ss) g h d m ∙ ap gives (merge-above a b g h q)))))
-      above? d m false q = (d, inr (ap parents-of (written _ (link-merges (two ps ss) g h d m ∙ ap gives (merge-below a b g h q)))))
+      go : (d : Said Step) → linkHeads (one xs) (heads g h) ≡ d
+          → (t d s : ℕ) × (linkHeads (one xs) (heads g h) ≡ gives (merge t d s)) × (ys ≡ oneBook .merged t d s xs)
+      go (gives already) q =
+          let z : merged ≡ same = given-one (ap said-of (e ∙ ap (λ d. writeBook oneBook d xs) q)) in no-case cc
+      go (gives (merge t d s)) q = (t, d, s, q, ap (λ (o : Outcome Joining (List ℤ)). o .area) (e ∙ ap (λ d. writeBook oneBook d xs) q))
+      go (refuses r) q = refused-given (sym (ap said-of (e ∙ ap (λ d. writeBook oneBook d xs) q)))
 
-      may? : (g ≡ h → ⊥) → (t : Bool) → mergeable (two ps ss .count) a b ≡ t → (g ≡ h → ⊥) × Hung ps g h ps₁
-      may? d true q = above? d q (above a b g h) refl
-      may? d false q = refused-given (sym (ap said-of (written _ (link-unsound (two ps ss) g h d q))))
+  -- that is refused is so for a damaged size alone
+  link-refusal : (y : Refusal) → outcome (refuses y) ys ≡ linkOne xs g h → y ≡ plain unsound
+  unfolding linkOne writeBook linkHeads
+  link-refusal y e =
+      let a = one xs .size g in
+      let b = one xs .size h in
+      size-refusal (eqb g h) (mergeable (one xs .count) a b) already (mergeHeads a b g h) y
+      (go (linkHeads (one xs) (heads g h)) (sym (ap (λ (d : Outcome Joining (List ℤ)). d .said) e)))
+    where
+      size-refusal : (t k : Bool) (x z : Step) (y : Refusal) → cond t (gives x) (check k unsound (gives z)) ≡ refuses y → y ≡ plain unsound
+      size-refusal true k x z y e = refused-given (sym e)
+      size-refusal false true x z y e = refused-given (sym e)
+      size-refusal false false x z y e = cc
 
-      same? : Dec (g ≡ h) → (g ≡ h → ⊥) × Hung ps g h ps₁
-      same? (yes q) =
-          let z : _≡_ {A = Said Joining} (gives merged) (gives same) = ap said-of (written _ (link-already (two ps ss) g h q)) in
-          absurd (let y : _≡_ {A = ℕ} 0 1 = cc in omega arith)
-      same? (no d) = may? d (mergeable (two ps ss .count) a b) refl
-
--- a link is refused for a damaged size alone
-size-refusal : (t k : Bool) (x z : Step) (y : Refusal) → cond t (gives x) (check k unsound (gives z)) ≡ refuses y → y ≡ plain unsound
-size-refusal true k x z y e = refused-given (sym e)
-size-refusal false true x z y e = refused-given (sym e)
-size-refusal false false x z y e = cc
-
-link-refusal : (ps ss : List ℕ) (g h : ℕ) (c : Areas) (y : Refusal) → outcome (refuses y) c ≡ linkTwo ps ss g h → y ≡ plain unsound
-unfolding linkTwo writeBook linkHeads
-link-refusal ps ss g h c y e =
-    let a = two ps ss .size g in
-    let b = two ps ss .size h in
-    size-refusal (eqb g h) (mergeable (two ps ss .count) a b) already (mergeHeads a b g h) y
-    (go (linkHeads (two ps ss) (heads g h)) (sym (ap (λ (d : Outcome Joining Areas). d .said) e)))
-  where
-    go : (d : Said Step) → writeBook twoBook d (areas ps ss) .said ≡ refuses y → d ≡ refuses y
-    go (gives already) q = refused-given (sym q)
-    go (gives (merge top under total)) q = refused-given (sym q)
-    go (refuses r) q = cc
-
--- a head is its own parent
-head-is : (ps : List ℕ) (v : ℕ) → nextIn ps v ≡ stop → getD ps v 0 ≡ v
-head-is ps v e =
-    elim (ℕ-discrete (getD ps v 0) v) [
-      | yes q ↦ q
-      | no d ↦ let z : stop ≡ to (getD ps v 0) = sym e ∙ next-other ps v d in
-          absurd (let y : _≡_ {A = ℕ} 0 1 = cc in omega arith)
-    ]
+      go : (d : Said Step) → writeBook oneBook d xs .said ≡ refuses y → d ≡ refuses y
+      go (gives already) q = refused-given (sym q)
+      go (gives (merge top under total)) q = refused-given (sym q)
+      go (refuses r) q = cc
 
 -- ---- the code's `join_next`
-module _ (ps ss : List ℕ) (u at : ℕ) (x : Walking ps ss u at) where
-  pub walking-within : length ps ≤ mostVertices
-  walking-within = fits-within ps ss (x .lent)
+module _ (xs : List ℤ) (u at : ℕ) (x : Walking xs u at) where
+  pub walking-within : length xs ≤ mostVertices
+  walking-within = x .lent
 
-  pub walking-lengths : length ss ≡ length ps
-  walking-lengths = fits-same ps ss (x .lent)
+  module _ (ys : List ℤ) where
+    kept : ys ≡ xs → Walking ys u at
+    kept e = subst (λ (b : List ℤ). Walking b u at) (sym e) x
 
-  module _ (ps₁ ss₁ : List ℕ) where
-    kept : areas ps₁ ss₁ ≡ areas ps ss → Walking ps₁ ss₁ u at
-    kept e = subst (λ (b : Areas). Walking (b .parents) (b .sizes) u at) (sym e) x
-
-    -- the walk anew, in areas of the same lengths
-    walking-again : length ps₁ ≡ length ps → length ss₁ ≡ length ss → (r : ℕ) → saysWalked r ≡ walkFrom (nextIn ps₁) (length ps₁) u
-        → Walking ps₁ ss₁ u r
-    walking-again p q r e =
-        record {
-          lent = fits-of ps₁ ss₁ (omega (arith, walking-within)) (omega (arith, walking-lengths));
-          inside = omega (arith, x .inside);
-          walk = e;
-        }
-
-    -- a join that does not merge leaves the areas, and so the walk
-    walking-kept : (s : Said Joining) (d : Said Step) → outcome s (areas ps₁ ss₁) ≡ writeBook twoBook d (areas ps ss)
-        → (s ≡ gives merged → ⊥)
-        → Walking ps₁ ss₁ u at
+    -- a join that does not merge leaves the area, and so the walk
+    walking-kept : (s : Said Joining) (d : Said Step) → outcome s ys ≡ writeBook oneBook d xs → (s ≡ gives merged → ⊥) → Walking ys u at
     unfolding writeBook
-    walking-kept s (gives already) e h = kept (ap (λ (b : Outcome Joining Areas). b .area) e)
-    walking-kept s (gives (merge top under total)) e h = absurd (h (ap (λ (b : Outcome Joining Areas). b .said) e))
-    walking-kept s (refuses r) e h = kept (ap (λ (b : Outcome Joining Areas). b .area) e)
+    walking-kept s (gives already) e h = kept (ap (λ (b : Outcome Joining (List ℤ)). b .area) e)
+    walking-kept s (gives (merge top under total)) e h = absurd (h (ap (λ (b : Outcome Joining (List ℤ)). b .said) e))
+    walking-kept s (refuses r) e h = kept (ap (λ (b : Outcome Joining (List ℤ)). b .area) e)
 
-    module _ (r : Joined) (g h : ℕ) (e : outcome (saysJoined r) (areas ps₁ ss₁) ≡ linkTwo ps ss g h) where
-      pub walking-already : r ≡ Joined.Already → Walking ps₁ ss₁ u at
-      unfolding linkTwo
+    module _ (r : Joined) (g h : ℕ) (e : outcome (saysJoined r) ys ≡ linkOne xs g h) where
+      pub walking-already : r ≡ Joined.Already → Walking ys u at
+      unfolding linkOne
       walking-already f = walking-kept (saysJoined r) _ e (λ q. (let z : _≡_ {A = ℕ} 0 1 = cc in omega arith))
 
-      pub walking-refused : (y : Refusal) → r ≡ Joined.Refused y → Walking ps₁ ss₁ u at
-      unfolding linkTwo
+      pub walking-refused : (y : Refusal) → r ≡ Joined.Refused y → Walking ys u at
+      unfolding linkOne
       walking-refused y f = walking-kept (saysJoined r) _ e (λ q. refused-given (sym (ap saysJoined f) ∙ q))
 
+  lent : true ≡ one xs .fit
+  unfolding one
+  lent = sym (le-leb (length xs) mostVertices (x .lent))
+
   module _ (w : ℕ) where
-    pub next-missing : length ps ≤ w → outcome (refuses (plain notThere)) (areas ps ss) ≡ joinBook twoBook (areas ps ss) u w
-    unfolding two
-    next-missing l =
-        join-lost twoBook (areas ps ss) u w (plain notThere) (heads-missing2 (two ps ss) u w true (sym (x .lent)) _ refl (x .inside) l refl)
+    pub next-missing : length xs ≤ w → outcome (refuses (plain notThere)) xs ≡ joinBook oneBook xs u w
+    unfolding one
+    next-missing l = join-lost oneBook xs u w (plain notThere) (heads-missing2 (one xs) u w true lent _ refl (x .inside) l refl)
 
-    module _ (l : w < length ps) where
-      pub next-late : mostMoves < at / mostVertices → outcome (refuses (plain unsound)) (areas ps ss) ≡ joinBook twoBook (areas ps ss) u w
-      unfolding two
+    module _ (l : w < length xs) where
+      pub next-late : mostMoves < at / mostVertices → outcome (refuses (plain unsound)) xs ≡ joinBook oneBook xs u w
+      unfolding one
       next-late m =
-          join-lost twoBook (areas ps ss) u w (plain unsound)
-          (heads-late (two ps ss) true (sym (x .lent)) refl u w (x .inside) l at (x .walk) _ m refl)
+          join-lost oneBook xs u w (plain unsound) (heads-late (one xs) true lent refl u w (x .inside) l at (x .walk) _ m refl)
 
-      module _ (m : at / mostVertices ≤ mostMoves) (to : ℕ) (q : saysWalked to ≡ walkFrom (nextIn ps) (length ps) w) where
-        pub next-late2 : mostMoves < to / mostVertices
-            → outcome (refuses (plain unsound)) (areas ps ss) ≡ joinBook twoBook (areas ps ss) u w
-        unfolding two
+      module _ (m : at / mostVertices ≤ mostMoves) (to : ℕ) (q : saysWalked to ≡ walkFrom (nextHere xs) (length xs) w) where
+        pub next-late2 : mostMoves < to / mostVertices → outcome (refuses (plain unsound)) xs ≡ joinBook oneBook xs u w
+        unfolding one
         next-late2 n =
-            join-lost twoBook (areas ps ss) u w (plain unsound)
-            (heads-late2 (two ps ss) true (sym (x .lent)) refl u w (x .inside) l at (x .walk) m to q _ n refl)
+            join-lost oneBook xs u w (plain unsound) (heads-late2 (one xs) true lent refl u w (x .inside) l at (x .walk) m to q _ n refl)
 
         module _ (n : to / mostVertices ≤ mostMoves) where
-          both : saysPair (Pair.Heads (at % mostVertices) (to % mostVertices)) ≡ headsOf (two ps ss) u w
-          unfolding two
-          both = heads-end (two ps ss) true (sym (x .lent)) refl u w (x .inside) l at (x .walk) m to q n
+          both : saysPair (Pair.Heads (at % mostVertices) (to % mostVertices)) ≡ headsOf (one xs) u w
+          unfolding one
+          both = heads-end (one xs) true lent refl u w (x .inside) l at (x .walk) m to q n
 
-          pub next-first : at % mostVertices < length ps
-          next-first = two-first ps ss u w _ both _ _ refl
+          pub next-first : AtHead xs (at % mostVertices)
+          next-first = one-first xs u w _ both _ _ refl
 
-          pub next-first-in : (ps₁ : List ℕ) → length ps₁ ≡ length ps → at % mostVertices < length ps₁
-          next-first-in ps₁ e = omega (arith, next-first)
+          pub next-second : AtHead xs (to % mostVertices)
+          next-second = one-second xs u w _ both _ _ refl
 
-          pub next-second : to % mostVertices < length ps
-          next-second = two-second ps ss u w _ both _ _ refl
+          pub next-first-in : (ys : List ℤ) → length ys ≡ length xs → at % mostVertices < length ys
+          next-first-in ys e = omega (arith, next-first .inside)
 
           -- what the link says is what the join says
-          module _ (ps₁ ss₁ : List ℕ) (r : Joined)
-              (e : outcome (saysJoined r) (areas ps₁ ss₁) ≡ linkTwo ps ss (at % mostVertices) (to % mostVertices)) where
-            said : (s : Joined) → r ≡ s → outcome (saysJoined s) (areas ps₁ ss₁) ≡ linkTwo ps ss (at % mostVertices) (to % mostVertices)
-            said s f = ap (λ (y : Joined). outcome (saysJoined y) (areas ps₁ ss₁)) (sym f) ∙ e
+          module _ (ys : List ℤ) (r : Joined) (e : outcome (saysJoined r) ys ≡ linkOne xs (at % mostVertices) (to % mostVertices)) where
+            said : (s : Joined) → r ≡ s → outcome (saysJoined s) ys ≡ linkOne xs (at % mostVertices) (to % mostVertices)
+            said s f = ap (λ (y : Joined). outcome (saysJoined y) ys) (sym f) ∙ e
 
-            linked : (s : Joined) → r ≡ s → outcome (saysJoined s) (areas ps₁ ss₁) ≡ joinBook twoBook (areas ps ss) u w
-            linked s f = two-linked ps ss u w _ both _ _ refl _ (said s f)
+            linked : (s : Joined) → r ≡ s → outcome (saysJoined s) ys ≡ joinBook oneBook xs u w
+            linked s f = one-linked xs u w _ both _ _ refl _ (said s f)
 
-            pub next-merged : r ≡ Joined.Merged → outcome (gives merged) (areas ps₁ ss₁) ≡ joinBook twoBook (areas ps ss) u w
+            pub next-merged : r ≡ Joined.Merged → outcome (gives merged) ys ≡ joinBook oneBook xs u w
             next-merged = linked Joined.Merged
 
-            pub next-already : r ≡ Joined.Already → outcome (gives same) (areas ps₁ ss₁) ≡ joinBook twoBook (areas ps ss) u w
+            pub next-already : r ≡ Joined.Already → outcome (gives same) ys ≡ joinBook oneBook xs u w
             next-already = linked Joined.Already
 
-            pub next-refused : (y : Refusal) → r ≡ Joined.Refused y
-                → outcome (refuses (plain unsound)) (areas ps₁ ss₁) ≡ joinBook twoBook (areas ps ss) u w
+            pub next-refused : (y : Refusal) → r ≡ Joined.Refused y → outcome (refuses (plain unsound)) ys ≡ joinBook oneBook xs u w
             next-refused y f =
-                ap (λ (z : Refusal). outcome (refuses z) (areas ps₁ ss₁))
-                (sym (link-refusal ps ss (at % mostVertices) (to % mostVertices) (areas ps₁ ss₁) y (said (Joined.Refused y) f)))
+                ap (λ (z : Refusal). outcome (refuses z) ys)
+                (sym (link-refusal xs (at % mostVertices) (to % mostVertices) ys y (said (Joined.Refused y) f)))
                 ∙ linked (Joined.Refused y) f
 
-          -- where they merge, u's head stays or goes under the other
-          module _ (ps₁ ss₁ : List ℕ) (i : length ps₁ ≡ length ps) (j : length ss₁ ≡ length ss) (r : Joined) (f : r ≡ Joined.Merged)
-              (e : outcome (saysJoined r) (areas ps₁ ss₁) ≡ linkTwo ps ss (at % mostVertices) (to % mostVertices)) where
-            shape : (at % mostVertices ≡ to % mostVertices → ⊥) × Hung ps (at % mostVertices) (to % mostVertices) ps₁
-            shape = merges ps ss (at % mostVertices) (to % mostVertices) ps₁ ss₁
-                (ap (λ (y : Joined). outcome (saysJoined y) (areas ps₁ ss₁)) (sym f) ∙ e)
+            -- where they merge, u's head stays or goes under the other: t says whether it is a head still
+            module _ (f : r ≡ Joined.Merged) (t : Bool) (p : t ≡ isStop (nextHere ys (at % mostVertices))) where
+              shape : (top under s : ℕ) × (ys ≡ oneBook .merged top under s xs) × Mergeable (one xs) top under s
+                  × Whose (λ v. v) (at % mostVertices) (to % mostVertices) top under
+              shape =
+                  let o = link-writes xs (at % mostVertices) (to % mostVertices) ys (said Joined.Merged f) in
+                  let k = link-merged (one xs) u w (at % mostVertices) (to % mostVertices) (sym both) (o .0) (o .1) (o .2) (o .3) in
+                  (o .0, o .1, o .2, o .4, k .0, k .1)
 
-            first-over : Mergeable (two ps ss) (at % mostVertices) (to % mostVertices) 1
-            unfolding two
-            first-over =
-                let b = heads-below (two ps ss) u w (at % mostVertices) (to % mostVertices) (sym both) in
-                record {
-                  fit = x .lent;
-                  top-in = b .0;
-                  under-in = b .2;
-                  apart = shape .0;
-                  top-head = b .1;
-                  under-head = b .3;
-                  total-pos = omega arith;
-                }
+              stays : at % mostVertices ≡ shape .0 → nextHere ys (at % mostVertices) ≡ stop
+              unfolding one
+              stays e =
+                  let k = shape .4 in
+                  ap₂ nextHere (shape .3) e ∙ faithful-one .merged-next xs (shape .0) (shape .1) (shape .2) k (shape .0) (k .apart)
+                  ∙ k .top-head
 
-            second-over : Mergeable (two ps ss) (to % mostVertices) (at % mostVertices) 1
-            unfolding two
-            second-over =
-                let k = first-over in
-                record {
-                  fit = x .lent;
-                  top-in = k .under-in;
-                  under-in = k .top-in;
-                  apart = λ q. k .apart (sym q);
-                  top-head = k .under-head;
-                  under-head = k .top-head;
-                  total-pos = omega arith;
-                }
+              goes : at % mostVertices ≡ shape .1 → nextHere ys (at % mostVertices) ≡ Next.to (shape .0)
+              unfolding one
+              goes e = ap₂ nextHere (shape .3) e ∙ faithful-one .merged-under xs (shape .0) (shape .1) (shape .2) (shape .4)
 
-            pub next-top : getD ps₁ (at % mostVertices) 0 ≡ at % mostVertices → Walking ps₁ ss₁ u at
-            unfolding two
-            next-top t = go (shape .1)
-              where
-                go : Hung ps (at % mostVertices) (to % mostVertices) ps₁ → Walking ps₁ ss₁ u at
-                go (inl q) =
-                    walking-again ps₁ ss₁ i j at (rw q
-                    (carried-other ps ss u at x m (at % mostVertices) (to % mostVertices) first-over (shape .0)))
-                go (inr q) =
-                    absurd (shape .0 (sym t ∙ ap (λ (l : List ℕ). getD l (at % mostVertices) 0) q
-                    ∙ getD-set-same ps (at % mostVertices) (to % mostVertices) 0 (first-over .top-in)))
+              -- the walk anew, in the area that the merge leaves
+              again : (k : ℕ)
+                  → saysWalked k ≡ walkFrom (nextHere (oneBook .merged (shape .0) (shape .1) (shape .2) xs))
+                  (length (oneBook .merged (shape .0) (shape .1) (shape .2) xs)) u
+                  → Walking ys u k
+              again k d =
+                  let c = carried-length xs u at x m (shape .0) (shape .1) (shape .2) (shape .4) in
+                  subst (λ (b : List ℤ). Walking b u k) (sym (shape .3))
+                  (record { lent = omega (arith, c, x .lent); inside = omega (arith, c, x .inside); walk = d })
 
-            pub next-under : (getD ps₁ (at % mostVertices) 0 ≡ at % mostVertices → ⊥)
-                → Walking ps₁ ss₁ u ((at / mostVertices + 1) * mostVertices + to % mostVertices)
-            unfolding two
-            next-under t = go (shape .1)
-              where
-                go : Hung ps (at % mostVertices) (to % mostVertices) ps₁
-                    → Walking ps₁ ss₁ u ((at / mostVertices + 1) * mostVertices + to % mostVertices)
-                go (inl q) =
-                    absurd (t (ap (λ (l : List ℕ). getD l (at % mostVertices) 0) q
-                    ∙ getD-set-other ps (to % mostVertices) (at % mostVertices) (at % mostVertices) 0 (shape .0)
-                    ∙ head-is ps (at % mostVertices) (first-over .top-head)))
-                go (inr q) =
-                    walking-again ps₁ ss₁ i j _ (rw q
-                    (carried-under ps ss u at x m (to % mostVertices) (at % mostVertices) second-over refl))
+              pub next-top : t ≡ true → Walking ys u at
+              next-top h = go (shape .5)
+                where
+                  go : Whose (λ v. v) (at % mostVertices) (to % mostVertices) (shape .0) (shape .1) → Walking ys u at
+                  go (inl e) =
+                      again at (carried-other xs u at x m (shape .0) (shape .1) (shape .2) (shape .4)
+                      (λ z. shape .4 .apart (sym (e .0) ∙ z)))
+                  go (inr e) = clash h (p ∙ ap isStop (goes (e .0)))
+
+              pub next-under : t ≡ false → Walking ys u ((at / mostVertices + 1) * mostVertices + to % mostVertices)
+              next-under h = go (shape .5)
+                where
+                  go : Whose (λ v. v) (at % mostVertices) (to % mostVertices) (shape .0) (shape .1)
+                      → Walking ys u ((at / mostVertices + 1) * mostVertices + to % mostVertices)
+                  go (inl e) = clash (p ∙ ap isStop (stays (e .0))) h
+                  go (inr e) =
+                      again _ (ap (λ (z : ℕ). saysWalked ((at / mostVertices + 1) * mostVertices + z)) (e .1)
+                      ∙ carried-under xs u at x m (shape .0) (shape .1) (shape .2) (shape .4) (e .0))

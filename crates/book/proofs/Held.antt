@@ -5,15 +5,16 @@ use mathlib.Core.Path.{_≡_, refl, sym, ap, _∙_, subst}
 use mathlib.Core.List.{List, [], _∷_, _++_}
 use mathlib.Core.Bool.{true}
 use Prim.Native.Nat.{ℕ, _+_, _-_, _≤_, _<_}
+use lib.IntN.{ℤ}
 use lib.ListN.{length}
+use borrow.Author.Tests.{le-leb}
 use Rattle.basis.specs.Limits.{mostVertices}
 use Rattle.basis.specs.Refusal.{gives}
 use Rattle.basis.specs.Scan.{allBelow}
 use Rattle.book.specs.Rules.{Machine, walkEnd, Each, all, openBook, joinEach, headOf}
-use Rattle.book.specs.Two.{areas, two, twoBook}
+use Rattle.book.specs.One.{one, oneBook}
 use Rattle.book.specs.Series.{Call, Answer, Slip, State, state, Kept, putEach, after}
 use Rattle.book.specs.Series.{afterEach, joinings, answer, run, headAt, movesAt}
-use Rattle.book.proofs.Checks.{fits-of}
 use Rattle.book.proofs.Faithful.{Faithful}
 use Rattle.book.proofs.Series.{open-is, demand3}
 
@@ -41,12 +42,12 @@ held-open M a f = record {
   now = unfold run after in rw (open-is M a f);
 }
 
-pub two-open : (ps ss : List ℕ) (n : ℕ) → n ≤ mostVertices → length ps ≡ n → length ss ≡ n
-    → Held twoBook n (openBook twoBook (areas ps ss) .area) []
-two-open ps ss n l p s =
-    let e : two ps ss .count ≡ n = unfold two in p in
-    let f : two ps ss .fit ≡ true = unfold two in fits-of ps ss (subst (λ (k : ℕ). k ≤ mostVertices) (sym p) l) (s ∙ sym p) in
-    subst (λ (k : ℕ). Held twoBook k (openBook twoBook (areas ps ss) .area) []) e (held-open twoBook (areas ps ss) f)
+-- the same of one area
+pub one-open : (xs : List ℤ) (n : ℕ) → n ≤ mostVertices → length xs ≡ n → Held oneBook n (openBook oneBook xs .area) []
+one-open xs n l e =
+    let c : one xs .count ≡ n = unfold one in e in
+    let f : one xs .fit ≡ true = unfold one in le-leb (length xs) mostVertices (subst (λ (k : ℕ). k ≤ mostVertices) (sym e) l) in
+    subst (λ (k : ℕ). Held oneBook k (openBook oneBook xs .area) []) c (held-open oneBook xs f)
 
 module _ (M : Machine) (L : Faithful M) (n : ℕ) (a : M .Area) (js : List Slip) (H : Held M n a js) where
   pub held-kept : Kept M n (state a (gives tt) js (H .merges))

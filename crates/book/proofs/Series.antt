@@ -48,7 +48,7 @@ open-is M a f = simp f
 
 module _ (M : Machine) where
   -- what a join leaves in the areas
-  join-area : (s : State (M .Area)) (u v : ℕ) → after M s (Call.joining u v) .area ≡ joinBook M (s .area) u v .area
+  pub join-area : (s : State (M .Area)) (u v : ℕ) → after M s (Call.joining u v) .area ≡ joinBook M (s .area) u v .area
   unfolding after
   join-area s u v = go (joinBook M (s .area) u v .said)
     where

@@ -1,18 +1,49 @@
--- The book of two areas meets the equations, so demand 3 holds of it. Assumes nothing.
+-- The book of two areas meets the equations. Assumes nothing.
 use mathlib.Core.Path.{_≡_, sym, ap, _∙_}
-use Prim.Native.Nat.{ℕ}
+use mathlib.Core.List.{List}
+use mathlib.Core.Bool.{true}
+use Prim.Native.Nat.{ℕ, _≤_}
 use native.Mathlib.Omega.{arith}
 use lib.ListN.{length, getD, set, replicate, length-set, length-replicate, getD-replicate}
 use lib.Seq.{getD-set-same, getD-set-other}
-use Rattle.book.specs.Rules.{to}
+use lib.Dec.{leb, eqb}
+use borrow.Author.Tests.{leb-true, eqb-true, le-leb, eq-eqb, ne-eqb}
+use Rattle.basis.specs.Limits.{mostVertices}
+use Rattle.basis.proofs.Tests.{and-first, and-second, and-both, and-swap}
+use Rattle.book.specs.Rules.{stop, to}
 use Rattle.basis.specs.Area.{ownNumbers}
 use Rattle.basis.proofs.Areas.{column-length, column-at}
 use Rattle.book.specs.Two.{nextIn, fits, two, twoBook}
-use Rattle.book.specs.Series.{Demand3Two}
-use Rattle.book.proofs.Checks.{fits-of, fits-same, fits-within}
-use Rattle.book.proofs.Walks.{next-head, next-other}
 use Rattle.book.proofs.Faithful.{Faithful}
-use Rattle.book.proofs.Series.{demand3}
+
+-- ---- two areas that are well lent
+module _ (ps ss : List ℕ) where
+  pub fits-of : length ps ≤ mostVertices → length ss ≡ length ps → fits ps ss ≡ true
+  unfolding fits
+  fits-of h e = and-both (le-leb (length ps) mostVertices h) (eq-eqb (length ss) (length ps) e)
+
+  -- of one length they are well lent as one area is
+  pub fits-is : length ss ≡ length ps → fits ps ss ≡ leb (length ps) mostVertices
+  unfolding fits
+  fits-is e = rw (eq-eqb (length ss) (length ps) e) (and-swap (leb (length ps) mostVertices) true)
+
+  fits-within : fits ps ss ≡ true → length ps ≤ mostVertices
+  unfolding fits
+  fits-within h = leb-true (length ps) mostVertices (and-first (leb (length ps) mostVertices) (eqb (length ss) (length ps)) h)
+
+  fits-same : fits ps ss ≡ true → length ss ≡ length ps
+  unfolding fits
+  fits-same h = eqb-true (length ss) (length ps) (and-second (leb (length ps) mostVertices) (eqb (length ss) (length ps)) h)
+
+-- ---- "A head is its own parent"
+module _ (ps : List ℕ) (v : ℕ) where
+  next-head : getD ps v 0 ≡ v → nextIn ps v ≡ stop
+  unfolding nextIn
+  next-head e = simp (eq-eqb _ _ e)
+
+  next-other : (getD ps v 0 ≡ v → ⊥) → nextIn ps v ≡ to (getD ps v 0)
+  unfolding nextIn
+  next-other d = simp (ne-eqb _ _ d)
 
 pub faithful-two : Faithful twoBook
 unfolding two
@@ -35,8 +66,3 @@ faithful-two = record {
   merged-top = λ a t d s k. getD-set-same (a .sizes) t s 0 (omega (arith, k .top-in, fits-same (a .parents) (a .sizes) (k .fit)));
   merged-size = λ a t d s k x n _. getD-set-other (a .sizes) t x s 0 n;
 }
-
--- Demand 3 of the book of two areas
-pub demand3-two : Demand3Two
-unfolding two
-demand3-two s l e cs = demand3 twoBook faithful-two s (fits-of (s .area .parents) (s .area .sizes) l e) cs

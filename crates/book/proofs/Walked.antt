@@ -1,22 +1,18 @@
 -- Laws of a walk in one number: what it says, the code's loop, and for each `return` of the calls that walk what they say. Assumes nothing.
 use mathlib.Core.Path.{_≡_, refl, sym, ap, ap₂, _∙_}
-use mathlib.Core.List.{List}
-use mathlib.Core.Bool.{Bool, false, not}
+use mathlib.Core.Bool.{Bool, true, false, not}
 use Prim.Native.Nat.{ℕ, suc, _+_, _-_, _*_, _/_, _%_, _≤_, _<_}
 use native.Mathlib.Omega.{arith}
-use lib.ListN.{length, getD}
 use lib.Dec.{leb}
-use borrow.Author.Tests.{lt-leb, le-leb}
+use borrow.Author.Tests.{leb-true, lt-leb, le-leb}
 use Rattle.basis.specs.Limits.{mostVertices}
 use Rattle.basis.specs.declared.refusal.Refusal.{Refusal}
 use Rattle.basis.specs.Refusal.{gives, refuses, plain, unsound, check}
 use Rattle.basis.proofs.Tests.{held}
-use Rattle.book.specs.Rules.{mostMoves, View, walkEnd, heads, walk, walkFrom, headOf, headsOf}
-use Rattle.book.specs.Two.{nextIn, fits}
+use Rattle.book.specs.Rules.{mostMoves, Next, to, View, walkEnd, heads, walk, walkFrom, isStop, headOf, headsOf}
 use Rattle.book.specs.Steps.{saysWalked}
 use Rattle.basis.proofs.Saids.{check-on, check-off}
-use Rattle.book.proofs.Checks.{fits-within}
-use Rattle.book.proofs.Walks.{walk-head, walk-move, walk-late, walk-out, next-head, next-other}
+use Rattle.book.proofs.Walks.{walk-head, walk-move, walk-late, walk-out, stop-of, to-of}
 use Rattle.book.proofs.Calls.{head-walked, heads-walked}
 
 -- ---- what the number says
@@ -37,35 +33,35 @@ walked-of at moves k =
     let q : (moves * mostVertices + at) % mostVertices ≡ at = omega arith in
     ap₂ (λ h k. check (leb k mostMoves) unsound (gives (walkEnd h k))) q p
 
--- ---- the code's loop, where the rest of the walk from `at` is the walk from v
-module _ (ps : List ℕ) (v at moves : ℕ) (e : walkFrom (nextIn ps) (length ps) v
-    ≡ walk (nextIn ps) (length ps) (mostMoves - moves) moves at) where
-  pub loop-found : at < length ps → length ps ≤ mostVertices → moves ≤ mostMoves → getD ps at 0 ≡ at
-      → saysWalked (moves * mostVertices + at) ≡ walkFrom (nextIn ps) (length ps) v
+-- ---- the code's loop, where the rest of the walk from `at` is the walk from v, and t says whether `at` is a head
+module _ (next : ℕ → Next) (n v at moves : ℕ) (e : walkFrom next n v ≡ walk next n (mostMoves - moves) moves at) (t : Bool)
+    (q : t ≡ isStop (next at)) where
+  pub loop-found : at < n → n ≤ mostVertices → moves ≤ mostMoves → t ≡ true
+      → saysWalked (moves * mostVertices + at) ≡ walkFrom next n v
   loop-found l k m h =
       walked-of at moves (omega arith) ∙ check-on (leb moves mostMoves) unsound _ (le-leb moves mostMoves m)
-      ∙ sym (e ∙ walk-head (nextIn ps) (length ps) (mostMoves - moves) moves at (next-head ps at h))
+      ∙ sym (e ∙ walk-head next n (mostMoves - moves) moves at (stop-of (next at) t q h))
 
-  module _ (other : getD ps at 0 ≡ at → ⊥) where
-    pub loop-late : mostMoves ≤ moves → saysWalked 1114112 ≡ walkFrom (nextIn ps) (length ps) v
-    loop-late l =
-        let z : mostMoves - moves ≡ 0 = omega arith in
-        walked-late 1114112 (omega arith) ∙ sym (e ∙ rw z (walk-late (nextIn ps) (length ps) moves at _ (next-other ps at other)))
+  pub loop-late : t ≡ false → mostMoves ≤ moves → saysWalked 1114112 ≡ walkFrom next n v
+  loop-late h l =
+      let z : mostMoves - moves ≡ 0 = omega arith in
+      let p = to-of (next at) t q h in
+      walked-late 1114112 (omega arith) ∙ sym (e ∙ rw z (walk-late next n moves at (p .0) (p .1)))
 
-    pub loop-out : length ps ≤ getD ps at 0 → saysWalked 1114112 ≡ walkFrom (nextIn ps) (length ps) v
-    loop-out l =
-        walked-late 1114112 (omega arith) ∙ sym (e
-        ∙ walk-out (nextIn ps) (length ps) (mostMoves - moves) moves at _ (next-other ps at other) l)
+-- p is the parent of `at`
+module _ (next : ℕ → Next) (n v at moves : ℕ) (e : walkFrom next n v ≡ walk next n (mostMoves - moves) moves at) (p : ℕ)
+    (q : next at ≡ to p) where
+  pub loop-out : n ≤ p → saysWalked 1114112 ≡ walkFrom next n v
+  loop-out l = walked-late 1114112 (omega arith) ∙ sym (e ∙ walk-out next n (mostMoves - moves) moves at p q l)
 
-    pub loop-moves : moves < mostMoves → getD ps at 0 < length ps
-        → walkFrom (nextIn ps) (length ps) v ≡ walk (nextIn ps) (length ps) (mostMoves - (moves + 1)) (moves + 1) (getD ps at 0)
-    loop-moves k l =
-        let z : mostMoves - moves ≡ suc (mostMoves - (moves + 1)) = omega arith in
-        e ∙ rw z (walk-move (nextIn ps) (length ps) (mostMoves - (moves + 1)) moves at _ (next-other ps at other) l)
+  pub loop-moves : moves < mostMoves → p < n → walkFrom next n v ≡ walk next n (mostMoves - (moves + 1)) (moves + 1) p
+  loop-moves k l =
+      let z : mostMoves - moves ≡ suc (mostMoves - (moves + 1)) = omega arith in
+      e ∙ rw z (walk-move next n (mostMoves - (moves + 1)) moves at p q l)
 
--- areas that are well lent have room for no head that the number cannot hold
-pub lent-within : (ps ss : List ℕ) (t : Bool) → t ≡ fits ps ss → not t ≡ false → length ps ≤ mostVertices
-lent-within ps ss t e f = fits-within ps ss (held t _ e f)
+-- an area of n places that is well lent has room for no head that the number cannot hold
+pub lent-within : (n : ℕ) (t : Bool) → t ≡ leb n mostVertices → not t ≡ false → n ≤ mostVertices
+lent-within n t e f = leb-true n mostVertices (held t _ e f)
 
 -- ---- the calls that walk
 module _ (w : View) (t : Bool) (e : t ≡ w .fit) (f : not t ≡ false) where

@@ -1,14 +1,13 @@
 -- Laws of the walk, a move at a time. Assumes nothing.
 use mathlib.Core.Path.{_≡_, refl, sym, _∙_}
-use mathlib.Core.List.{List}
+use mathlib.Core.Bool.{Bool, true, false}
 use Prim.Native.Nat.{ℕ, zero, suc, _+_, _≤_, _<_}
-use lib.ListN.{getD}
 use lib.Dec.{ltb}
-use borrow.Author.Tests.{ltb-true, lt-ltb, le-ltb, eq-eqb, ne-eqb}
+use borrow.Author.Tests.{ltb-true, lt-ltb, le-ltb}
+use Rattle.basis.proofs.Tests.{clash}
 use Rattle.basis.proofs.Saids.{refused-given, check-on, check-off, check-passed}
 use Rattle.basis.specs.Refusal.{gives, refuses, plain, unsound, check}
-use Rattle.book.specs.Rules.{mostMoves, Next, stop, to, WalkEnd, walkEnd, walk, walkFrom}
-use Rattle.book.specs.Two.{nextIn}
+use Rattle.book.specs.Rules.{mostMoves, Next, stop, to, WalkEnd, walkEnd, walk, walkFrom, isStop}
 
 module _ (next : ℕ → Next) (n : ℕ) where
   pub walk-head : (left moves at : ℕ) → next at ≡ stop → walk next n left moves at ≡ gives (walkEnd at moves)
@@ -57,10 +56,11 @@ module _ (next : ℕ → Next) (n : ℕ) where
   unfolding walkFrom
   walkFrom-in v f l e = walk-in mostMoves 0 v f l e
 
-pub next-head : (ps : List ℕ) (v : ℕ) → getD ps v 0 ≡ v → nextIn ps v ≡ stop
-unfolding nextIn
-next-head ps v e = simp (eq-eqb _ _ e)
+-- a vertex that is a head, by the test for it, or is none
+pub stop-of : (x : Next) (t : Bool) → t ≡ isStop x → t ≡ true → x ≡ stop
+stop-of stop t e h = refl
+stop-of (to p) t e h = clash h e
 
-pub next-other : (ps : List ℕ) (v : ℕ) → (getD ps v 0 ≡ v → ⊥) → nextIn ps v ≡ to (getD ps v 0)
-unfolding nextIn
-next-other ps v d = simp (ne-eqb _ _ d)
+pub to-of : (x : Next) (t : Bool) → t ≡ isStop x → t ≡ false → (p : ℕ) × (x ≡ to p)
+to-of stop t e h = clash e h
+to-of (to p) t e h = (p, refl)

@@ -4,6 +4,7 @@ use mathlib.Core.List.{List, [], _∷_, List·Memᴰ}
 use mathlib.Core.Bool.{Bool, true, cond}
 use mathlib.Core.Logic.{_↔_}
 use Prim.Native.Nat.{ℕ, suc, _+_, _-_, _^_, _≤_, _<_}
+use lib.IntN.{ℤ}
 use lib.ListN.{length, take}
 use lib.Dec.{eqb}
 use Rattle.basis.specs.Refusal.{Said, gives, refuses}
@@ -12,6 +13,7 @@ use Rattle.basis.specs.Scan.{allBelow}
 use Rattle.basis.specs.Closure.{Linked}
 use Rattle.book.specs.Rules.{View, Machine, WalkEnd, walkEnd, Joining, merged, same, Each, all, stopped, tally, walkFrom, openBook}
 use Rattle.book.specs.Rules.{joinBook, joinEach, headOf, sameGroup, groupSize, groupCount, stepLimit}
+use Rattle.book.specs.One.{oneBook}
 use Rattle.book.specs.Two.{Areas, twoBook}
 
 -- a call of the book
@@ -112,6 +114,11 @@ answer M s (sizing v) = reads (groupSize (M .view (s .area)) v)
 answer M s counting = reads (groupCount (M .view (s .area)))
 answer M s (limiting v) = reads (stepLimit (M .view (s .area)) v)
 
+-- what each call of a series says, in their order
+unfoldable pub answers : (M : Machine) → State (M .Area) → List Call → List Answer
+answers M s [] = []
+answers M s (c ∷ cs) = answer M s c ∷ answers M (after M s c) cs
+
 -- u joined with each of a list, by a call each
 unfoldable pub joinings : ℕ → List ℕ → List Call
 joinings u [] = []
@@ -191,7 +198,13 @@ abbrev pub Demand3 : Machine → Type 0
 Demand3 M = (s : State (M .Area)) → M .view (s .area) .fit ≡ true → (cs : List Call)
     → Kept M (M .view (s .area) .count) (run M s (opening ∷ cs))
 
--- the same of two areas of one length, "of up to 65,536 vertices"
-abbrev pub Demand3Two : Type 0
-Demand3Two = (s : State Areas) → length (s .area .parents) ≤ mostVertices → length (s .area .sizes) ≡ length (s .area .parents)
-    → (cs : List Call) → Kept twoBook (length (s .area .parents)) (run twoBook s (opening ∷ cs))
+-- the same of one area, "of up to 65,536 vertices"
+abbrev pub Demand3One : Type 0
+Demand3One = (s : State (List ℤ)) → length (s .area) ≤ mostVertices → (cs : List Call)
+    → Kept oneBook (length (s .area)) (run oneBook s (opening ∷ cs))
+
+-- 02 K9: "For every series of calls from an opening, each answer equals the two-area book's": of areas of one length, whatever they hold
+abbrev pub AnswersAsTwo : Type 0
+AnswersAsTwo = (s : State (List ℤ)) (t : State Areas) → length (t .area .parents) ≡ length (s .area)
+    → length (t .area .sizes) ≡ length (s .area) → (cs : List Call)
+    → answers oneBook s (opening ∷ cs) ≡ answers twoBook t (opening ∷ cs)

@@ -3,6 +3,8 @@ use super::Joined;
 use super::JoinedEach;
 use super::MOST_MOVES;
 use super::Pair;
+use super::entry::is_head;
+use super::entry::size_at;
 use super::heads;
 use super::walk;
 use super::well_lent;
@@ -12,28 +14,21 @@ use basis::refusal::NO_ROOM;
 use basis::refusal::NOT_THERE;
 use basis::refusal::UNSOUND;
 ghost use mathlib.Core.Path.{_≡_};
-ghost use Prim.Native.Nat.{_<_};
-ghost use lib.ListN.{length};
-ghost use Rattle.book.specs.Rules.{outcome, eachOutcome, joinBook, joinEach, above, mergeable};
-ghost use Rattle.book.specs.Two.{areas, twoBook};
+ghost use Prim.Native.Nat.{_≤_, _<_};
+ghost use Rattle.basis.specs.Limits.{mostVertices};
+ghost use Rattle.book.specs.Rules.{outcome, eachOutcome, joinBook, joinEach, above};
+ghost use Rattle.book.specs.One.{oneBook};
 ghost use Rattle.book.specs.Says.{saysJoined, saysJoinedEach};
-ghost use Rattle.book.specs.Steps.{linkTwo, hangTwo, Walking, saysCarried, carriedOn};
+ghost use Rattle.book.specs.Steps.{AtHead, linkOne, hangOne, Walking, saysCarried, carriedOn};
 
-// Puts the head `under` under the head `top`, whose size becomes `total`. The old head's size entry stays.
-fn hang(
-    parents: &mut [usize],
-    sizes: &mut [usize],
-    top: usize,
-    under: usize,
-    total: usize,
-) -> Joined
-    requires { ⌜ (under < length (now parents)) × (top < length (now sizes)) ⌝ }
-    ensures { λ r. ⌜
-        outcome (saysJoined r) (areas (now (parents .exit)) (now (sizes .exit)))
-        ≡ hangTwo (now (parents .entry)) (now (sizes .entry)) top under total ⌝ }
+// Puts the head `under` under the head `top`, whose size becomes `total`.
+fn hang(entries: &mut [i64], top: usize, under: usize, total: usize) -> Joined
+    requires { ⌜ (AtHead (now entries) top) × (AtHead (now entries) under) ⌝ }
+    requires { ⌜ (0 < total) × (total ≤ mostVertices) ⌝ }
+    ensures { λ r. ⌜ outcome (saysJoined r) (now (entries .exit)) ≡ hangOne (now (entries .entry)) top under total ⌝ }
 {
-    parents[under] = top;
-    sizes[top] = total;
+    entries[under] = top as i64;
+    entries[top] = -(total as i64);
     Joined::Merged
 }
 
@@ -50,51 +45,31 @@ fn goes_above(a: usize, b: usize, g: usize, h: usize) -> bool
     g < h
 }
 
-// Whether groups of `a` and `b` vertices may merge in a book of `n`. Damaged sizes could wrap, so the sum is not formed.
-fn may_merge(n: usize, a: usize, b: usize) -> bool
-    ensures { λ r. ⌜ r ≡ mergeable n a b ⌝ }
-{
-    if a == 0 {
-        return false;
-    }
-    if b == 0 {
-        return false;
-    }
-    if n < a {
-        return false;
-    }
-    b <= n - a
-}
-
 // Joins the groups of the heads `g` and `h`.
-fn link(parents: &mut [usize], sizes: &mut [usize], g: usize, h: usize) -> Joined
-    requires { ⌜ (length (now sizes) ≡ length (now parents)) × (g < length (now parents)) × (h < length (now parents)) ⌝ }
-    ensures { λ r. ⌜
-        outcome (saysJoined r) (areas (now (parents .exit)) (now (sizes .exit)))
-        ≡ linkTwo (now (parents .entry)) (now (sizes .entry)) g h ⌝ }
+fn link(entries: &mut [i64], g: usize, h: usize) -> Joined
+    requires { ⌜ (AtHead (now entries) g) × (AtHead (now entries) h) ⌝ }
+    ensures { λ r. ⌜ outcome (saysJoined r) (now (entries .exit)) ≡ linkOne (now (entries .entry)) g h ⌝ }
 {
     if g == h {
         return Joined::Already;
     }
-    let a = sizes[g];
-    let b = sizes[h];
-    if !may_merge(parents.len(), a, b) {
+    let a = size_at(entries, g);
+    let b = size_at(entries, h);
+    if entries.len() < a + b {
         return Joined::Refused(Refusal::plain(UNSOUND));
     }
     if goes_above(a, b, g, h) {
-        return hang(parents, sizes, g, h, a + b);
+        return hang(entries, g, h, a + b);
     }
-    hang(parents, sizes, h, g, a + b)
+    hang(entries, h, g, a + b)
 }
 
 // The groups of two vertices become one, where they are two.
-pub fn join(parents: &mut [usize], sizes: &mut [usize], u: usize, v: usize) -> Joined
-    ensures { λ r. ⌜
-        outcome (saysJoined r) (areas (now (parents .exit)) (now (sizes .exit)))
-        ≡ joinBook twoBook (areas (now (parents .entry)) (now (sizes .entry))) u v ⌝ }
+pub fn join(entries: &mut [i64], u: usize, v: usize) -> Joined
+    ensures { λ r. ⌜ outcome (saysJoined r) (now (entries .exit)) ≡ joinBook oneBook (now (entries .entry)) u v ⌝ }
 {
-    match heads(parents, sizes, u, v) {
-        Pair::Heads(g, h) => link(parents, sizes, g, h),
+    match heads(entries, u, v) {
+        Pair::Heads(g, h) => link(entries, g, h),
         Pair::Refused(r) => Joined::Refused(r),
     }
 }
@@ -108,28 +83,27 @@ enum Carried {
 }
 
 // Joins u, whose walk is `at`, with w; the walk is one move longer where u's head went under the other. It takes u for the contract alone.
-fn join_next(parents: &mut [usize], sizes: &mut [usize], u: usize, at: usize, w: usize) -> Carried
-    requires { ⌜ Walking (now parents) (now sizes) u at ⌝ }
+fn join_next(entries: &mut [i64], u: usize, at: usize, w: usize) -> Carried
+    requires { ⌜ Walking (now entries) u at ⌝ }
     ensures { λ r. ⌜
-        (outcome (saysCarried r) (areas (now (parents .exit)) (now (sizes .exit)))
-        ≡ joinBook twoBook (areas (now (parents .entry)) (now (sizes .entry))) u w)
-        × Walking (now (parents .exit)) (now (sizes .exit)) u (carriedOn at r) ⌝ }
+        (outcome (saysCarried r) (now (entries .exit)) ≡ joinBook oneBook (now (entries .entry)) u w)
+        × Walking (now (entries .exit)) u (carriedOn at r) ⌝ }
 {
-    if parents.len() <= w {
+    if entries.len() <= w {
         return Carried::Refused(NOT_THERE);
     }
     if MOST_MOVES < at / MOST_VERTICES {
         return Carried::Refused(UNSOUND);
     }
-    let to = walk(parents, w);
+    let to = walk(entries, w);
     if MOST_MOVES < to / MOST_VERTICES {
         return Carried::Refused(UNSOUND);
     }
     let g = at % MOST_VERTICES;
     let h = to % MOST_VERTICES;
-    match link(parents, sizes, g, h) {
+    match link(entries, g, h) {
         Joined::Merged => {
-            if parents[g] == g {
+            if is_head(entries, g) {
                 return Carried::Merged(at);
             }
             let longer = (at / MOST_VERTICES + 1) * MOST_VERTICES + h;
@@ -142,30 +116,25 @@ fn join_next(parents: &mut [usize], sizes: &mut [usize], u: usize, at: usize, w:
 
 // Joins u with each of the others, one after the other, up to the first join that is refused: those before it stand, and it changes
 // nothing. u is walked from once, and its walk carried from join to join.
-pub fn join_each(
-    parents: &mut [usize],
-    sizes: &mut [usize],
-    u: usize,
-    others: &[usize],
-) -> JoinedEach
+pub fn join_each(entries: &mut [i64], u: usize, others: &[usize]) -> JoinedEach
     ensures { λ r. ⌜
-        eachOutcome (saysJoinedEach r) (areas (now (parents .exit)) (now (sizes .exit)))
-        ≡ joinEach twoBook (areas (now (parents .entry)) (now (sizes .entry))) u (now (others .entry)) ⌝ }
+        eachOutcome (saysJoinedEach r) (now (entries .exit))
+        ≡ joinEach oneBook (now (entries .entry)) u (now (others .entry)) ⌝ }
 {
     if others.len() == 0 {
         return JoinedEach::All(0);
     }
-    if !well_lent(parents, sizes) {
+    if !well_lent(entries) {
         return JoinedEach::Stopped(0, 0, Refusal::plain(NO_ROOM));
     }
-    if parents.len() <= u {
+    if entries.len() <= u {
         return JoinedEach::Stopped(0, 0, Refusal::plain(NOT_THERE));
     }
-    let mut at = walk(parents, u);
+    let mut at = walk(entries, u);
     let mut merges: usize = 0;
     let mut i: usize = 0;
     while i < others.len() {
-        match join_next(parents, sizes, u, at, others[i]) {
+        match join_next(entries, u, at, others[i]) {
             Carried::Merged(on) => {
                 at = on;
                 merges += 1;

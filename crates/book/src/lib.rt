@@ -1,18 +1,22 @@
-// Layer book. The group book: groups of vertices that grow join by join, in two areas that the caller lends, `parents` and `sizes`. A head
-// is its own parent, and `sizes` at a head is its group's size. Here are the answers, and the walks that the calls share.
+// Layer book. The group book: groups of vertices that grow join by join, in one area of signed numbers that the caller lends, `entries`:
+// a parent at an ordinary vertex, and at a head minus its group's size. Here are the answers, and the walks that the calls share.
 use basis::Refusal;
 use basis::limits::MOST_VERTICES;
 use basis::refusal::NO_ROOM;
 use basis::refusal::NOT_THERE;
 use basis::refusal::UNSOUND;
+use entry::is_head;
+use entry::parent;
 ghost use mathlib.Core.Path.{_≡_};
 ghost use Prim.Native.Nat.{_≤_, _<_};
 ghost use lib.ListN.{length};
+ghost use lib.Dec.{leb};
 ghost use Rattle.basis.specs.Limits.{mostVertices};
 ghost use Rattle.book.specs.Rules.{walkFrom, headsOf};
-ghost use Rattle.book.specs.Two.{nextIn, fits, two};
+ghost use Rattle.book.specs.One.{nextHere, one};
 ghost use Rattle.book.specs.Steps.{saysWalked, saysPair};
 
+mod entry;
 pub mod joining;
 pub mod opening;
 pub mod readings;
@@ -66,34 +70,30 @@ const MOST_MOVES: usize = 16;
 // The number of a walk that does not end: one move too many.
 const NO_END: usize = 1114112;
 
-// Whether the two areas are of one length, at most 65,536.
-fn well_lent(parents: &[usize], sizes: &[usize]) -> bool
-    ensures { λ r. ⌜ r ≡ fits (now (parents .entry)) (now (sizes .entry)) ⌝ }
+// Whether the area has at most 65,536 places.
+fn well_lent(entries: &[i64]) -> bool
+    ensures { λ r. ⌜ r ≡ leb (length (now (entries .entry))) mostVertices ⌝ }
 {
-    let n = parents.len();
-    if MOST_VERTICES < n {
-        return false;
-    }
-    sizes.len() == n
+    entries.len() <= MOST_VERTICES
 }
 
 // The walk from `v` to its head, in one number, since an answer of several goes through memory: its moves times `MOST_VERTICES`, and the
 // head.
-fn walk(parents: &[usize], v: usize) -> usize
-    requires { ⌜ (v < length (now parents)) × (length (now parents) ≤ mostVertices) ⌝ }
-    ensures { λ r. ⌜ saysWalked r ≡ walkFrom (nextIn (now (parents .entry))) (length (now (parents .entry))) v ⌝ }
+fn walk(entries: &[i64], v: usize) -> usize
+    requires { ⌜ (v < length (now entries)) × (length (now entries) ≤ mostVertices) ⌝ }
+    ensures { λ r. ⌜ saysWalked r ≡ walkFrom (nextHere (now (entries .entry))) (length (now (entries .entry))) v ⌝ }
 {
     let mut at = v;
     let mut moves: usize = 0;
     loop {
-        let p = parents[at];
-        if p == at {
+        if is_head(entries, at) {
             return moves * MOST_VERTICES + at;
         }
         if MOST_MOVES <= moves {
             return NO_END;
         }
-        if parents.len() <= p {
+        let p = parent(entries, at);
+        if entries.len() <= p {
             return NO_END;
         }
         at = p;
@@ -102,23 +102,23 @@ fn walk(parents: &[usize], v: usize) -> usize
 }
 
 // The heads of two vertices, with the checks of a call that names both: both are checked before any walk.
-fn heads(parents: &[usize], sizes: &[usize], u: usize, v: usize) -> Pair
-    ensures { λ r. ⌜ saysPair r ≡ headsOf (two (now (parents .entry)) (now (sizes .entry))) u v ⌝ }
+fn heads(entries: &[i64], u: usize, v: usize) -> Pair
+    ensures { λ r. ⌜ saysPair r ≡ headsOf (one (now (entries .entry))) u v ⌝ }
 {
-    if !well_lent(parents, sizes) {
+    if !well_lent(entries) {
         return Pair::Refused(Refusal::plain(NO_ROOM));
     }
-    if parents.len() <= u {
+    if entries.len() <= u {
         return Pair::Refused(Refusal::plain(NOT_THERE));
     }
-    if parents.len() <= v {
+    if entries.len() <= v {
         return Pair::Refused(Refusal::plain(NOT_THERE));
     }
-    let a = walk(parents, u);
+    let a = walk(entries, u);
     if MOST_MOVES < a / MOST_VERTICES {
         return Pair::Refused(Refusal::plain(UNSOUND));
     }
-    let b = walk(parents, v);
+    let b = walk(entries, v);
     if MOST_MOVES < b / MOST_VERTICES {
         return Pair::Refused(Refusal::plain(UNSOUND));
     }

@@ -2,27 +2,23 @@
 use super::Opened;
 use super::well_lent;
 use basis::Refusal;
+use basis::area::fill_signed;
 use basis::refusal::NO_ROOM;
 ghost use mathlib.Core.Path.{_≡_};
 ghost use Rattle.book.specs.Rules.{outcome, openBook};
-ghost use Rattle.book.specs.Two.{areas, twoBook};
+ghost use Rattle.book.specs.One.{oneBook};
 ghost use Rattle.book.specs.Says.{saysOpened};
 
-// Each vertex its own parent, size 1: a new series begins.
-pub fn open_book(parents: &mut [usize], sizes: &mut [usize]) -> Opened
-    ensures { λ r. ⌜
-        outcome (saysOpened r) (areas (now (parents .exit)) (now (sizes .exit)))
-        ≡ openBook twoBook (areas (now (parents .entry)) (now (sizes .entry))) ⌝ }
+// What a group of one holds: minus its size.
+const FRESH: i64 = -1;
+
+// Each vertex its own group: a new series begins.
+pub fn open_book(entries: &mut [i64]) -> Opened
+    ensures { λ r. ⌜ outcome (saysOpened r) (now (entries .exit)) ≡ openBook oneBook (now (entries .entry)) ⌝ }
 {
-    if !well_lent(parents, sizes) {
+    if !well_lent(entries) {
         return Opened::Refused(Refusal::plain(NO_ROOM));
     }
-    let n = parents.len();
-    let mut i: usize = 0;
-    while i < n {
-        parents[i] = i;
-        sizes[i] = 1;
-        i += 1;
-    }
+    fill_signed(entries, FRESH);
     Opened::Ready
 }

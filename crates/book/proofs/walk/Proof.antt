@@ -1,31 +1,28 @@
 use borrow.Author.Needs.{needs}
-use mathlib.Core.Path.{_≡_, refl}
+use mathlib.Core.Path.{_≡_, refl, sym, _∙_}
 use Prim.Native.Nat.{_≤_, _<_, _-_}
 use native.Mathlib.Omega.{arith}
 use lib.ListN.{length}
 use Rattle.book.specs.Rules.{mostMoves, walk, walkFrom}
-use Rattle.book.specs.Two.{nextIn}
+use Rattle.book.specs.One.{nextHere}
 use Rattle.book.proofs.Walked.{loop-found, loop-late, loop-out, loop-moves}
 use Rattle.book.proofs.walk.Statement.{statement}
 use Rattle.book.proofs.walk.Tie as tie
 
 abbrev Inv-loop : tie.InvT-loop
-Inv-loop parents v at₀ moves₀ at moves =
-    (at < length parents) × (moves ≤ mostMoves) × (walkFrom (nextIn parents) (length parents) v
-    ≡ walk (nextIn parents) (length parents) (mostMoves - moves) moves at)
+Inv-loop entries v at₀ moves₀ at moves =
+    (at < length entries) × (moves ≤ mostMoves) × (walkFrom (nextHere entries) (length entries) v
+    ≡ walk (nextHere entries) (length entries) (mostMoves - moves) moves at)
 
 abbrev μ-loop : tie.MeasureT-loop
-μ-loop parents v at₀ moves₀ at moves = mostMoves - moves
+μ-loop entries v at₀ moves₀ at moves = mostMoves - moves
 
 loop-holds : tie.Need-loop-holds Inv-loop μ-loop
 unfolding walkFrom
 loop-holds c = (search needs, omega arith, refl)
 
-mul-p : tie.Need-mul-p Inv-loop μ-loop
-mul-p c = search needs
-
-shared-slice-read-p : tie.Need-shared-slice-read-p Inv-loop μ-loop
-shared-slice-read-p c = search needs
+is-head-requires : tie.Need-is-head-requires Inv-loop μ-loop
+is-head-requires c κs = search needs
 
 mul-result : tie.Need-mul-result Inv-loop μ-loop
 mul-result c = search needs
@@ -38,6 +35,9 @@ returns c = search loop-found
 
 returns-2 : tie.Need-returns-2 Inv-loop μ-loop
 returns-2 c = search loop-late
+
+parent-requires : tie.Need-parent-requires Inv-loop μ-loop
+parent-requires c κs = (search needs, sym (c .before .before .is-head .ensures) ∙ c .before .if1 .left)
 
 returns-3 : tie.Need-returns-3 Inv-loop μ-loop
 returns-3 c = search loop-out
@@ -58,12 +58,12 @@ walk-spec =
     Inv-loop
     μ-loop
     loop-holds
-    mul-p
-    shared-slice-read-p
+    is-head-requires
     mul-result
     add-result
     returns
     returns-2
+    parent-requires
     returns-3
     add-moves
     loop-less

@@ -4,7 +4,7 @@ use Prim.Native.Nat.{_≤_, _-_}
 use native.Mathlib.Omega.{arith}
 use lib.ListN.{length, drop}
 use Rattle.book.specs.Rules.{behind, joinEach}
-use Rattle.book.specs.Two.{areas, twoBook}
+use Rattle.book.specs.One.{oneBook}
 use Rattle.book.specs.Steps.{Walking}
 use Rattle.book.proofs.Walked.{lent-within}
 use Rattle.book.proofs.Each.{each-none, each-unlent, each-missing, walking-start, walking-on}
@@ -13,12 +13,12 @@ use Rattle.book.proofs.joining.join_each.Statement.{statement}
 use Rattle.book.proofs.joining.join_each.Tie as tie
 
 abbrev Inv-loop : tie.InvT-loop
-Inv-loop parents₀ sizes₀ u others at₀ merges₀ i₀ parents sizes at merges i =
-    (i ≤ length others) × (merges ≤ i) × (length parents ≡ length parents₀) × (length sizes ≡ length sizes₀) × Walking parents sizes u at
-    × (behind i merges (joinEach twoBook (areas parents sizes) u (drop i others)) ≡ joinEach twoBook (areas parents₀ sizes₀) u others)
+Inv-loop entries₀ u others at₀ merges₀ i₀ entries at merges i =
+    (i ≤ length others) × (merges ≤ i) × (length entries ≡ length entries₀) × Walking entries u at
+    × (behind i merges (joinEach oneBook entries u (drop i others)) ≡ joinEach oneBook entries₀ u others)
 
 abbrev μ-loop : tie.MeasureT-loop
-μ-loop parents₀ sizes₀ u others at₀ merges₀ i₀ parents sizes at merges i = length others - i
+μ-loop entries₀ u others at₀ merges₀ i₀ entries at merges i = length others - i
 
 returns : tie.Need-returns Inv-loop μ-loop
 returns c = search each-none
@@ -32,44 +32,33 @@ plain-requires c κs = search needs
 same-length : tie.Need-same-length Inv-loop μ-loop
 same-length c = search needs
 
-same-length-2 : tie.Need-same-length-2 Inv-loop μ-loop
-same-length-2 c = search needs
-
 returns-2 : tie.Need-returns-2 Inv-loop μ-loop
 returns-2 c = search each-unlent
 
 plain-requires-2 : tie.Need-plain-requires-2 Inv-loop μ-loop
 plain-requires-2 c κs = search needs
 
-same-length-3 : tie.Need-same-length-3 Inv-loop μ-loop
-same-length-3 c = search needs
-
-same-length-4 : tie.Need-same-length-4 Inv-loop μ-loop
-same-length-4 c = search needs
+same-length-2 : tie.Need-same-length-2 Inv-loop μ-loop
+same-length-2 c = search needs
 
 returns-3 : tie.Need-returns-3 Inv-loop μ-loop
-returns-3 c = each-missing _ _ _ (c .before .before .before .well-lent .result) (c .before .before .before .well-lent .ensures) _
-    (c .before .before .before .before .before .before .if1 .left) _ (c .before .before .if2 .left) (c .before .if3 .taken)
-    (c .plain2 .ensures)
+returns-3 c =
+    let w = c .before .before .before .well-lent in
+    each-missing _ _ (w .result) (w .ensures) _ (c .before .before .before .before .before .if1 .left) _ (c .before .before .if2 .left) (c .before .if3 .taken) (c .plain2 .ensures)
 
 walk-requires : tie.Need-walk-requires Inv-loop μ-loop
-walk-requires c κs = (
-  c .before .if3 .left,
-  lent-within _ _ (c .before .before .before .well-lent .result) (c .before .before .before .well-lent .ensures)
-      (c .before .before .if2 .left),
-)
+walk-requires c κs =
+    let w = c .before .before .before .well-lent in (c .before .if3 .left, lent-within _ (w .result) (w .ensures) (c .before .before .if2 .left))
 
 loop-holds : tie.Need-loop-holds Inv-loop μ-loop
-loop-holds c = (
-  omega arith,
-  omega arith,
-  refl,
-  refl,
-  walking-start _ _ _ (c .before .before .before .before .well-lent .result)
-      (c .before .before .before .before .well-lent .ensures) _ (c .before .before .before .if2 .left) (c .before .before .if3 .left)
-      (c .walk .ensures),
-  behind-none _,
-)
+loop-holds c =
+    let w = c .before .before .before .before .well-lent in (
+      omega arith,
+      omega arith,
+      refl,
+      walking-start _ _ (w .result) (w .ensures) _ (c .before .before .before .if2 .left) (c .before .before .if3 .left) (c .walk .ensures),
+      behind-none _,
+    )
 
 mul-join-next : tie.Need-mul-join-next Inv-loop μ-loop
 mul-join-next c = search needs
@@ -93,7 +82,7 @@ loop-less : tie.Need-loop-less Inv-loop μ-loop
 loop-less c = search needs
 
 loop-again : tie.Need-loop-again Inv-loop μ-loop
-loop-again c = (omega arith, omega arith, search needs, search needs, search walking-on, search each-merged)
+loop-again c = (omega arith, omega arith, search needs, search walking-on, search each-merged)
 
 enum-told : tie.Need-enum-told Inv-loop μ-loop
 enum-told c = search needs
@@ -105,7 +94,7 @@ loop-less-2 : tie.Need-loop-less-2 Inv-loop μ-loop
 loop-less-2 c = search needs
 
 loop-again-2 : tie.Need-loop-again-2 Inv-loop μ-loop
-loop-again-2 c = (omega arith, omega arith, search needs, search needs, search walking-stays, search each-already)
+loop-again-2 c = (omega arith, omega arith, search needs, search walking-stays, search each-already)
 
 enum-known-number : tie.Need-enum-known-number Inv-loop μ-loop
 enum-known-number c = search needs
@@ -113,20 +102,14 @@ enum-known-number c = search needs
 plain-requires-3 : tie.Need-plain-requires-3 Inv-loop μ-loop
 plain-requires-3 c κs = search needs
 
-same-length-5 : tie.Need-same-length-5 Inv-loop μ-loop
-same-length-5 c = search needs
-
-same-length-6 : tie.Need-same-length-6 Inv-loop μ-loop
-same-length-6 c = search needs
+same-length-3 : tie.Need-same-length-3 Inv-loop μ-loop
+same-length-3 c = search needs
 
 returns-4 : tie.Need-returns-4 Inv-loop μ-loop
 returns-4 c = search each-refused
 
-same-length-7 : tie.Need-same-length-7 Inv-loop μ-loop
-same-length-7 c = search needs
-
-same-length-8 : tie.Need-same-length-8 Inv-loop μ-loop
-same-length-8 c = search needs
+same-length-4 : tie.Need-same-length-4 Inv-loop μ-loop
+same-length-4 c = search needs
 
 returns-5 : tie.Need-returns-5 Inv-loop μ-loop
 returns-5 c = search each-end
@@ -141,11 +124,9 @@ join-each-spec =
     well-lent-requires
     plain-requires
     same-length
-    same-length-2
     returns-2
     plain-requires-2
-    same-length-3
-    same-length-4
+    same-length-2
     returns-3
     walk-requires
     loop-holds
@@ -163,9 +144,7 @@ join-each-spec =
     loop-again-2
     enum-known-number
     plain-requires-3
-    same-length-5
-    same-length-6
+    same-length-3
     returns-4
-    same-length-7
-    same-length-8
+    same-length-4
     returns-5)

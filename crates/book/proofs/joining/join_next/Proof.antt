@@ -1,6 +1,6 @@
+use Rattle.book.proofs.Each.{walking-within, walking-already, walking-refused, next-missing, next-late, next-late2, next-first}
+use Rattle.book.proofs.Each.{next-second, next-first-in, next-merged, next-already, next-refused, next-top, next-under}
 use borrow.Author.Needs.{needs}
-use Rattle.book.proofs.Each.{walking-within, walking-lengths, walking-already, walking-refused, next-missing, next-late, next-late2}
-use Rattle.book.proofs.Each.{next-first, next-first-in, next-second, next-merged, next-already, next-refused, next-top, next-under}
 use Rattle.book.proofs.joining.join_next.Statement.{statement}
 use Rattle.book.proofs.joining.join_next.Tie as tie
 
@@ -20,22 +20,16 @@ returns-3 : tie.Need-returns-3
 returns-3 c = (search next-late2, search needs)
 
 link-requires : tie.Need-link-requires
-link-requires c κs = (search walking-lengths, search next-first, search next-second)
+link-requires c κs = (search next-first, search next-second)
 
 enum-told : tie.Need-enum-told
 enum-told c = search needs
 
-mul-if4 : tie.Need-mul-if4
-mul-if4 c = search needs
-
-slice-read-if4 : tie.Need-slice-read-if4
-slice-read-if4 c = search next-first-in
+is-head-requires : tie.Need-is-head-requires
+is-head-requires c κs = search next-first-in
 
 same-length-2 : tie.Need-same-length-2
 same-length-2 c = search needs
-
-same-length-3 : tie.Need-same-length-3
-same-length-3 c = search needs
 
 returns-4 : tie.Need-returns-4
 returns-4 c = (search next-merged, search next-top)
@@ -55,29 +49,20 @@ enum-told-2 c = search needs
 enum-told-3 : tie.Need-enum-told-3
 enum-told-3 c = search needs
 
-same-length-4 : tie.Need-same-length-4
-same-length-4 c = search needs
-
-same-length-5 : tie.Need-same-length-5
-same-length-5 c = search needs
+same-length-3 : tie.Need-same-length-3
+same-length-3 c = search needs
 
 returns-5 : tie.Need-returns-5
 returns-5 c = (search next-merged, search next-under)
 
-same-length-6 : tie.Need-same-length-6
-same-length-6 c = search needs
-
-same-length-7 : tie.Need-same-length-7
-same-length-7 c = search needs
+same-length-4 : tie.Need-same-length-4
+same-length-4 c = search needs
 
 returns-6 : tie.Need-returns-6
 returns-6 c = (search next-already, search walking-already)
 
-same-length-8 : tie.Need-same-length-8
-same-length-8 c = search needs
-
-same-length-9 : tie.Need-same-length-9
-same-length-9 c = search needs
+same-length-5 : tie.Need-same-length-5
+same-length-5 c = search needs
 
 returns-7 : tie.Need-returns-7
 returns-7 c = (search next-refused, search walking-refused)
@@ -93,22 +78,17 @@ join-next-spec =
     returns-3
     link-requires
     enum-told
-    mul-if4
-    slice-read-if4
+    is-head-requires
     same-length-2
-    same-length-3
     returns-4
     add-longer
     mul-longer
     add-longer-2
     enum-told-2
     enum-told-3
-    same-length-4
-    same-length-5
+    same-length-3
     returns-5
-    same-length-6
-    same-length-7
+    same-length-4
     returns-6
-    same-length-8
-    same-length-9
+    same-length-5
     returns-7)

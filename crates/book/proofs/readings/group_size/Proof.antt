@@ -1,6 +1,6 @@
-use Rattle.book.specs.Two.{two}
-use Rattle.book.proofs.Calls.{size-refused, size-zero, size-large}
-use Rattle.book.proofs.Areas.{two-head-in, two-size-is}
+use Rattle.book.specs.One.{one}
+use Rattle.book.proofs.Calls.{size-refused}
+use Rattle.book.proofs.Areas.{head-read, read-large, read-is}
 use borrow.Author.Needs.{needs}
 use Rattle.book.proofs.readings.group_size.Statement.{statement}
 use Rattle.book.proofs.readings.group_size.Tie as tie
@@ -14,32 +14,20 @@ enum-known-r c = search needs
 enum-known-h : tie.Need-enum-known-h
 enum-known-h c = search needs
 
-mul-s : tie.Need-mul-s
-mul-s c = search (needs, two-head-in)
-
-shared-slice-read-s : tie.Need-shared-slice-read-s
-shared-slice-read-s c = search two-head-in
+size-at-requires : tie.Need-size-at-requires
+size-at-requires c κs = search head-read
 
 plain-requires : tie.Need-plain-requires
 plain-requires c κs = search needs
 
 returns : tie.Need-returns
-unfolding two
-returns c = search size-zero
-
-plain-requires-2 : tie.Need-plain-requires-2
-plain-requires-2 c κs = search needs
+returns c = search read-large
 
 returns-2 : tie.Need-returns-2
-unfolding two
-returns-2 c = search size-large
+returns-2 c = search size-refused
 
 returns-3 : tie.Need-returns-3
-unfolding two
-returns-3 c = search size-refused
-
-returns-4 : tie.Need-returns-4
-returns-4 c = search two-size-is
+returns-3 c = search read-is
 
 pub group-size-spec : {M : Type 1} → statement M
 group-size-spec =
@@ -48,11 +36,8 @@ group-size-spec =
     head-requires
     enum-known-r
     enum-known-h
-    mul-s
-    shared-slice-read-s
+    size-at-requires
     plain-requires
     returns
-    plain-requires-2
     returns-2
-    returns-3
-    returns-4)
+    returns-3)

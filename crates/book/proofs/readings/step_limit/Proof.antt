@@ -1,5 +1,5 @@
 use Rattle.book.proofs.Calls.{limit-is, limit-refused}
-use Rattle.book.proofs.Areas.{two-size-positive, two-size-within}
+use Rattle.book.proofs.Areas.{limit-positive, limit-within}
 use borrow.Author.Needs.{needs}
 use Rattle.book.proofs.readings.step_limit.Statement.{statement}
 use Rattle.book.proofs.readings.step_limit.Tie as tie
@@ -11,7 +11,7 @@ enum-known-s : tie.Need-enum-known-s
 enum-known-s c = search needs
 
 power-below-requires : tie.Need-power-below-requires
-power-below-requires c κs = search (two-size-positive, two-size-within)
+power-below-requires c κs = search (limit-positive, limit-within)
 
 enum-known-r : tie.Need-enum-known-r
 enum-known-r c = search needs
