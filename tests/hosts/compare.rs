@@ -7,9 +7,9 @@ mod fence;
 mod inputs;
 
 use fence::Fenced;
-use inputs::Dice;
 use reference::book::Book;
 use reference::claims::{self, Verdict};
+use reference::dice::Dice;
 use reference::lists::{self, Graph, Lent, Room};
 use reference::places::{self, Form};
 use reference::{kernels, plain, Refusal, LIBRARY};
