@@ -199,9 +199,9 @@ static void measure(struct lists l, int with_lcc, int with_groups, int times) {
 
     TURNS {
         CHECKS;
-        BEST(plain, TIMES(CHECKED(plain_wcc(&p, result, a, b))));
+        BEST(plain, TIMES(CHECKED(plain_wcc(&p, result, a))));
         memcpy(right, result, n * 8);
-        BEST(engine, TIMES(trace_wcc(GRAPH(g, n, m), result, n, a, n, b, n)));
+        BEST(engine, TIMES(trace_wcc(GRAPH(g, n, m), result, n, a, n)));
         same(result, right, n * 8, "components");
     }
     row(l.name, "wcc core", engine - sound, plain - check);
@@ -240,7 +240,7 @@ static void measure(struct lists l, int with_lcc, int with_groups, int times) {
         TURNS {
             BEST(engine, TIMES(verdict |= JUDGE(2, 0, groups)));
             BEST(plain, TIMES({
-                     CHECKED(plain_wcc(&p, result, a, b));
+                     CHECKED(plain_wcc(&p, result, a));
                      verdict |= plain_judge_groups(&p, result, groups.bytes, groups.length, claimed);
                  }));
         }
@@ -282,7 +282,7 @@ static void measure(struct lists l, int with_lcc, int with_groups, int times) {
 }
 
 static void measure_book(size_t n, size_t calls) {
-    size_t *parents = room(n, 8), *sizes = room(n, 8), *p = room(n, 8), *s = room(n, 8);
+    int64_t *entries = room(n, 8), *p = room(n, 8);
     uint32_t *u = room(calls, 4), *v = room(calls, 4);
     seed = 7;
     for (size_t i = 0; i < calls; i++) {
@@ -293,19 +293,18 @@ static void measure_book(size_t n, size_t calls) {
     uint64_t heads = 0, right = 0;
     TURNS {
         BEST(engine, {
-            trace_book_open(parents, n, sizes, n);
-            for (size_t i = 0; i < calls; i++) trace_book_join(parents, n, sizes, n, u[i], v[i]);
+            trace_book_open(entries, n);
+            for (size_t i = 0; i < calls; i++) trace_book_join(entries, n, u[i], v[i]);
         });
         BEST(plain, {
-            plain_open(n, p, s);
-            for (size_t i = 0; i < calls; i++) plain_join(p, s, u[i], v[i]);
+            plain_open(n, p);
+            for (size_t i = 0; i < calls; i++) plain_join(p, u[i], v[i]);
         });
     }
-    same(parents, p, n * 8, "parents");
-    same(sizes, s, n * 8, "sizes");
+    same(entries, p, n * 8, "the book's entries");
     row("(e) book of 65,536", "1,000,000 joins", engine, plain);
     TURNS {
-        BEST(engine, for (size_t i = 0; i < calls; i++) heads += trace_book_head(parents, n, sizes, n, u[i]) / 100);
+        BEST(engine, for (size_t i = 0; i < calls; i++) heads += trace_book_head(entries, n, u[i]) / 100);
         BEST(plain, for (size_t i = 0; i < calls; i++) right += plain_head(p, u[i]));
     }
     if (heads != right) exit(1);

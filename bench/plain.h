@@ -14,7 +14,8 @@ int plain_load(int directed, const uint8_t *vertices, size_t vertices_len, const
 /* Whether a graph is sound, by the engine's own algorithm. */
 int plain_sound(const struct graph *g, size_t *cursors);
 void plain_bfs(const struct graph *g, size_t root, int64_t *depth, size_t *queue);
-void plain_wcc(const struct graph *g, int64_t *result, size_t *parents, size_t *sizes);
+/* The same algorithm as the engine's: `result` holds the book until `heads` has each vertex's head, and then the labels. */
+void plain_wcc(const struct graph *g, int64_t *result, size_t *heads);
 void plain_cdlp(const struct graph *g, int rounds, int64_t *result, size_t *labels, size_t *next, size_t *counts);
 /* The same algorithm as the engine's: each member of one list is looked for in the other, one by one. */
 void plain_lcc(const struct graph *g, size_t *numerators, size_t *denominators, size_t *work);
@@ -23,7 +24,7 @@ size_t plain_judge(const struct graph *g, const int64_t *result, const uint8_t *
 size_t plain_judge_groups(const struct graph *g, const int64_t *result, const uint8_t *claim, size_t claim_len, int64_t *claimed);
 size_t plain_judge_coefficients(const struct graph *g, const size_t *numerators, const size_t *denominators, const uint8_t *claim,
                                 size_t claim_len);
-/* Union by size, without paths made shorter, as the book keeps it. */
-void plain_open(size_t n, size_t *parents, size_t *sizes);
-int plain_join(size_t *parents, size_t *sizes, size_t u, size_t v);
-size_t plain_head(const size_t *parents, size_t v);
+/* Union by size, without paths made shorter, as the book keeps it: at a head minus its group's size, at any other vertex its parent. */
+void plain_open(size_t n, int64_t *entries);
+int plain_join(int64_t *entries, size_t u, size_t v);
+size_t plain_head(const int64_t *entries, size_t v);

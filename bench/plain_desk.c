@@ -68,7 +68,7 @@ static void run(const struct graph *g, size_t at) {
         return;
     }
     if (sheet[at] == 'b') plain_bfs(g, place(g, number_at(at + 4)), result, a);
-    if (sheet[at] == 'w') plain_wcc(g, result, a, b);
+    if (sheet[at] == 'w') plain_wcc(g, result, a);
     if (sheet[at] == 'c') plain_cdlp(g, (int)number_at(at + 5), result, a, b, c);
     for (size_t v = 0; v < g->vertices; v++) put_pair(g->ids[v], result[v], '\n');
 }

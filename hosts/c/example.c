@@ -41,12 +41,11 @@ int main(void) {
     printf("the claim that all hang together: %" PRIu64 " at line %" PRIu64 "\n", TRACE_VERDICT_NUMBER(verdict),
            TRACE_VERDICT_LINE(verdict));
 
-    size_t parents[4], sizes[4];
-    trace_book_open(parents, 4, sizes, 4);
-    trace_book_join(parents, 4, sizes, 4, 0, 1);
-    trace_book_join(parents, 4, sizes, 4, 2, 3);
-    trace_book_join(parents, 4, sizes, 4, 1, 3);
-    printf("groups: %" PRIu64 ", vertices in that of 3: %" PRIu64 "\n", trace_book_count(parents, 4, sizes, 4),
-           trace_book_size(parents, 4, sizes, 4, 3));
+    int64_t entries[4];
+    trace_book_open(entries, 4);
+    trace_book_join(entries, 4, 0, 1);
+    trace_book_join(entries, 4, 2, 3);
+    trace_book_join(entries, 4, 1, 3);
+    printf("groups: %" PRIu64 ", vertices in that of 3: %" PRIu64 "\n", trace_book_count(entries, 4), trace_book_size(entries, 4, 3));
     return 0;
 }

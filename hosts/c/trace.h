@@ -13,7 +13,7 @@
  *    5  an edge joins a vertex to itself
  *    6  undirected, and the first number is the larger
  *    7  an edge names a vertex not in the vertex file
- *    8  a lent area is too short, or the two areas of a book differ in length or pass 65,536
+ *    8  a lent area is too short, or a book's area passes 65,536
  *    9  a lent graph or book is unsound
  *   10  a BFS root or a book vertex isn't there
  *   11  CDLP iterations are negative or above 1,000
@@ -133,7 +133,10 @@ uint64_t trace_bfs(size_t vertices, size_t arcs,
                    int64_t *depth, size_t depth_length,
                    size_t *queue, size_t queue_length);
 
-/* result: the smallest identifier of each vertex's component. parents and sizes are working areas. */
+/*
+ * result: the smallest identifier of each vertex's component; while the components are found it holds their book. heads is a working area:
+ * it serves the check of the graph, and then holds each vertex's head.
+ */
 uint64_t trace_wcc(size_t vertices, size_t arcs,
                    const int64_t *ids, size_t ids_length,
                    const size_t *out_offsets, size_t out_offsets_length,
@@ -141,8 +144,7 @@ uint64_t trace_wcc(size_t vertices, size_t arcs,
                    const size_t *in_offsets, size_t in_offsets_length,
                    const size_t *in_sources, size_t in_sources_length,
                    int64_t *result, size_t result_length,
-                   size_t *parents, size_t parents_length,
-                   size_t *sizes, size_t sizes_length);
+                   size_t *heads, size_t heads_length);
 
 /* result: the labels after so many iterations, 0 to 1,000. labels, next and counts are working areas. */
 uint64_t trace_cdlp(size_t vertices, size_t arcs,
@@ -172,6 +174,12 @@ uint64_t trace_lcc(size_t vertices, size_t arcs,
  * The verdict on a claim about a lent graph. Each of the five areas needs `vertices` places, whatever the kernel. After a verdict
  * the kernel's result stands in `result` (BFS, WCC, CDLP), or in `first` over `second` (LCC, numerators over denominators); the other areas
  * are zero. Refusals: 12; 9; 10 (BFS) or 11 (CDLP); 8; 1, 2, 3 of the claim. After a refusal all five are zero.
+ * Which area serves for what, by the names of the kernels above:
+ *   BFS   result: depth; first: queue
+ *   WCC   result: the book, then the labels; first: heads
+ *   CDLP  result: result; first: labels; second: next; third: counts
+ *   LCC   first: numerators; second: denominators; third: work
+ * `claimed` takes the claim's numbers (BFS, WCC, CDLP). An area that serves for nothing is only cleared.
  * The answer is the verdict's or the refusal's: TRACE_NUMBER is TRACE_MATCH, TRACE_INCOMPLETE or TRACE_MISMATCH with TRACE_FILE 3 and the
  * line in TRACE_LINE, or, where TRACE_REFUSED, the number of a refusal.
  * A verdict on components compares each line of a complete claim with every earlier one, up to its first mismatch: at most
@@ -192,33 +200,37 @@ uint64_t trace_judge(size_t vertices, size_t arcs,
                      size_t *third, size_t third_length);
 
 /*
- * The group book: groups of the vertices 0 to n - 1, in two areas of n places each, at most 65,536.
- * A refused call changes nothing. Refusals: 8, then 10, then 9.
+ * The group book: groups of the vertices 0 to n - 1, in one area of n entries, at most 65,536. Each group has a head. A head's entry is
+ * minus the size of its group, -1 where it is alone. Any other vertex's entry is its parent, by which the walk to the head goes on. So a
+ * negative entry makes its place a head, and one that is 0 or above names a parent, also where it names its own place.
+ * A refused call changes nothing. Refusals: 8, then 10, then 9. It is 9 where a walk that the call needs leaves the area or does not end in
+ * 16 moves; where size or step limit finds a head's entry below -n; and where a join that would merge two groups finds such an entry, or
+ * sizes whose sum is above n. An opened book that only these calls have written refuses no join of its vertices.
  */
 
-/* Each vertex its own group. Answers 0. Refusal: 8. */
-uint64_t trace_book_open(size_t *parents, size_t parents_length, size_t *sizes, size_t sizes_length);
+/* Each vertex its own group: every entry is -1. Answers 0. Refusal: 8. */
+uint64_t trace_book_open(int64_t *entries, size_t entries_length);
 
 /* Joins the groups of u and v. Answers 1 where two groups merged, 0 where u and v were in one already. */
-uint64_t trace_book_join(size_t *parents, size_t parents_length, size_t *sizes, size_t sizes_length, size_t u, size_t v);
+uint64_t trace_book_join(int64_t *entries, size_t entries_length, size_t u, size_t v);
 
 /* The head of v's group, and the moves from parent to parent that reach it: head * 100 + moves. */
-uint64_t trace_book_head(const size_t *parents, size_t parents_length, const size_t *sizes, size_t sizes_length, size_t v);
+uint64_t trace_book_head(const int64_t *entries, size_t entries_length, size_t v);
 
 #define TRACE_HEAD(answer) ((size_t)((answer) / UINT64_C(100)))
 #define TRACE_MOVES(answer) ((size_t)((answer) % UINT64_C(100)))
 
 /* 1 where u and v are in the same group, else 0. */
-uint64_t trace_book_same(const size_t *parents, size_t parents_length, const size_t *sizes, size_t sizes_length, size_t u, size_t v);
+uint64_t trace_book_same(const int64_t *entries, size_t entries_length, size_t u, size_t v);
 
 /* The size of v's group. */
-uint64_t trace_book_size(const size_t *parents, size_t parents_length, const size_t *sizes, size_t sizes_length, size_t v);
+uint64_t trace_book_size(const int64_t *entries, size_t entries_length, size_t v);
 
-/* How many groups there are. Refusal: 8. */
-uint64_t trace_book_count(const size_t *parents, size_t parents_length, const size_t *sizes, size_t sizes_length);
+/* How many groups there are: the heads in the area. Refusal: 8. */
+uint64_t trace_book_count(const int64_t *entries, size_t entries_length);
 
 /* The largest k with 2 to the k at most the size of v's group: no walk to its head is longer. */
-uint64_t trace_book_limit(const size_t *parents, size_t parents_length, const size_t *sizes, size_t sizes_length, size_t v);
+uint64_t trace_book_limit(const int64_t *entries, size_t entries_length, size_t v);
 
 #ifdef __cplusplus
 }

@@ -1,35 +1,8 @@
-//! Random lists, claims, lines and damage, from a seed.
+//! Random lists, claims, lines, books and damage, from a seed.
 
+use reference::dice::Dice;
 use reference::kernels;
 use reference::lists::Graph;
-
-/// A small generator of random numbers (xorshift), the same on every machine.
-pub struct Dice(u64);
-
-impl Dice {
-    pub fn new(seed: u64) -> Dice {
-        Dice(seed.wrapping_mul(0x9e37_79b9_7f4a_7c15) | 1)
-    }
-
-    pub fn next(&mut self) -> u64 {
-        self.0 ^= self.0 << 13;
-        self.0 ^= self.0 >> 7;
-        self.0 ^= self.0 << 17;
-        self.0
-    }
-
-    pub fn below(&mut self, n: usize) -> usize {
-        (self.next() >> 11) as usize % n.max(1)
-    }
-
-    pub fn one_in(&mut self, n: usize) -> bool {
-        self.below(n) == 0
-    }
-
-    pub fn pick<'a, T>(&mut self, from: &'a [T]) -> &'a T {
-        &from[self.below(from.len())]
-    }
-}
 
 /// Two lists of one graph, and the mode that they are written for.
 pub struct Lists {
@@ -210,6 +183,74 @@ pub fn sheet(dice: &mut Dice, lists: &Lists) -> Vec<u8> {
         text.extend_from_slice(format!("{}\n", job).as_bytes());
     }
     text
+}
+
+/// An entry for a book of so many places: mostly a parent among them or a size up to the length; else at the length or past it, at minus
+/// the length or below it, at an end of the range, or far outside with the low bits of a parent or a size.
+pub fn entry(dice: &mut Dice, n: usize) -> i64 {
+    let (length, some) = (n as i64, dice.below(n) as i64);
+    let far: i64 = *dice.pick(&[1 << 16, 1 << 17, 1 << 31, 1 << 32, 1 << 48, 1 << 62]);
+    match dice.below(16) {
+        0 => length + dice.below(3) as i64,
+        1 => far + some,
+        2 => -length - dice.below(3) as i64,
+        3 => -far - 1 - some,
+        4 => i64::MIN,
+        5 => *dice.pick(&[i64::MIN + 1, i64::MIN + some, i64::MAX - some, i64::MAX]),
+        6..=9 => -1 - some,
+        _ => some,
+    }
+}
+
+/// Entries that lead from place to place, the places taken in any order: first a walk of so many moves to a head, or, where it is closed,
+/// a cycle of one place more; then each place a head, or under one before it. The sizes at the heads make up the length two by two, or one
+/// more.
+fn trees(dice: &mut Dice, n: usize, moves: usize, closed: bool) -> Vec<i64> {
+    let mut order: Vec<usize> = (0..n).collect();
+    (1..n).for_each(|i| order.swap(i, dice.below(i + 1)));
+    let (mut area, mut size) = (vec![0; n], 1 + dice.below(n));
+    for (i, &v) in order.iter().enumerate() {
+        let parent = match i {
+            0 if closed => Some(moves.min(n - 1)),
+            0 => None,
+            _ if i <= moves => Some(i - 1),
+            _ if dice.one_in(6) => None,
+            _ => Some(dice.below(i)),
+        };
+        area[v] = parent.map_or(-(size as i64), |k| order[k] as i64);
+        if parent.is_none() {
+            size = (n + dice.below(2) - size).max(1);
+        }
+    }
+    area
+}
+
+/// An area lent as a book: entries of every kind, numbers of a few bits or of all 64, long and short walks, or a cycle of 1 to 20 places;
+/// then at times some entries put wrong.
+pub fn entries(dice: &mut Dice) -> Vec<i64> {
+    let n = dice.below(46);
+    let (bits, moves, around) = (*dice.pick(&[3, 4, 5, 6, 7, 33, 64]), *dice.pick(&[0, 1, 4, 14, 15, 16, 17, 18]), dice.below(20));
+    let mut area: Vec<i64> = match dice.below(6) {
+        0 => (0..n).map(|_| entry(dice, n)).collect(),
+        1 => (0..n).map(|_| dice.next() as i64 >> (64 - bits)).collect(),
+        2 => trees(dice, n, around, true),
+        _ => trees(dice, n, moves, false),
+    };
+    for _ in 0..*dice.pick(&[0, 0, 0, 1, 1, 4]) {
+        if n > 0 {
+            area[dice.below(n)] = entry(dice, n);
+        }
+    }
+    area
+}
+
+/// A vertex of a book of so many, or at times a number that is none.
+pub fn vertex(dice: &mut Dice, n: usize) -> usize {
+    if dice.one_in(12) {
+        *dice.pick(&[n, n + 1, 65_536, 1 << 32, 1 << 63, usize::MAX])
+    } else {
+        dice.below(n)
+    }
 }
 
 /// So many digits, the first of them above 0.

@@ -98,18 +98,26 @@ fn main() {
     assert_eq!(verdict(Mode::Directed, &desk, b"", Kernel::Wcc, &claim(1_025)), Err(refused(Reason::TooMany, File::Claim, 1_025)));
     assert_eq!(verdict(Mode::Directed, &desk, b"", Kernel::Wcc, &claim(1_023)), Ok(Verdict::Incomplete(1_024)));
 
-    // a book of 65,536 opens and takes every join, one more is 8; "joining a vertex to itself merges nothing"
+    // four vertices, joins 0-1, 2-3, 1-3
+    let mut four = Book::open(4).unwrap();
+    assert_eq!((four.entries(), four.count()), (&[-1; 4][..], Ok(4)));
+    assert_eq!([four.join(0, 1), four.join(2, 3), four.join(1, 3)], [Ok(true), Ok(true), Ok(true)]);
+    assert_eq!((four.entries(), four.count()), (&[-4, 0, 0, 2][..], Ok(1)));
+
+    // a book of 65,536 opens and takes every join, one more is 8, before 10; "joining a vertex to itself merges nothing"
     assert_eq!(Book::open(65_537), Err(refused(Reason::NoRoom, File::None, 0)));
-    let (mut parents, mut sizes) = (vec![7; 65_537], vec![9; 65_537]);
+    let mut entries = vec![-7; 65_537];
     let no_room = 8 * 10_u64.pow(15);
-    assert_eq!(calls::book_open(&mut parents, &mut sizes), no_room);
-    assert_eq!(calls::book_join(&mut parents, &mut sizes, 0, 1), no_room);
-    assert_eq!(calls::book_head(&parents, &sizes, 0), no_room);
-    assert_eq!(calls::book_same(&parents, &sizes, 0, 1), no_room);
-    assert_eq!(calls::book_size(&parents, &sizes, 0), no_room);
-    assert_eq!(calls::book_count(&parents, &sizes), no_room);
-    assert_eq!(calls::book_limit(&parents, &sizes, 0), no_room);
-    assert_eq!((parents, sizes), (vec![7; 65_537], vec![9; 65_537]));
+    assert_eq!(calls::book_open(&mut entries), no_room);
+    assert_eq!(calls::book_count(&entries), no_room);
+    for v in [0, 65_536, 65_537] {
+        assert_eq!(calls::book_join(&mut entries, 1, v), no_room);
+        assert_eq!(calls::book_head(&entries, v), no_room);
+        assert_eq!(calls::book_same(&entries, 1, v), no_room);
+        assert_eq!(calls::book_size(&entries, v), no_room);
+        assert_eq!(calls::book_limit(&entries, v), no_room);
+    }
+    assert_eq!(entries, vec![-7; 65_537]);
     let mut book = Book::open(65_536).unwrap();
     assert_eq!(book.join(7, 7), Ok(false));
     assert_eq!(book.count(), Ok(65_536));
@@ -120,5 +128,17 @@ fn main() {
     }
     assert_eq!((book.count(), book.size(0), book.step_limit(0)), (Ok(1), Ok(65_536), Ok(16)));
     assert_eq!((0..65_536).map(|v| book.head(v).unwrap().1).max(), Some(16));
+
+    // an area of 65,536 places: the last parent in it and the first past it, the largest size and the first above it
+    let mut entries = vec![-1; 65_536];
+    let unsound = 9 * 10_u64.pow(15);
+    entries[0] = 65_535;
+    for (entry, size, limit) in [(-65_536, 65_536, 16), (-65_537, unsound, unsound), (i64::MIN, unsound, unsound)] {
+        entries[65_535] = entry;
+        assert_eq!((calls::book_head(&entries, 0), calls::book_size(&entries, 0)), (65_535 * 100 + 1, size));
+        assert_eq!((calls::book_limit(&entries, 0), calls::book_join(&mut entries, 0, 1)), (limit, unsound));
+    }
+    entries[0] = 65_536;
+    assert_eq!((calls::book_head(&entries, 0), calls::book_count(&entries)), (unsound, 65_535));
     println!("limits: each limit is met, and passed by one it is refused at its line");
 }

@@ -92,10 +92,8 @@ extern "C" {
         in_sources_len: usize,
         result: *mut i64,
         result_len: usize,
-        parents: *mut usize,
-        parents_len: usize,
-        sizes: *mut usize,
-        sizes_len: usize,
+        heads: *mut usize,
+        heads_len: usize,
     ) -> u64;
     fn trace_cdlp(
         vertices: usize,
@@ -168,20 +166,13 @@ extern "C" {
         third: *mut usize,
         third_len: usize,
     ) -> u64;
-    fn trace_book_open(parents: *mut usize, parents_len: usize, sizes: *mut usize, sizes_len: usize) -> u64;
-    fn trace_book_join(parents: *mut usize, parents_len: usize, sizes: *mut usize, sizes_len: usize, u: usize, v: usize) -> u64;
-    fn trace_book_head(parents: *const usize, parents_len: usize, sizes: *const usize, sizes_len: usize, v: usize) -> u64;
-    fn trace_book_same(
-        parents: *const usize,
-        parents_len: usize,
-        sizes: *const usize,
-        sizes_len: usize,
-        u: usize,
-        v: usize,
-    ) -> u64;
-    fn trace_book_size(parents: *const usize, parents_len: usize, sizes: *const usize, sizes_len: usize, v: usize) -> u64;
-    fn trace_book_count(parents: *const usize, parents_len: usize, sizes: *const usize, sizes_len: usize) -> u64;
-    fn trace_book_limit(parents: *const usize, parents_len: usize, sizes: *const usize, sizes_len: usize, v: usize) -> u64;
+    fn trace_book_open(entries: *mut i64, entries_len: usize) -> u64;
+    fn trace_book_join(entries: *mut i64, entries_len: usize, u: usize, v: usize) -> u64;
+    fn trace_book_head(entries: *const i64, entries_len: usize, v: usize) -> u64;
+    fn trace_book_same(entries: *const i64, entries_len: usize, u: usize, v: usize) -> u64;
+    fn trace_book_size(entries: *const i64, entries_len: usize, v: usize) -> u64;
+    fn trace_book_count(entries: *const i64, entries_len: usize) -> u64;
+    fn trace_book_limit(entries: *const i64, entries_len: usize, v: usize) -> u64;
 }
 
 pub fn verdict(vertices: &[u8], edges: &[u8], claim: &[u8], mode: u64, kernel: u64, parameter: i64) -> u64 {
@@ -267,17 +258,15 @@ pub fn bfs(g: &Lent<'_>, root: i64, depth: &mut [i64], queue: &mut [usize]) -> u
     }
 }
 
-pub fn wcc(g: &Lent<'_>, result: &mut [i64], parents: &mut [usize], sizes: &mut [usize]) -> u64 {
+pub fn wcc(g: &Lent<'_>, result: &mut [i64], heads: &mut [usize]) -> u64 {
     unsafe {
         on_graph!(
             trace_wcc,
             g,
             result.as_mut_ptr(),
             result.len(),
-            parents.as_mut_ptr(),
-            parents.len(),
-            sizes.as_mut_ptr(),
-            sizes.len(),
+            heads.as_mut_ptr(),
+            heads.len(),
         )
     }
 }
@@ -345,30 +334,30 @@ pub fn judge(g: &Lent<'_>, kernel: u64, parameter: i64, claim: &[u8], to: &mut A
     }
 }
 
-pub fn book_open(parents: &mut [usize], sizes: &mut [usize]) -> u64 {
-    unsafe { trace_book_open(parents.as_mut_ptr(), parents.len(), sizes.as_mut_ptr(), sizes.len()) }
+pub fn book_open(entries: &mut [i64]) -> u64 {
+    unsafe { trace_book_open(entries.as_mut_ptr(), entries.len()) }
 }
 
-pub fn book_join(parents: &mut [usize], sizes: &mut [usize], u: usize, v: usize) -> u64 {
-    unsafe { trace_book_join(parents.as_mut_ptr(), parents.len(), sizes.as_mut_ptr(), sizes.len(), u, v) }
+pub fn book_join(entries: &mut [i64], u: usize, v: usize) -> u64 {
+    unsafe { trace_book_join(entries.as_mut_ptr(), entries.len(), u, v) }
 }
 
-pub fn book_head(parents: &[usize], sizes: &[usize], v: usize) -> u64 {
-    unsafe { trace_book_head(parents.as_ptr(), parents.len(), sizes.as_ptr(), sizes.len(), v) }
+pub fn book_head(entries: &[i64], v: usize) -> u64 {
+    unsafe { trace_book_head(entries.as_ptr(), entries.len(), v) }
 }
 
-pub fn book_same(parents: &[usize], sizes: &[usize], u: usize, v: usize) -> u64 {
-    unsafe { trace_book_same(parents.as_ptr(), parents.len(), sizes.as_ptr(), sizes.len(), u, v) }
+pub fn book_same(entries: &[i64], u: usize, v: usize) -> u64 {
+    unsafe { trace_book_same(entries.as_ptr(), entries.len(), u, v) }
 }
 
-pub fn book_size(parents: &[usize], sizes: &[usize], v: usize) -> u64 {
-    unsafe { trace_book_size(parents.as_ptr(), parents.len(), sizes.as_ptr(), sizes.len(), v) }
+pub fn book_size(entries: &[i64], v: usize) -> u64 {
+    unsafe { trace_book_size(entries.as_ptr(), entries.len(), v) }
 }
 
-pub fn book_count(parents: &[usize], sizes: &[usize]) -> u64 {
-    unsafe { trace_book_count(parents.as_ptr(), parents.len(), sizes.as_ptr(), sizes.len()) }
+pub fn book_count(entries: &[i64]) -> u64 {
+    unsafe { trace_book_count(entries.as_ptr(), entries.len()) }
 }
 
-pub fn book_limit(parents: &[usize], sizes: &[usize], v: usize) -> u64 {
-    unsafe { trace_book_limit(parents.as_ptr(), parents.len(), sizes.as_ptr(), sizes.len(), v) }
+pub fn book_limit(entries: &[i64], v: usize) -> u64 {
+    unsafe { trace_book_limit(entries.as_ptr(), entries.len(), v) }
 }

@@ -53,7 +53,7 @@ impl Reason {
             Reason::SelfEdge => "an edge joins a vertex to itself",
             Reason::LargerFirst => "the list is undirected, and the first number is the larger",
             Reason::UnknownVertex => "an edge names a vertex that is not in the vertex file",
-            Reason::NoRoom => "a lent area is too short, or the areas of a book do not fit each other",
+            Reason::NoRoom => "a lent area is too short, or a book's area passes 65,536",
             Reason::Unsound => "a lent graph or book is unsound",
             Reason::NotThere => "a root or a book vertex isn't there",
             Reason::BadRounds => "the number of rounds is negative or above 1,000",
@@ -271,7 +271,7 @@ impl Graph {
     /// The smallest identifier of each vertex's component.
     pub fn components(&self) -> Result<Vec<i64>, Refusal> {
         let mut result = self.results();
-        given(calls::wcc(&self.lent(), &mut result, &mut self.area(), &mut self.area()))?;
+        given(calls::wcc(&self.lent(), &mut result, &mut self.area()))?;
         Ok(result)
     }
 
@@ -304,46 +304,50 @@ impl Graph {
     }
 }
 
-/// A group book.
+/// A group book, in one area.
 #[derive(Clone, Debug, PartialEq, Eq)]
 pub struct Book {
-    parents: Vec<usize>,
-    sizes: Vec<usize>,
+    entries: Vec<i64>,
 }
 
 impl Book {
     /// Opens a book of so many vertices, at most 65,536.
     pub fn open(vertices: usize) -> Result<Book, Refusal> {
-        let mut book = Book { parents: vec![0; vertices], sizes: vec![0; vertices] };
-        given(calls::book_open(&mut book.parents, &mut book.sizes))?;
+        let mut book = Book { entries: vec![0; vertices] };
+        given(calls::book_open(&mut book.entries))?;
         Ok(book)
+    }
+
+    /// What the area holds: minus its group's size at a head, and at every other vertex its parent.
+    pub fn entries(&self) -> &[i64] {
+        &self.entries
     }
 
     /// Whether the join merged two groups; else the two were of one group already.
     pub fn join(&mut self, u: usize, v: usize) -> Result<bool, Refusal> {
-        Ok(given(calls::book_join(&mut self.parents, &mut self.sizes, u, v))? == 1)
+        Ok(given(calls::book_join(&mut self.entries, u, v))? == 1)
     }
 
     /// The head of a vertex's group, and the number of moves from parent to parent that reach it.
     pub fn head(&self, v: usize) -> Result<(usize, usize), Refusal> {
-        let found = given(calls::book_head(&self.parents, &self.sizes, v))? as usize;
+        let found = given(calls::book_head(&self.entries, v))? as usize;
         Ok((found / 100, found % 100))
     }
 
     pub fn same(&self, u: usize, v: usize) -> Result<bool, Refusal> {
-        Ok(given(calls::book_same(&self.parents, &self.sizes, u, v))? == 1)
+        Ok(given(calls::book_same(&self.entries, u, v))? == 1)
     }
 
     pub fn size(&self, v: usize) -> Result<usize, Refusal> {
-        Ok(given(calls::book_size(&self.parents, &self.sizes, v))? as usize)
+        Ok(given(calls::book_size(&self.entries, v))? as usize)
     }
 
     pub fn count(&self) -> Result<usize, Refusal> {
-        Ok(given(calls::book_count(&self.parents, &self.sizes))? as usize)
+        Ok(given(calls::book_count(&self.entries))? as usize)
     }
 
     /// The largest k with 2 to the k at most the group's size: no walk to the head takes more moves.
     pub fn step_limit(&self, v: usize) -> Result<usize, Refusal> {
-        Ok(given(calls::book_limit(&self.parents, &self.sizes, v))? as usize)
+        Ok(given(calls::book_limit(&self.entries, v))? as usize)
     }
 }

@@ -1,19 +1,18 @@
-//! "The group book": two areas, parents and sizes.
+//! "The group book" in one area (K9): an entry is a parent at an ordinary vertex, and at a head, being negative, minus the group's size.
 
 use crate::{plain, Refusal};
 
 #[derive(Clone, Debug, PartialEq, Eq)]
 pub struct Book {
-    pub parents: Vec<usize>,
-    pub sizes: Vec<usize>,
+    pub entries: Vec<i64>,
 }
 
 impl Book {
     fn check(&self, vertices: &[usize]) -> Result<(), Refusal> {
-        if self.parents.len() != self.sizes.len() || self.parents.len() > 65_536 {
+        if self.entries.len() > 65_536 {
             return Err(plain(8));
         }
-        if vertices.iter().any(|&v| v >= self.parents.len()) {
+        if vertices.iter().any(|&v| v >= self.entries.len()) {
             return Err(plain(10));
         }
         Ok(())
@@ -23,24 +22,27 @@ impl Book {
     fn walk(&self, v: usize) -> Result<(usize, usize), Refusal> {
         let mut at = v;
         for moves in 0..=16 {
-            let parent = self.parents[at];
-            if parent == at {
+            let entry = *self.entries.get(at).ok_or(plain(9))?;
+            if entry < 0 {
                 return Ok((at, moves));
             }
-            if parent >= self.parents.len() {
-                return Err(plain(9));
-            }
-            at = parent;
+            at = entry as usize;
         }
         Err(plain(9))
     }
 
+    /// The size of a head's group. Its entry may not be below minus the length; the least number has no negative among signed ones.
+    fn size_at(&self, head: usize) -> Result<usize, Refusal> {
+        let size = self.entries[head].unsigned_abs() as usize;
+        if size > self.entries.len() {
+            return Err(plain(9));
+        }
+        Ok(size)
+    }
+
     pub fn open(&mut self) -> Result<(), Refusal> {
         self.check(&[])?;
-        for (v, (parent, size)) in self.parents.iter_mut().zip(&mut self.sizes).enumerate() {
-            *parent = v;
-            *size = 1;
-        }
+        self.entries.fill(-1);
         Ok(())
     }
 
@@ -51,11 +53,13 @@ impl Book {
         if g == h {
             return Ok(false);
         }
-        let (a, b) = (self.sizes[g], self.sizes[h]);
-        let sum = a.checked_add(b).filter(|&s| a > 0 && b > 0 && s <= self.parents.len()).ok_or(plain(9))?;
+        let (a, b) = (self.size_at(g)?, self.size_at(h)?);
+        if a + b > self.entries.len() {
+            return Err(plain(9));
+        }
         let (top, under) = if a > b || (a == b && g < h) { (g, h) } else { (h, g) };
-        self.parents[under] = top;
-        self.sizes[top] = sum;
+        self.entries[under] = top as i64;
+        self.entries[top] = -((a + b) as i64);
         Ok(true)
     }
 
@@ -71,16 +75,13 @@ impl Book {
 
     pub fn size(&self, v: usize) -> Result<usize, Refusal> {
         let (head, _) = self.head(v)?;
-        let size = self.sizes[head];
-        if size == 0 || size > self.parents.len() {
-            return Err(plain(9));
-        }
-        Ok(size)
+        self.size_at(head)
     }
 
+    /// The heads in the area.
     pub fn count(&self) -> Result<usize, Refusal> {
         self.check(&[])?;
-        Ok(self.parents.iter().enumerate().filter(|&(v, &p)| v == p).count())
+        Ok(self.entries.iter().filter(|&&entry| entry < 0).count())
     }
 
     /// The largest k with 2 to the k at most the group's size.

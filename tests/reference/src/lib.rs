@@ -3,10 +3,12 @@
 pub mod big;
 pub mod book;
 pub mod claims;
+pub mod dice;
 pub mod kernels;
 pub mod lists;
 pub mod places;
 pub mod sheet;
+pub mod two_areas;
 
 /// A refusal: its number, a file number, a line and a column, each 0 where there is none.
 #[derive(Clone, Copy, Debug, PartialEq, Eq)]

@@ -1,7 +1,8 @@
 //! The paper's own examples.
 
+use reference::dice::Dice;
 use reference::places::{self, Form};
-use reference::{book::Book, claims, kernels, lists, sheet, Refusal, DESK};
+use reference::{book::Book, claims, kernels, lists, plain, sheet, two_areas, Refusal, DESK};
 
 const SHEET: &str = "directed\n5\n-3\n2\n5\n9\n20\n5\n2 5\n2 9\n5 2\n5 9\n9 20\n4\nbfs 2\nwcc\ncdlp 2\nlcc\n";
 
@@ -58,11 +59,96 @@ fn labels_p11() {
 
 #[test]
 fn four_vertices_p12() {
-    let mut book = Book { parents: vec![9; 4], sizes: vec![9; 4] };
+    let mut book = Book { entries: vec![9; 4] };
     book.open().unwrap();
+    assert_eq!(book.entries, [-1, -1, -1, -1]);
     assert_eq!([book.join(0, 1), book.join(2, 3), book.join(1, 3)], [Ok(true), Ok(true), Ok(true)]);
-    assert_eq!(book, Book { parents: vec![0, 0, 0, 2], sizes: vec![4, 1, 2, 1] });
-    assert_eq!(book.count(), Ok(1));
+    assert_eq!((&book.entries[..], book.count()), (&[-4, 0, 0, 2][..], Ok(1)));
+    let mut two = two_areas::Book { parents: vec![9; 4], sizes: vec![9; 4] };
+    two.open().unwrap();
+    assert_eq!([two.join(0, 1), two.join(2, 3), two.join(1, 3)], [Ok(true), Ok(true), Ok(true)]);
+    assert_eq!((two.count(), two), (Ok(1), two_areas::Book { parents: vec![0, 0, 0, 2], sizes: vec![4, 1, 2, 1] }));
+}
+
+/// One call of the seven to both books: they answer alike, and the one area holds the parents and the heads' sizes of the two.
+fn books_agree(one: &mut Book, two: &mut two_areas::Book, call: usize, u: usize, v: usize) {
+    match call {
+        0 => assert_eq!(one.open(), two.open()),
+        1 => assert_eq!(one.head(v), two.head(v)),
+        2 => assert_eq!(one.same(u, v), two.same(u, v)),
+        3 => assert_eq!(one.size(v), two.size(v)),
+        4 => assert_eq!(one.count(), two.count()),
+        5 => assert_eq!(one.limit(v), two.limit(v)),
+        _ => assert_eq!(one.join(u, v), two.join(u, v)),
+    }
+    let entry = |(v, (&parent, &size)): (usize, (&usize, &usize))| if parent == v { -(size as i64) } else { parent as i64 };
+    let entries = two.parents.iter().zip(&two.sizes).enumerate().map(entry);
+    assert!(entries.eq(one.entries.iter().copied()), "call {} of {} {}: {:?} {:?}", call, u, v, one, two);
+}
+
+/// Series of calls from an opening, over any content before it, with further openings and with vertices that are not there.
+#[test]
+fn one_area_answers_as_two_k9() {
+    for seed in 0..4_100 {
+        let (mut dice, n) = (Dice::new(seed), seed as usize % 41);
+        let mut one = Book { entries: (0..n).map(|_| dice.next() as i64).collect() };
+        let (parents, sizes) = (0..n).map(|_| (dice.next() as usize, dice.next() as usize)).unzip();
+        let mut two = two_areas::Book { parents, sizes };
+        books_agree(&mut one, &mut two, 0, 0, 0);
+        for _ in 0..dice.below(150) {
+            let call = if dice.one_in(100) { 0 } else { 1 + dice.below(10) };
+            books_agree(&mut one, &mut two, call, dice.below(n + 2), dice.below(n + 2));
+        }
+    }
+    // 65,536 places open; one more is 8 to every call, before 10
+    for (n, said) in [(65_536, Ok(())), (65_537, Err(plain(8)))] {
+        let mut one = Book { entries: vec![-1; n] };
+        let mut two = two_areas::Book { parents: (0..n).collect(), sizes: vec![1; n] };
+        assert_eq!(one.open(), said);
+        (0..7).for_each(|call| books_agree(&mut one, &mut two, call, 0, n));
+    }
+}
+
+/// Areas that no series of calls leaves behind.
+#[test]
+fn damaged_books_k9() {
+    let (book, unsound) = (|entries: &[i64]| Book { entries: entries.to_vec() }, plain(9));
+
+    // an entry that names its own place is a parent, and that walk does not end
+    let mut own = book(&[-2, 0, 2]);
+    assert_eq!((own.head(2), own.same(0, 2), own.size(2), own.limit(2)), (Err(unsound), Err(unsound), Err(unsound), Err(unsound)));
+    assert_eq!((own.join(1, 2), own.join(2, 1), own.join(2, 2)), (Err(unsound), Err(unsound), Err(unsound)));
+    assert_eq!((own.head(1), own.size(1), own.count(), own), (Ok((0, 1)), Ok(2), Ok(1), book(&[-2, 0, 2])));
+
+    // the least number at a head: 9 where its size is needed, and nowhere else
+    let mut least = book(&[i64::MIN, 0, -1]);
+    assert_eq!((least.head(1), least.same(0, 1), least.same(1, 2), least.count()), (Ok((0, 1)), Ok(true), Ok(false), Ok(2)));
+    assert_eq!((least.size(1), least.limit(1), least.size(2)), (Err(unsound), Err(unsound), Ok(1)));
+    assert_eq!((least.join(1, 2), least.join(2, 0), least.join(0, 1)), (Err(unsound), Err(unsound), Ok(false)));
+    assert_eq!(least, book(&[i64::MIN, 0, -1]));
+
+    // minus the length is a size, one below it is none
+    let (whole, more) = (book(&[-3, 0, -1]), book(&[-4, 0, -1]));
+    assert_eq!((whole.size(1), whole.limit(1), more.size(1), more.limit(1)), (Ok(3), Ok(1), Err(unsound), Err(unsound)));
+
+    // sizes that make up the length merge, one more is 9
+    let (mut full, mut over) = (book(&[-2, 0, -1]), book(&[-2, 0, -2]));
+    assert_eq!((full.join(2, 1), full), (Ok(true), book(&[-3, 0, 0])));
+    assert_eq!((over.join(2, 1), over), (Err(unsound), book(&[-2, 0, -2])));
+
+    // the walk from each vertex has as many moves as its number says: 16 are found, 17 are not
+    let walks = Book { entries: (-1..17).collect() };
+    assert_eq!((walks.head(15), walks.head(16), walks.head(17)), (Ok((0, 15)), Ok((0, 16)), Err(unsound)));
+    assert_eq!((walks.same(15, 16), walks.same(16, 17), walks.size(16), walks.size(17)), (Ok(true), Err(unsound), Ok(1), Err(unsound)));
+
+    // a parent at the length, past it, and the largest number: the walk leaves the area
+    for outside in [2, 3, i64::MAX] {
+        let out = book(&[-1, outside]);
+        assert_eq!((out.head(1), out.same(1, 0), out.head(0), out.count()), (Err(unsound), Err(unsound), Ok((0, 0)), Ok(1)));
+    }
+
+    // a vertex that isn't there comes before a walk that does not end
+    assert_eq!((book(&[0]).join(0, 1), book(&[0]).join(0, 0)), (Err(plain(10)), Err(unsound)));
 }
 
 #[test]
