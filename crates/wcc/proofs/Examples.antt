@@ -13,25 +13,24 @@ use Rattle.wcc.specs.Component.{adjacent, chain, first, labelOf, labels}
 use Rattle.wcc.specs.Call.{roomFor, outcome, leftBy, wccCall}
 
 -- areas with places to spare that held something before
-pub spare-places : wccCall sheetGraph (pos 7 ∷ pos 7 ∷ pos 7 ∷ pos 7 ∷ pos 7 ∷ pos 7 ∷ []) (9 ∷ 9 ∷ 9 ∷ 9 ∷ 9 ∷ [])
-    (9 ∷ 9 ∷ 9 ∷ 9 ∷ 9 ∷ 9 ∷ [])
-    ≡ outcome (gives tt) (negsuc 2 ∷ pos 2 ∷ pos 2 ∷ pos 2 ∷ pos 2 ∷ pos 0 ∷ []) (0 ∷ 0 ∷ 0 ∷ 0 ∷ 0 ∷ []) (0 ∷ 0 ∷ 0 ∷ 0 ∷ 0 ∷ 0 ∷ [])
+pub spare-places : wccCall sheetGraph (pos 7 ∷ pos 7 ∷ pos 7 ∷ pos 7 ∷ pos 7 ∷ pos 7 ∷ []) (9 ∷ 9 ∷ 9 ∷ 9 ∷ 9 ∷ 9 ∷ 9 ∷ [])
+    ≡ outcome (gives tt) (negsuc 2 ∷ pos 2 ∷ pos 2 ∷ pos 2 ∷ pos 2 ∷ pos 0 ∷ []) (0 ∷ 0 ∷ 0 ∷ 0 ∷ 0 ∷ 0 ∷ 0 ∷ [])
 unfolding wccCall leftBy kernelSays roomFor soundSides soundGraph soundIds soundSide soundOffsets mirrored every each mem partOf
     targetsBetween
     column labelOf first firstFrom chain adjacent
 spare-places = refl
 
 -- one place too few in the last area
-pub too-short : wccCall sheetGraph (pos 7 ∷ pos 7 ∷ pos 7 ∷ pos 7 ∷ pos 7 ∷ []) (9 ∷ 9 ∷ 9 ∷ 9 ∷ 9 ∷ []) (9 ∷ 9 ∷ 9 ∷ 9 ∷ [])
-    ≡ outcome (refuses (plain 8)) (pos 0 ∷ pos 0 ∷ pos 0 ∷ pos 0 ∷ pos 0 ∷ []) (0 ∷ 0 ∷ 0 ∷ 0 ∷ 0 ∷ []) (0 ∷ 0 ∷ 0 ∷ 0 ∷ [])
+pub too-short : wccCall sheetGraph (pos 7 ∷ pos 7 ∷ pos 7 ∷ pos 7 ∷ pos 7 ∷ []) (9 ∷ 9 ∷ 9 ∷ 9 ∷ [])
+    ≡ outcome (refuses (plain 8)) (pos 0 ∷ pos 0 ∷ pos 0 ∷ pos 0 ∷ pos 0 ∷ []) (0 ∷ 0 ∷ 0 ∷ 0 ∷ [])
 unfolding wccCall leftBy kernelSays roomFor soundSides soundGraph soundIds soundSide soundOffsets mirrored every each mem partOf
     targetsBetween
 too-short = refl
 
 -- an unsound graph, with an arc too few stated, comes before an area too short
 pub unsound-first : wccCall (lent (record { vertices = 5; arcs = 4 }) (sheetGraph .ids) (sheetGraph .outOffsets) (sheetGraph .outTargets)
-    (sheetGraph .inOffsets) (sheetGraph .inSources)) (pos 7 ∷ []) [] (9 ∷ [])
-    ≡ outcome (refuses (plain 9)) (pos 0 ∷ []) [] (0 ∷ [])
+    (sheetGraph .inOffsets) (sheetGraph .inSources)) (pos 7 ∷ []) (9 ∷ [])
+    ≡ outcome (refuses (plain 9)) (pos 0 ∷ []) (0 ∷ [])
 unfolding wccCall leftBy kernelSays soundSides soundGraph soundIds soundSide soundOffsets mirrored every each mem partOf targetsBetween
 unsound-first = refl
 

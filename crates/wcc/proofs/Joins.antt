@@ -8,19 +8,20 @@ use mathlib.Core.List.{List, [], _∷_, List·Memᴰ, List·Memᴰ·head, List·
 use native.Mathlib.Nat.{not-suc-le-zero, le-of-suc-le-suc, eq-or-lt-of-le}
 use native.Mathlib.Omega.{arith}
 use lib.IntN.{ℤ}
-use lib.ListN.{length}
-use Rattle.basis.specs.Refusal.{Said}
+use lib.ListN.{length, getD}
+use Rattle.basis.specs.Area.{column}
 use Rattle.basis.specs.Closure.{Linked}
 use Rattle.basis.specs.Scan.{Inside, mem}
+use Rattle.basis.proofs.Areas.{column-at}
 use Rattle.basis.proofs.Closures.{linked-within}
 use Rattle.basis.proofs.Scans.{mem-none-of, mem-head, mem-tail, mem-cases}
-use Rattle.book.specs.Rules.{Outcome, outcome, all, openBook, joinEach}
-use Rattle.book.specs.Two.{Areas, areas, two, twoBook}
+use Rattle.book.specs.Rules.{all, openBook, joinEach}
+use Rattle.book.specs.One.{one, oneBook}
 use Rattle.book.specs.Series.{Slip, slip, putEach, headIn, headAt, Accepted}
-use Rattle.book.proofs.TwoBook.{faithful-two}
-use Rattle.book.proofs.Held.{Held, two-open, held-all, held-each, held-kept, held-head}
+use Rattle.book.proofs.OneBook.{faithful-one}
+use Rattle.book.proofs.Held.{Held, one-open, held-all, held-each, held-kept, held-head}
 use Rattle.wcc.specs.Component.{LinkedAmong, labels}
-use Rattle.wcc.specs.Steps.{headHere, joinArcs, marked, takenOver, Within, Fitting}
+use Rattle.wcc.specs.Steps.{headHere, noted, joinArcs, grouped, marked, takenOver, Within, Fitting, Marking}
 use Rattle.wcc.proofs.Passes.{Heads, labels-are}
 
 -- ---- the joins along the arcs, the latest first
@@ -28,21 +29,21 @@ slipsOf : (ℕ → List ℕ) → ℕ → List Slip
 slipsOf out zero = []
 slipsOf out (suc u) = putEach u (out u) (slipsOf out u)
 
-held-arcs : (n : ℕ) (out : ℕ → List ℕ) → Inside n out → (a : Areas) → Held twoBook n a [] → (k : ℕ) → k ≤ n
-    → Held twoBook n (joinArcs out k a) (slipsOf out k)
+held-arcs : (n : ℕ) (out : ℕ → List ℕ) → Inside n out → (a : List ℤ) → Held oneBook n a [] → (k : ℕ) → k ≤ n
+    → Held oneBook n (joinArcs out k a) (slipsOf out k)
 unfolding joinArcs slipsOf
 held-arcs n out inside a H zero l = H
 held-arcs n out inside a H (suc k) l =
-    held-each twoBook faithful-two n (joinArcs out k a) (slipsOf out k) (held-arcs n out inside a H k (omega arith)) k (out k) (omega arith)
+    held-each oneBook faithful-one n (joinArcs out k a) (slipsOf out k) (held-arcs n out inside a H k (omega arith)) k (out k) (omega arith)
     (inside k (omega arith))
 
 -- and in a book just opened the joins along the arcs of each vertex are all accepted:
 -- the answer that the code does not look at is no refusal
-pub arcs-accepted : (n : ℕ) (out : ℕ → List ℕ) → Inside n out → (a : Areas) → Held twoBook n a [] → (u : ℕ)
+pub arcs-accepted : (n : ℕ) (out : ℕ → List ℕ) → Inside n out → (a : List ℤ) → Held oneBook n a [] → (u : ℕ)
     → u < n
-    → (m : ℕ) × (joinEach twoBook (joinArcs out u a) u (out u) .said ≡ all m)
+    → (m : ℕ) × (joinEach oneBook (joinArcs out u a) u (out u) .said ≡ all m)
 arcs-accepted n out inside a H u l =
-    held-all twoBook faithful-two n (joinArcs out u a) (slipsOf out u) (held-arcs n out inside a H u (omega arith)) u (out u) l (inside u l)
+    held-all oneBook faithful-one n (joinArcs out u a) (slipsOf out u) (held-arcs n out inside a H u (omega arith)) u (out u) l (inside u l)
 
 -- ---- they are the arcs
 part-old : (u : ℕ) (ws : List ℕ) (js : List Slip) (s : Slip) → List·Memᴰ s js → List·Memᴰ s (putEach u ws js)
@@ -101,48 +102,56 @@ module _ (out : ℕ → List ℕ) where
   linked-joins : (n : ℕ) {u v : ℕ} → LinkedAmong n out u v → Linked (Accepted (slipsOf out n)) u v
   linked-joins n l = linked-within (λ u w a. slips-new n u w (a .0) (a .1)) l
 
--- ---- the heads of the book that the kernel makes of areas ps, ss: opened, then joined along the arcs
-module _ (n : ℕ) (out : ℕ → List ℕ) (ids R : List ℤ) (ps ss : List ℕ) (x : Fitting n out ids R ps ss) (d : Said (Unit {0}))
-    (ps₁ ss₁ ps₂ ss₂ : List ℕ)
-    (opened : outcome d (areas ps₁ ss₁) ≡ openBook twoBook (areas ps ss)) (joined : areas ps₂ ss₂ ≡ joinArcs out n (areas ps₁ ss₁)) where
-  kept : Held twoBook n (areas ps₂ ss₂) (slipsOf out n)
-  kept =
-      subst (λ (a : Areas). Held twoBook n a (slipsOf out n))
-      (sym (joined ∙ ap (λ (d : Outcome (Unit {0}) Areas). joinArcs out n (d .area)) opened))
-      (held-arcs n out (x .inside) (openBook twoBook (areas ps ss) .area) (two-open ps ss n (x .few) (x .parentsRoom) (x .sizesRoom)) n
-      (omega arith))
+-- ---- the heads of the book that the kernel makes in the area R, as they stand in hs₁
+module _ (n : ℕ) (out : ℕ → List ℕ) (ids R : List ℤ) (hs : List ℕ) (x : Fitting n out ids R hs) (hs₁ : List ℕ)
+    (found : hs₁ ≡ column (headHere (grouped out n R)) 0 (length hs)) where
+  kept : Held oneBook n (grouped out n R) (slipsOf out n)
+  unfolding grouped
+  kept = held-arcs n out (x .inside) (openBook oneBook R .area) (one-open R n (x .few) (x .resultRoom)) n (omega arith)
 
-  head-is : (v : ℕ) → v < n → headHere ps₂ ss₂ v ≡ headAt (two ps₂ ss₂) v
-  unfolding headHere
-  head-is v l = ap headIn (held-head twoBook faithful-two n (areas ps₂ ss₂) (slipsOf out n) kept v l)
+  head-is : (v : ℕ) → v < n → noted hs₁ v ≡ headAt (one (grouped out n R)) v
+  unfolding noted headHere
+  head-is v l =
+      ap (λ (l : List ℕ). getD l v 0) found ∙ column-at (headHere (grouped out n R)) (length hs) v 0 (omega (arith, x .headsRoom))
+      ∙ ap headIn (held-head oneBook faithful-one n (grouped out n R) (slipsOf out n) kept v l)
 
-  heads-are : Heads n out (headHere ps₂ ss₂)
+  heads-are : Heads n out (noted hs₁)
   heads-are =
-      let K = held-kept twoBook faithful-two n (areas ps₂ ss₂) (slipsOf out n) kept in
-      let g = headAt (two ps₂ ss₂) in
+      let K = held-kept oneBook faithful-one n (grouped out n R) (slipsOf out n) kept in
+      let g = headAt (one (grouped out n R)) in
       record {
         within = λ v l. omega (arith, head-is v l, K .inside v l);
-        settled = λ v l. ap (headHere ps₂ ss₂) (head-is v l) ∙ head-is (g v) (K .inside v l) ∙ K .settled v l ∙ sym (head-is v l);
+        settled = λ v l. ap (noted hs₁) (head-is v l) ∙ head-is (g v) (K .inside v l) ∙ K .settled v l ∙ sym (head-is v l);
         same = λ u v k l. (
           λ e. joins-linked out n (K .linked u v k l .0 (sym (head-is u k) ∙ e ∙ head-is v l)),
           λ p. head-is u k ∙ K .linked u v k l .1 (linked-joins out n p) ∙ sym (head-is v l),
         );
       }
 
-  -- what marking and taking over need, and what they leave
-  pub mark-within : Within (length R) (headHere ps₂ ss₂)
-  mark-within = rw (x .resultRoom) (heads-are .within)
+  -- what marking and taking over need of an area, whatever it holds
+  module _ (R₂ : List ℤ) (e : length R₂ ≡ length R) where
+    room : length R₂ ≡ n
+    room = e ∙ x .resultRoom
 
-  module _ (R₁ : List ℤ) (e : length R₁ ≡ length R) where
-    pub take-within : Within (length R₁) (headHere ps₂ ss₂)
-    take-within = rw e mark-within
+    module _ (f : length hs₁ ≡ length hs) where
+      pub marking : Marking hs₁ ids R₂
+      marking = record {
+        within = subst (λ (k : ℕ). Within k (noted hs₁)) (sym room) (heads-are .within);
+        headed = f ∙ x .headsRoom ∙ sym room;
+        named = x .named ∙ sym room;
+      }
 
-    pub labelled : (R₂ : List ℤ) → R₁ ≡ marked (headHere ps₂ ss₂) ids (length R) R → R₂ ≡ takenOver (headHere ps₂ ss₂) (length R₁) R₁
-        → R₂ ≡ labels n out ids
-    labelled R₂ p q =
-        let l : length R₁ ≡ n = e ∙ x .resultRoom in
-        q ∙ ap₂ (takenOver (headHere ps₂ ss₂)) l (p ∙ ap (λ (k : ℕ). marked (headHere ps₂ ss₂) ids k R) (x .resultRoom))
-        ∙ labels-are n out (x .inside) (headHere ps₂ ss₂) heads-are ids R (x .resultRoom)
+      module _ (R₃ : List ℤ) (h : length R₃ ≡ length R₂) where
+        pub take-within : Within (length R₃) (noted hs₁)
+        take-within = rw h (marking .within)
 
-pub fitting-named : (n : ℕ) (out : ℕ → List ℕ) (ids R : List ℤ) (ps ss : List ℕ) → Fitting n out ids R ps ss → length ids ≡ length R
-fitting-named n out ids R ps ss x = x .named ∙ sym (x .resultRoom)
+        pub take-headed : length hs₁ ≡ length R₃
+        take-headed = marking .headed ∙ sym h
+
+    -- and what they leave
+    pub labelled : (R₃ R₄ : List ℤ) → R₃ ≡ marked (noted hs₁) ids (length R₂) R₂ → R₄ ≡ takenOver (noted hs₁) (length R₃) R₃
+        → length R₃ ≡ length R₂
+        → R₄ ≡ labels n out ids
+    labelled R₃ R₄ p q h =
+        q ∙ ap₂ (takenOver (noted hs₁)) (h ∙ room) (p ∙ ap (λ (k : ℕ). marked (noted hs₁) ids k R₂) room)
+        ∙ labels-are n out (x .inside) (noted hs₁) heads-are ids R₂ room

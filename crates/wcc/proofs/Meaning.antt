@@ -78,8 +78,8 @@ module _ (g : Graph) (s : Sound g) where
 
 -- ---- the public call
 
-module _ (g : Graph) (R : List ℤ) (P S : List ℕ) where
-  call-done : soundGraph g ≡ true → roomFor (g .vertices) R P S ≡ true → Done g R P S (wccCall g R P S)
+module _ (g : Graph) (R : List ℤ) (H : List ℕ) where
+  call-done : soundGraph g ≡ true → roomFor (g .vertices) R H ≡ true → Done g R H (wccCall g R H)
   unfolding wccCall leftBy kernelSays
   call-done t r = rw (t, r) (record {
     answer = refl;
@@ -87,19 +87,19 @@ module _ (g : Graph) (R : List ℤ) (P S : List ℕ) where
     member = λ v l. rw (at v l) (labels-member g s v l);
     least = λ u v k l p. rw (at v l) (labels-least g s u v k l p);
     behind = pad-behind (pos 0) (g .vertices) (length R) (wccOf g) (wcc-length g s) fits;
-    zeros = (refl, refl);
+    zeros = refl;
   })
     where
       s : Sound g
       s = sound-of g t
 
       fits : g .vertices ≤ length R
-      fits = first-result (g .vertices) R P S r
+      fits = first-result (g .vertices) R H r
 
       at : (v : ℕ) → v < g .vertices → getD (padZ (length R) (wccOf g)) v (pos 0) ≡ getD (wccOf g) v (pos 0)
       at v l = pad-value (pos 0) (g .vertices) (length R) (wccOf g) (wcc-length g s) fits v l
 
   -- what the public call means, on every graph and every area
-  pub wcc-call : Called g R P S (wccCall g R P S)
+  pub wcc-call : Called g R H (wccCall g R H)
   unfolding wccCall leftBy kernelSays
   wcc-call = record { notSound = λ t. rw t; short = λ t r. rw (t, r); done = call-done }

@@ -19,7 +19,7 @@ abbrev pub LinkedIn : Graph → ℕ → ℕ → Type 0
 LinkedIn g u v = LinkedAmong (g .vertices) (outward g) u v
 
 -- a call that gives the labels: each vertex has its label at its place
-pub record Done (g : Graph) (result : List ℤ) (parents sizes : List ℕ) (o : Outcome) : Type 0 where
+pub record Done (g : Graph) (result : List ℤ) (heads : List ℕ) (o : Outcome) : Type 0 where
   pub answer : o .said ≡ gives tt
   -- "Two vertices belong to the same component, and thus have the same label, if there exists a path between these vertices": exactly then
   pub same : (u v : ℕ) → u < g .vertices → v < g .vertices
@@ -32,10 +32,10 @@ pub record Done (g : Graph) (result : List ℤ) (parents sizes : List ℕ) (o : 
       → ltZ (getD (names g) u (pos 0)) (getD (o .result) v (pos 0)) ≡ false
   pub behind : ZeroBehind (pos 0) (g .vertices) (length result) (o .result)
   -- "working areas are zero throughout"
-  pub zeros : (o .parents ≡ cleared parents) × (o .sizes ≡ cleared sizes)
+  pub zeros : o .heads ≡ cleared heads
 
--- what a call means, refusals included; result, parents and sizes stood in the three areas before it
-pub record Called (g : Graph) (result : List ℤ) (parents sizes : List ℕ) (o : Outcome) : Type 0 where
-  pub notSound : soundGraph g ≡ false → o ≡ refusal unsound result parents sizes
-  pub short : soundGraph g ≡ true → roomFor (g .vertices) result parents sizes ≡ false → o ≡ refusal noRoom result parents sizes
-  pub done : soundGraph g ≡ true → roomFor (g .vertices) result parents sizes ≡ true → Done g result parents sizes o
+-- what a call means, refusals included; result and heads stood in the two areas before it
+pub record Called (g : Graph) (result : List ℤ) (heads : List ℕ) (o : Outcome) : Type 0 where
+  pub notSound : soundGraph g ≡ false → o ≡ refusal unsound result heads
+  pub short : soundGraph g ≡ true → roomFor (g .vertices) result heads ≡ false → o ≡ refusal noRoom result heads
+  pub done : soundGraph g ≡ true → roomFor (g .vertices) result heads ≡ true → Done g result heads o

@@ -20,21 +20,20 @@ ghost use Rattle.wcc.specs.Call.{outcome, refusal, roomFor, leftBy, wccC
 ghost use Rattle.wcc.specs.Steps.{Ready};
 
 // Has each area n places?
-fn room(n: usize, result: &[i64], parents: &[usize], sizes: &[usize]) -> bool
-    ensures { λ r. ⌜ r ≡ roomFor n (now (result .entry)) (now (parents .entry)) (now (sizes .entry)) ⌝ }
+fn room(n: usize, result: &[i64], heads: &[usize]) -> bool
+    ensures { λ r. ⌜ r ≡ roomFor n (now (result .entry)) (now (heads .entry)) ⌝ }
 {
-    n <= lesser(lesser(result.len(), parents.len()), sizes.len())
+    n <= lesser(result.len(), heads.len())
 }
 
 // A refusal: all areas are zero.
-fn refuse(number: usize, result: &mut [i64], parents: &mut [usize], sizes: &mut [usize]) -> Answer
+fn refuse(number: usize, result: &mut [i64], heads: &mut [usize]) -> Answer
     ensures { λ r. ⌜
-        outcome (says r) (now (result .exit)) (now (parents .exit)) (now (sizes .exit))
-        ≡ refusal number (now (result .entry)) (now (parents .entry)) (now (sizes .entry)) ⌝ }
+        outcome (says r) (now (result .exit)) (now (heads .exit))
+        ≡ refusal number (now (result .entry)) (now (heads .entry)) ⌝ }
 {
     clear_signed(result);
-    clear(parents);
-    clear(sizes);
+    clear(heads);
     refused(number)
 }
 
@@ -47,19 +46,18 @@ fn fill(
     in_offsets: &[usize],
     in_sources: &[usize],
     result: &mut [i64],
-    parents: &mut [usize],
-    sizes: &mut [usize],
+    heads: &mut [usize],
 ) -> Answer
     requires { ⌜
         Ready
         (lent size (now ids) (now «out_offsets») (now «out_targets») (now «in_offsets») (now «in_sources»))
-        (now result) (now parents) (now sizes) ⌝ }
+        (now result) (now heads) ⌝ }
     ensures { λ r. ⌜
-        outcome (says r) (now (result .exit)) (now (parents .exit)) (now (sizes .exit))
+        outcome (says r) (now (result .exit)) (now (heads .exit))
         ≡ leftBy (gives tt)
         (lent size (now (ids .entry)) (now («out_offsets» .entry)) (now («out_targets» .entry))
         (now («in_offsets» .entry)) (now («in_sources» .entry)))
-        (now (result .entry)) (now (parents .entry)) (now (sizes .entry)) ⌝ }
+        (now (result .entry)) (now (heads .entry)) ⌝ }
 {
     clear_signed(result);
     label(
@@ -68,15 +66,14 @@ fn fill(
         out_targets,
         &ids[..size.vertices],
         &mut result[..size.vertices],
-        &mut parents[..size.vertices],
-        &mut sizes[..size.vertices],
+        &mut heads[..size.vertices],
     );
-    clear(parents);
-    clear(sizes);
+    clear(heads);
     Answer::Done
 }
 
-// The component labels of a sound graph's vertices; or a refusal: 9 or 8. `parents` and `sizes` are working areas.
+// The component labels of a sound graph's vertices; or a refusal: 9 or 8. `result` holds the book before it holds the labels; `heads`, a
+// working area, serves the check of the graph and then holds each vertex's head.
 pub fn wcc(
     size: Size,
     ids: &[i64],
@@ -85,15 +82,14 @@ pub fn wcc(
     in_offsets: &[usize],
     in_sources: &[usize],
     result: &mut [i64],
-    parents: &mut [usize],
-    sizes: &mut [usize],
+    heads: &mut [usize],
 ) -> Answer
     ensures { λ r. ⌜
-        outcome (says r) (now (result .exit)) (now (parents .exit)) (now (sizes .exit))
+        outcome (says r) (now (result .exit)) (now (heads .exit))
         ≡ wccCall
         (lent size (now (ids .entry)) (now («out_offsets» .entry)) (now («out_targets» .entry))
         (now («in_offsets» .entry)) (now («in_sources» .entry)))
-        (now (result .entry)) (now (parents .entry)) (now (sizes .entry)) ⌝ }
+        (now (result .entry)) (now (heads .entry)) ⌝ }
 {
     if !sound_over(
         size,
@@ -102,12 +98,12 @@ pub fn wcc(
         out_targets,
         in_offsets,
         in_sources,
-        parents,
+        heads,
     ) {
-        return refuse(UNSOUND, result, parents, sizes);
+        return refuse(UNSOUND, result, heads);
     }
-    if !room(size.vertices, result, parents, sizes) {
-        return refuse(NO_ROOM, result, parents, sizes);
+    if !room(size.vertices, result, heads) {
+        return refuse(NO_ROOM, result, heads);
     }
     fill(
         size,
@@ -117,7 +113,6 @@ pub fn wcc(
         in_offsets,
         in_sources,
         result,
-        parents,
-        sizes,
+        heads,
     )
 }

@@ -1,6 +1,5 @@
+use Rattle.wcc.proofs.Calls.{lent-result, lent-heads, taken-ids, taken-result, taken-heads, fitting-of, fill-all}
 use borrow.Author.Needs.{needs}
-use Rattle.wcc.proofs.Calls.{lent-result, lent-parents, lent-sizes, taken-ids}
-use Rattle.wcc.proofs.Calls.{taken-result, taken-parents, taken-sizes, fitting-of, fill-all}
 use Rattle.wcc.proofs.fill.Statement.{statement}
 use Rattle.wcc.proofs.fill.Tie as tie
 
@@ -17,16 +16,10 @@ slice-aggregate-label-2 : tie.Need-slice-aggregate-label-2
 slice-aggregate-label-2 c = search taken-result
 
 slice-relend-prefix-label-2 : tie.Need-slice-relend-prefix-label-2
-slice-relend-prefix-label-2 c = search lent-parents
+slice-relend-prefix-label-2 c = search lent-heads
 
 slice-aggregate-label-3 : tie.Need-slice-aggregate-label-3
-slice-aggregate-label-3 c = search taken-parents
-
-slice-relend-prefix-label-3 : tie.Need-slice-relend-prefix-label-3
-slice-relend-prefix-label-3 c = search lent-sizes
-
-slice-aggregate-label-4 : tie.Need-slice-aggregate-label-4
-slice-aggregate-label-4 c = search taken-sizes
+slice-aggregate-label-3 c = search taken-heads
 
 label-requires : tie.Need-label-requires
 label-requires c κs = search fitting-of
@@ -34,17 +27,11 @@ label-requires c κs = search fitting-of
 clear-requires : tie.Need-clear-requires
 clear-requires c κs = search needs
 
-clear-requires-2 : tie.Need-clear-requires-2
-clear-requires-2 c κs = search needs
-
 same-length : tie.Need-same-length
 same-length c = search needs
 
 same-length-2 : tie.Need-same-length-2
 same-length-2 c = search needs
-
-same-length-3 : tie.Need-same-length-3
-same-length-3 c = search needs
 
 returns : tie.Need-returns
 returns c = search fill-all
@@ -59,12 +46,8 @@ fill-spec =
     slice-aggregate-label-2
     slice-relend-prefix-label-2
     slice-aggregate-label-3
-    slice-relend-prefix-label-3
-    slice-aggregate-label-4
     label-requires
     clear-requires
-    clear-requires-2
     same-length
     same-length-2
-    same-length-3
     returns)

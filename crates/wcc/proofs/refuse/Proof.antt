@@ -1,5 +1,5 @@
-use borrow.Author.Needs.{needs}
 use Rattle.wcc.proofs.Calls.{refuse-all}
+use borrow.Author.Needs.{needs}
 use Rattle.wcc.proofs.refuse.Statement.{statement}
 use Rattle.wcc.proofs.refuse.Tie as tie
 
@@ -8,9 +8,6 @@ clear-signed-requires c κs = search needs
 
 clear-requires : tie.Need-clear-requires
 clear-requires c κs = search needs
-
-clear-requires-2 : tie.Need-clear-requires-2
-clear-requires-2 c κs = search needs
 
 refused-requires : tie.Need-refused-requires
 refused-requires c κs = search needs
@@ -21,9 +18,6 @@ same-length c = search needs
 same-length-2 : tie.Need-same-length-2
 same-length-2 c = search needs
 
-same-length-3 : tie.Need-same-length-3
-same-length-3 c = search needs
-
 returns : tie.Need-returns
 returns c = search refuse-all
 
@@ -33,9 +27,7 @@ refuse-spec =
     (tie.spec
     clear-signed-requires
     clear-requires
-    clear-requires-2
     refused-requires
     same-length
     same-length-2
-    same-length-3
     returns)

@@ -17,9 +17,6 @@ same-length c = search needs
 same-length-2 : tie.Need-same-length-2
 same-length-2 c = search needs
 
-same-length-3 : tie.Need-same-length-3
-same-length-3 c = search needs
-
 returns : tie.Need-returns
 returns c = search call-unsound
 
@@ -29,14 +26,11 @@ room-requires c κs = search needs
 refuse-requires-2 : tie.Need-refuse-requires-2
 refuse-requires-2 c κs = search needs
 
+same-length-3 : tie.Need-same-length-3
+same-length-3 c = search needs
+
 same-length-4 : tie.Need-same-length-4
 same-length-4 c = search needs
-
-same-length-5 : tie.Need-same-length-5
-same-length-5 c = search needs
-
-same-length-6 : tie.Need-same-length-6
-same-length-6 c = search needs
 
 returns-2 : tie.Need-returns-2
 returns-2 c = search call-short
@@ -44,20 +38,15 @@ returns-2 c = search call-short
 fill-requires : tie.Need-fill-requires
 fill-requires c κs =
     record {
-      sound = held _ _
-          (check-told (c .before .before .before .before .before .before .before .before .before .before .before .sound-over .ensures))
-          (c .before .before .before .before .before .before .before .before .if1 .left);
-      room = held _ _ (c .before .before .before .before .room .ensures) (c .before .before .before .if2 .left);
+      sound = held _ _ (check-told (c .before .before .before .before .before .before .before .before .before .sound-over .ensures)) (c .before .before .before .before .before .before .if1 .left);
+      room = held _ _ (c .before .before .before .room .ensures) (c .before .before .if2 .left);
     }
 
-same-length-7 : tie.Need-same-length-7
-same-length-7 c = search needs
+same-length-5 : tie.Need-same-length-5
+same-length-5 c = search needs
 
-same-length-8 : tie.Need-same-length-8
-same-length-8 c = search needs
-
-same-length-9 : tie.Need-same-length-9
-same-length-9 c = search needs
+same-length-6 : tie.Need-same-length-6
+same-length-6 c = search needs
 
 returns-3 : tie.Need-returns-3
 returns-3 c = search call-done
@@ -70,16 +59,13 @@ wcc-spec =
     refuse-requires
     same-length
     same-length-2
-    same-length-3
     returns
     room-requires
     refuse-requires-2
+    same-length-3
     same-length-4
-    same-length-5
-    same-length-6
     returns-2
     fill-requires
-    same-length-7
-    same-length-8
-    same-length-9
+    same-length-5
+    same-length-6
     returns-3)

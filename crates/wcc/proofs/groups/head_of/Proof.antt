@@ -1,5 +1,5 @@
-use borrow.Author.Needs.{needs}
 use Rattle.wcc.proofs.Steps.{head-given, head-refused}
+use borrow.Author.Needs.{needs}
 use Rattle.wcc.proofs.groups.head_of.Statement.{statement}
 use Rattle.wcc.proofs.groups.head_of.Tie as tie
 

@@ -4,22 +4,20 @@ use Prim.Native.Nat.{_≤_, _-_}
 use native.Mathlib.Omega.{arith}
 use lib.ListN.{length}
 use Rattle.graph.specs.Part.{partOf}
-use Rattle.book.specs.Two.{areas}
 use Rattle.wcc.specs.Steps.{joinArcs}
 use Rattle.wcc.proofs.Steps.{arcs-none, arcs-more, arcs-end}
 use Rattle.wcc.proofs.groups.join_arcs.Statement.{statement}
 use Rattle.wcc.proofs.groups.join_arcs.Tie as tie
 
 abbrev Inv-loop : tie.InvT-loop
-Inv-loop n offsets targets parents₀ sizes₀ u₀ parents sizes u =
-    (u ≤ n) × (length parents ≡ length parents₀) × (length sizes ≡ length sizes₀)
-    × (areas parents sizes ≡ joinArcs (partOf n offsets targets) u (areas parents₀ sizes₀))
+Inv-loop n offsets targets entries₀ u₀ entries u =
+    (u ≤ n) × (length entries ≡ length entries₀) × (entries ≡ joinArcs (partOf n offsets targets) u entries₀)
 
 abbrev μ-loop : tie.MeasureT-loop
-μ-loop n offsets targets parents₀ sizes₀ u₀ parents sizes u = n - u
+μ-loop n offsets targets entries₀ u₀ entries u = n - u
 
 loop-holds : tie.Need-loop-holds Inv-loop μ-loop
-loop-holds c = (omega arith, refl, refl, search arcs-none)
+loop-holds c = (omega arith, refl, search arcs-none)
 
 neighbours-requires : tie.Need-neighbours-requires Inv-loop μ-loop
 neighbours-requires c κs = search needs
@@ -34,13 +32,10 @@ loop-less : tie.Need-loop-less Inv-loop μ-loop
 loop-less c = search needs
 
 loop-again : tie.Need-loop-again Inv-loop μ-loop
-loop-again c = (omega arith, search needs, search needs, search arcs-more)
+loop-again c = (omega arith, search needs, search arcs-more)
 
 same-length : tie.Need-same-length Inv-loop μ-loop
 same-length c = search needs
-
-same-length-2 : tie.Need-same-length-2 Inv-loop μ-loop
-same-length-2 c = search needs
 
 returns : tie.Need-returns Inv-loop μ-loop
 returns c = search arcs-end
@@ -58,5 +53,4 @@ join-arcs-spec =
     loop-less
     loop-again
     same-length
-    same-length-2
     returns)

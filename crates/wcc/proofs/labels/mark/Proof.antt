@@ -4,23 +4,23 @@ use mathlib.Core.Path.{_≡_, refl}
 use Prim.Native.Nat.{_≤_, _<_, _-_}
 use native.Mathlib.Omega.{arith}
 use lib.ListN.{length, length-set}
-use Rattle.wcc.specs.Steps.{headHere, marked}
+use Rattle.wcc.specs.Steps.{noted, marked}
 use Rattle.wcc.proofs.Steps.{mark-none, mark-more, head-below, mark-end}
 use Rattle.wcc.proofs.labels.mark.Statement.{statement}
 use Rattle.wcc.proofs.labels.mark.Tie as tie
 
 abbrev Inv-loop : tie.InvT-loop
-Inv-loop parents sizes ids result₀ n i₀ result i =
-    (i ≤ n) × (length result ≡ length result₀) × (marked (headHere parents sizes) ids (n - i) result
-    ≡ marked (headHere parents sizes) ids (length result₀) result₀)
+Inv-loop heads ids result₀ n i₀ result i =
+    (i ≤ n) × (length result ≡ length result₀) × (marked (noted heads) ids (n - i) result
+    ≡ marked (noted heads) ids (length result₀) result₀)
 
 abbrev μ-loop : tie.MeasureT-loop
-μ-loop parents sizes ids result₀ n i₀ result i = n - i
+μ-loop heads ids result₀ n i₀ result i = n - i
 
-below : (c : tie.After-head-of Inv-loop μ-loop) → c .head-of .result < length (c .before .before .loop .result)
-below c =
-    head-below _ _ _ _ _ (c .before .before .before .before .before .pre .0) (c .before .before .loop .inv .1) (c .head-of .ensures)
-    (omega arith)
+below : (c : tie.After-shared-slice-known Inv-loop μ-loop)
+    → noted (c .before .before .before .args .heads .now) (length (c .before .before .before .args .result .now) - 1 - c .before .before .loop .i)
+    < length (c .before .before .loop .result)
+below c = head-below _ _ _ _ (c .before .before .before .pre .within) (c .before .before .loop .inv .1) (omega arith)
 
 loop-holds : tie.Need-loop-holds Inv-loop μ-loop
 loop-holds c = (omega arith, refl, search mark-none)
@@ -31,20 +31,25 @@ sub-v c = search needs
 sub-v-2 : tie.Need-sub-v-2 Inv-loop μ-loop
 sub-v-2 c = search needs
 
-head-of-requires : tie.Need-head-of-requires Inv-loop μ-loop
-head-of-requires c κs = search needs
+mul-h : tie.Need-mul-h Inv-loop μ-loop
+mul-h c = search needs
+
+shared-slice-read-h : tie.Need-shared-slice-read-h Inv-loop μ-loop
+shared-slice-read-h c = omega (arith, c .before .before .before .pre .headed)
 
 mul-result : tie.Need-mul-result Inv-loop μ-loop
 mul-result c = search needs
 
 shared-slice-copy-out-result : tie.Need-shared-slice-copy-out-result Inv-loop μ-loop
-shared-slice-copy-out-result c = search needs
+shared-slice-copy-out-result c = omega (arith, c .before .before .before .pre .named)
 
-mul-t13 : tie.Need-mul-t13 Inv-loop μ-loop
-mul-t13 c = let k = below (c .before) in search needs
+mul-t11 : tie.Need-mul-t11 Inv-loop μ-loop
+unfolding noted
+mul-t11 c = let k = below (c .before) in search needs
 
 slice-set-from-result : tie.Need-slice-set-from-result Inv-loop μ-loop
-slice-set-from-result c = let k = below (c .before) in search needs
+unfolding noted
+slice-set-from-result c = below (c .before)
 
 add-i : tie.Need-add-i Inv-loop μ-loop
 add-i c = search needs
@@ -53,6 +58,7 @@ loop-less : tie.Need-loop-less Inv-loop μ-loop
 loop-less c = search needs
 
 loop-again : tie.Need-loop-again Inv-loop μ-loop
+unfolding noted
 loop-again c = (omega arith, rw length-set (omega arith), search (mark-more, toZ-ofZ))
 
 same-length : tie.Need-same-length Inv-loop μ-loop
@@ -70,10 +76,11 @@ mark-spec =
     loop-holds
     sub-v
     sub-v-2
-    head-of-requires
+    mul-h
+    shared-slice-read-h
     mul-result
     shared-slice-copy-out-result
-    mul-t13
+    mul-t11
     slice-set-from-result
     add-i
     loop-less
