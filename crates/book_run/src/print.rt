@@ -83,25 +83,36 @@ pub fn reading(answer: Reading) {
     }
 }
 
+// The first bytes of a text.
+fn front(text: &[u8], end: usize) {
+    if end <= text.len() {
+        words(&text[..end]);
+    }
+}
+
+// A space and a signed number, which has at most 20 bytes.
+fn signed(n: i64) {
+    let mut text = [0u8; 20];
+    let end = write::numbers::put_signed(&mut text, 0, n);
+    words(b" ");
+    front(&text, end);
+}
+
 // The numbers of an area, each after a space.
-pub fn area(a: [usize; 4]) {
-    words(b" ");
-    number(a[0]);
-    words(b" ");
-    number(a[1]);
-    words(b" ");
-    number(a[2]);
-    words(b" ");
-    number(a[3]);
+pub fn area(a: [i64; 4]) {
+    signed(a[0]);
+    signed(a[1]);
+    signed(a[2]);
+    signed(a[3]);
 }
 
 // Whether two areas hold the same.
-pub fn same(a: [usize; 4], b: [usize; 4]) -> bool {
+pub fn same(a: [i64; 4], b: [i64; 4]) -> bool {
     a[0] == b[0] && a[1] == b[1] && a[2] == b[2] && a[3] == b[3]
 }
 
 // Whether an area holds one value throughout.
-pub fn filled(a: &[usize], value: usize) -> bool {
+pub fn filled(a: &[i64], value: i64) -> bool {
     let mut i = 0;
     while i < a.len() {
         if a[i] != value {
@@ -114,8 +125,8 @@ pub fn filled(a: &[usize], value: usize) -> bool {
 
 pub fn stayed(yes: bool) {
     if yes {
-        words(b", areas as they were\n");
+        words(b", area as it was\n");
     } else {
-        words(b", areas changed\n");
+        words(b", area changed\n");
     }
 }

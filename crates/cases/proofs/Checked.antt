@@ -28,7 +28,7 @@ use Rattle.matching.specs.Verdict.{firstLine, sameKind, agrees, failingLine, un
 use Rattle.matching.specs.Calls.{numbersCall, nearWithin, coefficientsSays}
 use Rattle.book.specs.Rules.{walk, walkFrom, above, mergeable, mergeHeads, linkHeads, headsOf}
 use Rattle.book.specs.Rules.{decide, openBook, writeBook, joinBook, groupCount, tally}
-use Rattle.book.specs.Two.{nextIn, fits, two}
+use Rattle.book.specs.One.{nextHere, sizeHere, one}
 use Rattle.book.specs.Series.{after, run}
 use Rattle.cases.specs.Cases.{cases, computeds, expecteds}
 
@@ -43,5 +43,5 @@ unfolding column every each mem within digitOf pastPoint wholeIsGood signedPower
     lcc-roomFor
     lcc-leftBy lccCall isClose firstLine sameKind agrees failingLine unlikeLine judgedBy numbersCall nearWithin coefficientsSays walk
     walkFrom
-    above mergeable mergeHeads linkHeads headsOf decide openBook writeBook joinBook groupCount tally nextIn fits two after run
+    above mergeable mergeHeads linkHeads headsOf decide openBook writeBook joinBook groupCount tally nextHere sizeHere one after run
 checked = refl

@@ -290,7 +290,7 @@ book-open_book-one = record {
   told = refl;
   one = λ _ _ z z′ _ _ p q. (
     one-opened z z′ (ap (λ o. o .said) (meet p q)),
-    ap (λ o. o .area .parents & o .area .sizes & tt) (meet p q),
+    ap (λ o. o .area & tt) (meet p q),
   );
 }
 
@@ -300,7 +300,7 @@ book-join-one = record {
   told = refl;
   one = λ _ _ z z′ _ _ p q. (
     one-joined z z′ (ap (λ o. o .said) (meet p q)),
-    ap (λ o. o .area .parents & o .area .sizes & tt & tt & tt) (meet p q),
+    ap (λ o. o .area & tt & tt & tt) (meet p q),
   );
 }
 
@@ -310,7 +310,7 @@ book-join_each-one = record {
   told = refl;
   one = λ _ _ z z′ _ _ p q. (
     one-joinedEach z z′ (ap (λ o. o .said) (meet p q)),
-    ap (λ o. o .area .parents & o .area .sizes & tt & tt & tt) (meet p q),
+    ap (λ o. o .area & tt & tt & tt) (meet p q),
   );
 }
 
@@ -496,7 +496,7 @@ wcc-wcc-one = record {
   told = refl;
   one = λ _ _ z z′ _ _ p q. (
     one-kernel z z′ (ap (λ o. o .said) (meet p q)),
-    ap (λ o. tt & tt & tt & tt & tt & tt & o .result & o .parents & o .sizes & tt) (meet p q),
+    ap (λ o. tt & tt & tt & tt & tt & tt & o .result & o .heads & tt) (meet p q),
   );
 }
 
@@ -751,7 +751,7 @@ trace-trace_wcc-one = record {
   told = refl;
   one = λ _ _ _ _ _ _ p q. (
     ap (λ o. o .answer) (meet p q),
-    ap (λ o. tt & tt & tt & tt & tt & tt & tt & o .result & o .parents & o .sizes & tt) (meet p q),
+    ap (λ o. tt & tt & tt & tt & tt & tt & tt & o .result & o .heads & tt) (meet p q),
   );
 }
 
@@ -781,7 +781,7 @@ pub «trace-trace_book_open-one» : One trace-opened.ended (λ M 𝓤. trace-ope
   told = refl;
   one = λ _ _ _ _ _ _ p q. (
     ap (λ o. o .answer) (meet p q),
-    ap (λ o. o .parents & o .sizes & tt) (meet p q),
+    ap (λ o. o .entries & tt) (meet p q),
   );
 }
 
@@ -791,7 +791,7 @@ trace-trace_book_join-one = record {
   told = refl;
   one = λ _ _ _ _ _ _ p q. (
     ap (λ o. o .answer) (meet p q),
-    ap (λ o. o .parents & o .sizes & tt & tt & tt) (meet p q),
+    ap (λ o. o .entries & tt & tt & tt) (meet p q),
   );
 }
 

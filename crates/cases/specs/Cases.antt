@@ -2,13 +2,13 @@
 -- says that it is.
 use Prim.Native.Nat.{ℕ}
 use mathlib.Core.List.{List, [], _∷_}
-use lib.IntN.{ℤ, pos}
+use lib.IntN.{ℤ, pos, negsuc}
 use lib.ListN.{replicate}
 use Rattle.basis.specs.Refusal.{Said, gives, refuses, plain, noRoom}
 use Rattle.text.specs.Bytes.{bytes}
 use Rattle.text.specs.Word.{minusOf}
 use Rattle.text.specs.Line.{LineSaid, line, fault, vertexLine}
-use Rattle.book.specs.Two.{Areas, areas, two, twoBook}
+use Rattle.book.specs.One.{one, oneBook}
 use Rattle.book.specs.Rules.{groupCount}
 use Rattle.book.specs.Series.{Call, state, run}
 use Rattle.bfs.specs.Call as B
@@ -21,14 +21,14 @@ use Rattle.matching.specs.Calls.{numbersCall, coefficientsSays}
 use Rattle.verdicts.specs.Call.{mostLines}
 use Rattle.cases.specs.SheetGraph.{sheetGraph}
 
--- what is computed: a line read; a kernel's answer and what stands in its result area, or in the two of LCC; a verdict; a book's areas
+-- what is computed: a line read; a kernel's answer and what stands in its result area, or in the two of LCC; a verdict; a book's area
 -- and its group count
 pub data Value : Type 0 where
   reads : LineSaid ℤ → Value
   results : Said (Unit {0}) → List ℤ → Value
   fractions : Said (Unit {0}) → List ℕ → List ℕ → Value
   judges : Said Verdict → Value
-  books : Areas → Said ℕ → Value
+  books : List ℤ → Said ℕ → Value
 
 -- an entry of the list: what the definitions compute, and what 01 says that it is
 pub record Case : Type 0 where
@@ -54,7 +54,7 @@ bfsFrom root = let o = B.bfsCall sheetGraph root lentZ lentN in results (o .said
 
 -- WCC: the answer, and the components' labels in the result area
 abbrev wccLabels : Value
-wccLabels = let o = W.wccCall sheetGraph lentZ lentN lentN in results (o .said) (o .result)
+wccLabels = let o = W.wccCall sheetGraph lentZ lentN in results (o .said) (o .result)
 
 -- CDLP of so many rounds: the answer, and the labels in the result area
 abbrev cdlpAfter : ℤ → Value
@@ -73,11 +73,11 @@ abbrev componentClaim : List ℕ → Value
 componentClaim claim =
     judges (numbersCall Equivalence mostLines (pos 1 ∷ pos 2 ∷ pos 3 ∷ []) (pos 1 ∷ pos 1 ∷ pos 3 ∷ []) claim (replicate 3 (pos 0)) .said)
 
--- a book of four vertices after a series of calls, its areas holding anything before
+-- a book of four vertices after a series of calls, its area holding anything before
 abbrev bookAfter : List Call → Value
 bookAfter calls =
-    let s = run twoBook (state (areas (7 ∷ 7 ∷ 7 ∷ 7 ∷ []) (0 ∷ 9 ∷ 0 ∷ 9 ∷ [])) (refuses (plain noRoom)) [] 0) calls in
-    books (s .area) (groupCount (two (s .area .parents) (s .area .sizes)))
+    let s = run oneBook (state (pos 7 ∷ negsuc 6 ∷ pos 0 ∷ negsuc 9223372036854775807 ∷ []) (refuses (plain noRoom)) [] 0) calls in
+    books (s .area) (groupCount (one (s .area)))
 
 -- a vertex file of one line
 abbrev vertexOf : List ℕ → Value
@@ -111,9 +111,9 @@ cases =
     -- P11 "labels 7 7 3 match components a a b; 7 7 7 fails at line 3"
     ∷ (componentClaim (bytes "1 7\n2 7\n3 3\n") is judges (gives matched))
     ∷ (componentClaim (bytes "1 7\n2 7\n3 7\n") is judges (gives (mismatchAt 3)))
-    -- P12 "four vertices, joins 0-1, 2-3, 1-3 give parents 0 0 0 2, sizes 4 1 2 1, count 1"
+    -- P12 "four vertices, joins 0-1, 2-3, 1-3 give", of one area by 02 K9, "P12 ends as -4 0 0 2", "count 1"
     ∷ (bookAfter (Call.opening ∷ Call.joining 0 1 ∷ Call.joining 2 3 ∷ Call.joining 1 3 ∷ [])
-    is books (areas (0 ∷ 0 ∷ 0 ∷ 2 ∷ []) (4 ∷ 1 ∷ 2 ∷ 1 ∷ [])) (gives 1))
+    is books (negsuc 3 ∷ pos 0 ∷ pos 0 ∷ pos 2 ∷ []) (gives 1))
     ∷ []
 
 -- the first side: what the definitions compute, of every entry

@@ -114,15 +114,14 @@ fn front_above(text: &[u8], end: usize) {
 
 // Joining a vertex to itself merges nothing.
 fn joined_to_itself() {
-    let mut parents = [0usize; 3];
-    let mut sizes = [0usize; 3];
-    book::opening::open_book(&mut parents, &mut sizes);
-    match book::joining::join(&mut parents, &mut sizes, 1, 1) {
+    let mut entries = [0i64; 3];
+    book::opening::open_book(&mut entries);
+    match book::joining::join(&mut entries, 1, 1) {
         book::Joined::Merged => words(b"merged"),
         book::Joined::Already => words(b"one group already"),
         book::Joined::Refused(r) => refused(r),
     }
-    match book::readings::group_count(&parents, &sizes) {
+    match book::readings::group_count(&entries) {
         book::Reading::Value(n) => {
             words(b", groups: ");
             number(n);

@@ -261,7 +261,7 @@ module _ (g : Graph) (ids : All Small (g .ids)) (count : length (g .ids) ≤ des
   wcc-most : (line : List ℕ) → length (wccText g line) ≤ length line + mostBehind
   unfolding wccText W.wccCall W.leftBy
   wcc-most line =
-      let said = kernelSays (soundGraph g) true 0 (W.roomFor (g .vertices) deskAreaZ deskArea deskArea) in
+      let said = kernelSays (soundGraph g) true 0 (W.roomFor (g .vertices) deskAreaZ deskArea) in
       answer-most (g .vertices) line _ few (lines-most _
       (all-left Small said (pos 0) deskVertices (wccOf g) (omega arith) (labels-small g ids)))
       _ _ _ 0 (omega arith)

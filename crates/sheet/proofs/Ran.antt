@@ -50,11 +50,11 @@ module _ (g : Graph) (line : List ℕ) (x : Answer) (o : List ℕ) (at : ℕ) {o
       (ap (λ (c : B.Outcome). answerText (g .vertices) line (c .said) (pairLines (g .ids) (c .depth)))
       (call ∙ ap (λ (y : ℤ). B.bfsCall g y deskAreaZ deskArea) same))
 
-  pub wcc-put : (d : List ℤ) (u v : List ℕ) → W.outcome (says x) d u v ≡ W.wccCall g deskAreaZ deskArea deskArea
+  pub wcc-put : (d : List ℤ) (u : List ℕ) → W.outcome (says x) d u ≡ W.wccCall g deskAreaZ deskArea
       → written o′ p ≡ putAt o at (answerText (g .vertices) line (says x) (pairLines (g .ids) d))
       → written o′ p ≡ putAt o at (wccText g line)
   unfolding wccText
-  wcc-put d u v call w =
+  wcc-put d u call w =
       put-as o at _ w (wccText g line) (ap (λ (c : W.Outcome). answerText (g .vertices) line (c .said) (pairLines (g .ids) (c .result)))
       call)
 

@@ -39,7 +39,7 @@ bfsText g root line =
 -- `wcc`: identifier and label of each vertex
 unfoldable pub wccText : Graph → List ℕ → List ℕ
 wccText g line =
-    let call = wccCall g deskAreaZ deskArea deskArea in
+    let call = wccCall g deskAreaZ deskArea in
     answerText (g .vertices) line (call .said) (pairLines (g .ids) (call .result))
 
 -- `cdlp N`, with N its iterations: identifier and label of each vertex

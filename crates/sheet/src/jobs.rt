@@ -129,8 +129,7 @@ fn wcc_job(
         (now (line .entry))) ⌝ }
 {
     let mut result = [0i64; DESK_VERTICES];
-    let mut parents = [0usize; DESK_VERTICES];
-    let mut sizes = [0usize; DESK_VERTICES];
+    let mut heads = [0usize; DESK_VERTICES];
     let x = wcc(
         size,
         ids,
@@ -139,8 +138,7 @@ fn wcc_job(
         in_offsets,
         in_sources,
         &mut result,
-        &mut parents,
-        &mut sizes,
+        &mut heads,
     );
     put_labels(x, size.vertices, ids, &result, line, out, at)
 }

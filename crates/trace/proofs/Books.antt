@@ -4,16 +4,16 @@ use mathlib.Core.Bool.{Bool, true, false, cond, _&&_}
 use mathlib.Core.List.{List}
 use Prim.Native.Nat.{ℕ, zero, suc, _+_, _^_, _≤_, _<_}
 use native.Mathlib.Omega.{arith}
+use lib.IntN.{ℤ}
 use lib.ListN.{length}
 use lib.Dec.{leb, ltb, eqb}
-use borrow.Author.Tests.{ltb-true}
+use borrow.Author.Tests.{ltb-true, leb-true}
 use Rattle.basis.specs.Limits.{mostVertices}
 use Rattle.basis.specs.Refusal.{Said, gives, refuses, plain, noRoom, unsound, notThere, check}
 use Rattle.book.specs.Rules.{Next, stop, to, WalkEnd, walkEnd, follow, Heads, Step, already, merge, merged, same, Outcome, outcome}
 use Rattle.book.specs.Rules.{mostMoves, walk, walkFrom, headOf, pair, headsOf, sameGroup, groupSize, tally, isStop, groupCount}
 use Rattle.book.specs.Rules.{largest, stepLimit, mergeable, mergeHeads, linkHeads, decide, openBook, writeBook, joinBook}
-use Rattle.book.specs.Two.{Areas, areas, nextIn, fits, two, twoBook}
-use Rattle.book.proofs.Checks.{fits-within}
+use Rattle.book.specs.One.{nextHere, one, oneBook}
 use Rattle.book.proofs.Calls.{size-inside}
 use Rattle.book.proofs.Tally.{tally-le}
 use Rattle.trace.specs.Code.{coded, wide, Readable, nothing}
@@ -63,96 +63,96 @@ module _ (next : ℕ → Next) (n : ℕ) (small : n ≤ mostVertices) where
   walkFrom-silent : (v : ℕ) → ltb v n ≡ true → Readable wide (walkFrom next n v) untold
   walkFrom-silent v l = readable-untold (walkFrom-readable v l) (omega arith)
 
-module _ (ps ss : List ℕ) where
-  pub head-readable : (v : ℕ) → Readable wide (headOf (two ps ss) v) headValue
-  unfolding headOf two
+module _ (xs : List ℤ) where
+  pub head-readable : (v : ℕ) → Readable wide (headOf (one xs) v) headValue
+  unfolding headOf one
   head-readable v =
       checked _ noRoom (omega arith) (omega arith)
-      (λ f. checked _ notThere (omega arith) (omega arith) (λ l. walkFrom-readable (nextIn ps) (length ps) (fits-within ps ss f) v l))
+      (λ f. checked _ notThere (omega arith) (omega arith) (λ l. walkFrom-readable (nextHere xs) (length xs) (leb-true (length xs) mostVertices f) v l))
 
-  heads-readable : (u v : ℕ) → Readable wide (headsOf (two ps ss) u v) untold
-  unfolding headsOf two
+  heads-readable : (u v : ℕ) → Readable wide (headsOf (one xs) u v) untold
+  unfolding headsOf one
   heads-readable u v =
       checked _ noRoom (omega arith) (omega arith)
       (λ f. checked _ notThere (omega arith) (omega arith)
       (λ k. checked _ notThere (omega arith) (omega arith)
-      (λ l. pair-readable _ _ (walkFrom-silent (nextIn ps) (length ps) (fits-within ps ss f) u k)
-      (walkFrom-silent (nextIn ps) (length ps) (fits-within ps ss f) v l))))
+      (λ l. pair-readable _ _ (walkFrom-silent (nextHere xs) (length xs) (leb-true (length xs) mostVertices f) u k)
+      (walkFrom-silent (nextHere xs) (length xs) (leb-true (length xs) mostVertices f) v l))))
 
-  pub same-readable : (u v : ℕ) → Readable wide (sameGroup (two ps ss) u v) sameValue
+  pub same-readable : (u v : ℕ) → Readable wide (sameGroup (one xs) u v) sameValue
   unfolding sameGroup
   same-readable u v =
-      onward-readable (headsOf (two ps ss) u v) (heads-readable u v)
+      onward-readable (headsOf (one xs) u v) (heads-readable u v)
       (λ p e. readable-given (eqb (p .first) (p .second)) (bit (eqb (p .first) (p .second))))
     where
       bit : (t : Bool) → sameValue t < wide
       bit true = omega arith
       bit false = omega arith
 
-  size-checked : (v : ℕ) → Readable wide (groupSize (two ps ss) v) untold
+  size-checked : (v : ℕ) → Readable wide (groupSize (one xs) v) untold
   unfolding groupSize
   size-checked v =
-      onward-readable (headOf (two ps ss) v) (readable-untold (head-readable v) (omega arith))
-      (λ f e. let a = two ps ss .size (f .head) in
-      checked (ltb 0 a && leb a (two ps ss .count)) unsound (omega arith) (omega arith) (λ t. readable-silent a (omega arith)))
+      onward-readable (headOf (one xs) v) (readable-untold (head-readable v) (omega arith))
+      (λ f e. let a = one xs .size (f .head) in
+      checked (ltb 0 a && leb a (one xs .count)) unsound (omega arith) (omega arith) (λ t. readable-silent a (omega arith)))
 
-  pub size-readable : (v : ℕ) → Readable wide (groupSize (two ps ss) v) readingValue
-  unfolding two
+  pub size-readable : (v : ℕ) → Readable wide (groupSize (one xs) v) readingValue
+  unfolding one
   size-readable v = readable-values (size-checked v) readingValue small
     where
-      small : (s : ℕ) → groupSize (two ps ss) v ≡ gives s → s < wide
-      small s e = let t = size-inside (two ps ss) v s e in omega (arith, fits-within ps ss (t .0))
+      small : (s : ℕ) → groupSize (one xs) v ≡ gives s → s < wide
+      small s e = let t = size-inside (one xs) v s e in omega (arith, leb-true (length xs) mostVertices (t .0))
 
-  pub count-readable : Readable wide (groupCount (two ps ss)) readingValue
-  unfolding groupCount two
+  pub count-readable : Readable wide (groupCount (one xs)) readingValue
+  unfolding groupCount one
   count-readable = checked _ noRoom (omega arith) (omega arith) (λ f. readable-given _ (small f))
     where
-      small : fits ps ss ≡ true → tally (λ v. isStop (nextIn ps v)) (length ps) < wide
-      small f = omega (arith, fits-within ps ss f, tally-le (λ v. isStop (nextIn ps v)) (length ps))
+      small : leb (length xs) mostVertices ≡ true → tally (λ v. isStop (nextHere xs v)) (length xs) < wide
+      small f = omega (arith, leb-true (length xs) mostVertices f, tally-le (λ v. isStop (nextHere xs v)) (length xs))
 
-  pub limit-readable : (v : ℕ) → Readable wide (stepLimit (two ps ss) v) readingValue
+  pub limit-readable : (v : ℕ) → Readable wide (stepLimit (one xs) v) readingValue
   unfolding stepLimit
   limit-readable v =
-      onward-readable (groupSize (two ps ss) v) (readable-untold (size-readable v) (omega arith))
+      onward-readable (groupSize (one xs) v) (readable-untold (size-readable v) (omega arith))
       (λ s e. readable-given (largest mostMoves s) (omega (arith, largest-le mostMoves s)))
 
-  pub open-readable : Readable wide (openBook twoBook (areas ps ss) .said) nothing
+  pub open-readable : Readable wide (openBook oneBook xs .said) nothing
   unfolding openBook
-  open-readable = go (two ps ss .fit)
+  open-readable = go (one xs .fit)
     where
       go : (t : Bool)
-          → Readable wide (cond t (outcome (gives tt) (twoBook .opened (areas ps ss))) (outcome (refuses (plain noRoom)) (areas ps ss))
+          → Readable wide (cond t (outcome (gives tt) (oneBook .opened xs)) (outcome (refuses (plain noRoom)) xs)
           .said)
           nothing
       go true = readable-given tt (omega arith)
       go false = readable-plain noRoom (omega arith) (omega arith) (omega arith)
 
-  link-readable : (p : Heads) → Readable wide (linkHeads (two ps ss) p) untold
+  link-readable : (p : Heads) → Readable wide (linkHeads (one xs) p) untold
   unfolding linkHeads
   link-readable p =
-      let a = two ps ss .size (p .first) in
-      let b = two ps ss .size (p .second) in
-      go (eqb (p .first) (p .second)) (mergeable (two ps ss .count) a b) (mergeHeads a b (p .first) (p .second))
+      let a = one xs .size (p .first) in
+      let b = one xs .size (p .second) in
+      go (eqb (p .first) (p .second)) (mergeable (one xs .count) a b) (mergeHeads a b (p .first) (p .second))
     where
       go : (t m : Bool) (x : Step) → Readable wide (cond t (gives already) (check m unsound (gives x))) untold
       go true m x = readable-silent already (omega arith)
       go false m x = checked m unsound (omega arith) (omega arith) (λ e. readable-silent x (omega arith))
 
-  written-readable : (s : Said Step) → Readable wide s untold → Readable wide (writeBook twoBook s (areas ps ss) .said) joinValue
+  written-readable : (s : Said Step) → Readable wide s untold → Readable wide (writeBook oneBook s xs .said) joinValue
   unfolding writeBook
   written-readable (gives already) h = readable-given same (omega arith)
   written-readable (gives (merge top under total)) h = readable-given merged (omega arith)
   written-readable (refuses r) h = let t = h .refusals r refl in readable-refused r (t .0) (t .1)
 
-  pub join-readable : (u v : ℕ) → Readable wide (joinBook twoBook (areas ps ss) u v .said) joinValue
+  pub join-readable : (u v : ℕ) → Readable wide (joinBook oneBook xs u v .said) joinValue
   unfolding joinBook decide
-  join-readable u v = written-readable _ (onward-readable (headsOf (two ps ss) u v) (heads-readable u v) (λ p e. link-readable p))
+  join-readable u v = written-readable _ (onward-readable (headsOf (one xs) u v) (heads-readable u v) (λ p e. link-readable p))
 
--- a call that may write tells its answer and the areas
-module _ {A : Type 0} (value : A → ℕ) (d : Outcome A Areas) (s : Said A) (ps ss : List ℕ) (e : outcome s (areas ps ss) ≡ d) where
+-- a call that may write tells its answer and the area
+module _ {A : Type 0} (value : A → ℕ) (d : Outcome A (List ℤ)) (s : Said A) (xs : List ℤ) (e : outcome s xs ≡ d) where
   pub book-readable : Readable wide (d .said) value → Readable wide s value
   book-readable h = readable-by (ap (λ x. x .said) e) h
 
-  pub book-told : (k : ℕ) → k ≡ coded s value → bookTold k ps ss ≡ bookTells value d
+  pub book-told : (k : ℕ) → k ≡ coded s value → bookTold k xs ≡ bookTells value d
   unfolding bookTells
   book-told k f = rw (f, sym e)

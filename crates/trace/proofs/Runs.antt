@@ -38,13 +38,13 @@ module _ (g : Graph) (root : ℤ) (depth₀ : List ℤ) (queue₀ : List ℕ) (s
   unfolding bfsTells
   bfs-told k f z q = rw (f, sym q, sym e)
 
-module _ (g : Graph) (result₀ : List ℤ) (parents₀ sizes₀ : List ℕ) (s : Said (Unit {0})) (result : List ℤ) (parents sizes : List ℕ)
-    (e : Wcc.outcome s result parents sizes ≡ Wcc.wccCall g result₀ parents₀ sizes₀) where
+module _ (g : Graph) (result₀ : List ℤ) (heads₀ : List ℕ) (s : Said (Unit {0})) (result : List ℤ) (heads : List ℕ)
+    (e : Wcc.outcome s result heads ≡ Wcc.wccCall g result₀ heads₀) where
   pub wcc-readable : Readable wide s nothing
   unfolding Wcc.wccCall Wcc.leftBy
   wcc-readable = rw (ap (λ o. o .said) e) (kernel-readable _ true 0 _ (λ f. clash refl f) (omega arith))
 
-  pub wcc-told : (k : ℕ) → k ≡ coded s nothing → wccTold k result parents sizes ≡ wccTells (Wcc.wccCall g result₀ parents₀ sizes₀)
+  pub wcc-told : (k : ℕ) → k ≡ coded s nothing → wccTold k result heads ≡ wccTells (Wcc.wccCall g result₀ heads₀)
   unfolding wccTells
   wcc-told k f = rw (f, sym e)
 

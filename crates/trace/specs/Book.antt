@@ -2,9 +2,9 @@
 use Prim.Native.Nat.{ℕ, _+_, _*_}
 use mathlib.Core.Bool.{Bool}
 use mathlib.Core.List.{List}
+use lib.IntN.{ℤ}
 use Rattle.basis.specs.Scan.{bit}
 use Rattle.book.specs.Rules.{WalkEnd, Joining, merged, same, Outcome}
-use Rattle.book.specs.Two.{Areas}
 use Rattle.trace.specs.Code.{coded}
 
 -- 1 where a join merged two groups, 0 where it found one
@@ -24,16 +24,15 @@ sameValue one = bit one
 abbrev pub readingValue : ℕ → ℕ
 readingValue k = k
 
--- the answer, and what stands in the two areas
+-- the answer, and what stands in the area
 pub record BookTold : Type 0 where
   pub answer : ℕ
-  pub parents : List ℕ
-  pub sizes : List ℕ
+  pub entries : List ℤ
 
 -- the same, by its fields in order
-abbrev pub bookTold : ℕ → List ℕ → List ℕ → BookTold
-bookTold answer parents sizes = record { answer = answer; parents = parents; sizes = sizes }
+abbrev pub bookTold : ℕ → List ℤ → BookTold
+bookTold answer entries = record { answer = answer; entries = entries }
 
 -- what a call that may write leaves
-unfoldable pub bookTells : {A : Type 0} → (A → ℕ) → Outcome A Areas → BookTold
-bookTells value d = bookTold (coded (d .said) value) (d .area .parents) (d .area .sizes)
+unfoldable pub bookTells : {A : Type 0} → (A → ℕ) → Outcome A (List ℤ) → BookTold
+bookTells value d = bookTold (coded (d .said) value) (d .area)

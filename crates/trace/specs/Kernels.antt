@@ -27,20 +27,19 @@ bfsTold answer depth queue = record { answer = answer; depth = depth; queue = qu
 unfoldable pub bfsTells : Bfs.Outcome → BfsTold
 bfsTells o = bfsTold (coded (o .said) nothing) (o .depth) (o .queue)
 
--- WCC: the answer, the result area, and the two working areas of its book
+-- WCC: the answer, the result area, and the working area
 pub record WccTold : Type 0 where
   pub answer : ℕ
   pub result : List ℤ
-  pub parents : List ℕ
-  pub sizes : List ℕ
+  pub heads : List ℕ
 
 -- the same, by its fields in order
-abbrev pub wccTold : ℕ → List ℤ → List ℕ → List ℕ → WccTold
-wccTold answer result parents sizes = record { answer = answer; result = result; parents = parents; sizes = sizes }
+abbrev pub wccTold : ℕ → List ℤ → List ℕ → WccTold
+wccTold answer result heads = record { answer = answer; result = result; heads = heads }
 
 -- what a WCC call tells by its outcome: 0 or its refusal as a number, and the areas as they stand
 unfoldable pub wccTells : Wcc.Outcome → WccTold
-wccTells o = wccTold (coded (o .said) nothing) (o .result) (o .parents) (o .sizes)
+wccTells o = wccTold (coded (o .said) nothing) (o .result) (o .heads)
 
 -- CDLP: the answer, the result area, and the three working areas
 pub record CdlpTold : Type 0 where

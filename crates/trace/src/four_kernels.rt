@@ -59,15 +59,14 @@ pub extern "C" fn trace_wcc(
     in_offsets: &[usize],
     in_sources: &[usize],
     result: &mut [i64],
-    parents: &mut [usize],
-    sizes: &mut [usize],
+    heads: &mut [usize],
 ) -> u64
     ensures { λ r. ⌜
-        wccTold r (now (result .exit)) (now (parents .exit)) (now (sizes .exit))
+        wccTold r (now (result .exit)) (now (heads .exit))
         ≡ wccTells (wccCall
         (lent (statedSize vertices arcs) (now (ids .entry)) (now («out_offsets» .entry)) (now («out_targets» .entry))
         (now («in_offsets» .entry)) (now («in_sources» .entry)))
-        (now (result .entry)) (now (parents .entry)) (now (sizes .entry))) ⌝ }
+        (now (result .entry)) (now (heads .entry))) ⌝ }
 {
     let size = Size { vertices, arcs };
     kernel_code(wcc(
@@ -78,8 +77,7 @@ pub extern "C" fn trace_wcc(
         in_offsets,
         in_sources,
         result,
-        parents,
-        sizes,
+        heads,
     ))
 }
 

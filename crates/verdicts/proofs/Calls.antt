@@ -101,10 +101,10 @@ module _ (most : ℕ) (g : Graph) (kernel : ℕ) (parameter : ℤ) (s : List ℕ
         ∙ rw (e, q)
 
     pub verdict-wcc : (kernel ≡ 1 → ⊥) → kernel ≡ 2 → numbers x R′ C′ ≡ numbersVerdict (wccReference most g s) (soundGraph g) room R C
-        → (F′ ≡ cleared F) × (S′ ≡ cleared S) → T′ ≡ cleared T → outcome x R′ C′ F′ S′ T′ ≡ verdictCall most g kernel parameter s R C F S T
+        → F′ ≡ cleared F → S′ ≡ cleared S → T′ ≡ cleared T → outcome x R′ C′ F′ S′ T′ ≡ verdictCall most g kernel parameter s R C F S T
     unfolding verdictCall roomFor
-    verdict-wcc i e h a c =
-        numbers-call (wccReference most g s) g R C F S T p refl refl h (a .0) (a .1) c
+    verdict-wcc i e h a b c =
+        numbers-call (wccReference most g s) g R C F S T p refl refl h a b c
         ∙ rw e
 
     pub verdict-cdlp : {parameter′ : ℤ} → parameter′ ≡ parameter → (kernel ≡ 1 → ⊥) → (kernel ≡ 2 → ⊥) → kernel ≡ 3

@@ -70,9 +70,9 @@ module _ (g : Graph) (root : ℤ) {root′ : ℤ} (p : root′ ≡ root) (R : Li
       Exact most s refl
 
 -- ---- WCC
-module _ (g : Graph) (R : List ℤ) (P S : List ℕ) {a : Said (Unit {0})} {R′ : List ℤ} {P′ S′ : List ℕ}
-    (e : wcc.outcome a R′ P′ S′ ≡ wcc.wccCall g R P S) where
-  wcc-ran : Ran (pos 0) true 0 (wccOf g) (g .vertices) (length (g .ids)) (soundGraph g) (wcc.roomFor (g .vertices) R P S) (length R) a R′
+module _ (g : Graph) (R : List ℤ) (F : List ℕ) {a : Said (Unit {0})} {R′ : List ℤ} {F′ : List ℕ}
+    (e : wcc.outcome a R′ F′ ≡ wcc.wccCall g R F) where
+  wcc-ran : Ran (pos 0) true 0 (wccOf g) (g .vertices) (length (g .ids)) (soundGraph g) (wcc.roomFor (g .vertices) R F) (length R) a R′
   unfolding wcc.wccCall wcc.leftBy wcc.roomFor
   wcc-ran =
       let q = ap (λ (o : wcc.Outcome). o .said) e in
@@ -81,9 +81,7 @@ module _ (g : Graph) (R : List ℤ) (P S : List ℕ) {a : Said (Unit {0})} {R′
         leaving = ap (λ (o : wcc.Outcome). o .result) e ∙ rw q;
         whole = λ s t. wcc-length g (sound-of g s);
         known = λ s. sound-of g s .idsRoom;
-        ownRoom =
-            λ o. leb-true (g .vertices) (length R)
-            (and-first (leb (g .vertices) (length R)) (leb (g .vertices) (length P)) (and-first _ (leb (g .vertices) (length S)) o));
+        ownRoom = λ o. leb-true (g .vertices) (length R) (and-first (leb (g .vertices) (length R)) (leb (g .vertices) (length F)) o);
       }
 
   pub wcc-known : Known a (g .vertices) (length (g .ids))
@@ -92,23 +90,17 @@ module _ (g : Graph) (R : List ℤ) (P S : List ℕ) {a : Said (Unit {0})} {R′
   pub wcc-roomy : {room : Bool} → Roomy room (g .vertices) (length R) → Roomy room (g .vertices) (length R′)
   wcc-roomy = ran-roomy wcc-ran
 
-  pub wcc-cleared : P′ ≡ cleared P
+  pub wcc-cleared : F′ ≡ cleared F
   unfolding wcc.wccCall wcc.leftBy
-  wcc-cleared = ap (λ (o : wcc.Outcome). o .parents) e
+  wcc-cleared = ap (λ (o : wcc.Outcome). o .heads) e
 
-  pub wcc-cleared-too : S′ ≡ cleared S
-  unfolding wcc.wccCall wcc.leftBy
-  wcc-cleared-too = ap (λ (o : wcc.Outcome). o .sizes) e
-
-  pub wcc-verdict : {room : Bool} → Roomy room (g .vertices) (length R) → Roomy room (g .vertices) (length P)
-      → Roomy room (g .vertices) (length S)
+  pub wcc-verdict : {room : Bool} → Roomy room (g .vertices) (length R) → Roomy room (g .vertices) (length F)
       → (most : ℕ) (s : List ℕ) (C : List ℤ) {x : Numbers} → x ≡ numbersOn a room Equivalence most (g .vertices) (g .ids) s R′ C
       → x ≡ numbersVerdict (wccReference most g s) (soundGraph g) room R C
   unfolding wcc.roomFor
-  wcc-verdict f h i most s =
+  wcc-verdict f h most s =
       numbers-verdict (wccReference most g s) (g .ids) R wcc-ran
-      (λ t. and-both (and-both (le-leb (g .vertices) (length R) (f t)) (le-leb (g .vertices) (length P) (h t)))
-      (le-leb (g .vertices) (length S) (i t)))
+      (λ t. and-both (le-leb (g .vertices) (length R) (f t)) (le-leb (g .vertices) (length F) (h t)))
       Equivalence most s refl
 
 -- ---- CDLP

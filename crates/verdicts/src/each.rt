@@ -65,7 +65,7 @@ pub(crate) fn on_bfs(
     )
 }
 
-// WCC: equivalence match; the two areas of its book are zero afterwards.
+// WCC: equivalence match; its heads are zero afterwards.
 pub(crate) fn on_wcc(
     room: bool,
     most: usize,
@@ -78,18 +78,17 @@ pub(crate) fn on_wcc(
     claim: &[u8],
     result: &mut [i64],
     claimed: &mut [i64],
-    parents: &mut [usize],
-    sizes: &mut [usize],
+    heads: &mut [usize],
 ) -> Judged
     requires { ⌜ (Roomy room (size .vertices) (length (now result))) × (Roomy room (size .vertices) (length (now claimed))) ⌝ }
-    requires { ⌜ (Roomy room (size .vertices) (length (now parents))) × (Roomy room (size .vertices) (length (now sizes))) ⌝ }
+    requires { ⌜ Roomy room (size .vertices) (length (now heads)) ⌝ }
     ensures { λ r. ⌜
         numbers (says r) (now (result .exit)) (now (claimed .exit))
         ≡ wccVerdict room most
         (lent size (now (ids .entry)) (now («out_offsets» .entry)) (now («out_targets» .entry))
         (now («in_offsets» .entry)) (now («in_sources» .entry)))
         (now (claim .entry)) (now (result .entry)) (now (claimed .entry)) ⌝ }
-    ensures { λ r. ⌜ (now (parents .exit) ≡ cleared (now (parents .entry))) × (now (sizes .exit) ≡ cleared (now (sizes .entry))) ⌝ }
+    ensures { λ r. ⌜ now (heads .exit) ≡ cleared (now (heads .entry)) ⌝ }
 {
     let answer = wcc(
         size,
@@ -99,8 +98,7 @@ pub(crate) fn on_wcc(
         in_offsets,
         in_sources,
         result,
-        parents,
-        sizes,
+        heads,
     );
     numbers_on(
         answer,

@@ -60,8 +60,9 @@ fn refuse_unknown(
     Judged::Refused(Refusal::plain(UNKNOWN_NUMBER))
 }
 
-// The verdict on a claim of at most so many lines. BFS, WCC and CDLP leave their values in `result`, LCC its fractions in `first` and
-// `second`.
+// The verdict on a claim of at most so many lines. Each area serves its kernel: BFS, WCC and CDLP leave their values in `result`, which
+// holds WCC's book before, and read the claim's into `claimed`; `first` is BFS's queue and WCC's heads, the three together CDLP's labels,
+// next labels and counts; LCC leaves its fractions in `first` and `second` and works in `third`.
 pub fn verdict_within(
     most: usize,
     size: Size,
@@ -115,6 +116,7 @@ pub fn verdict_within(
         );
     }
     if kernel == WCC {
+        clear(second);
         clear(third);
         return on_wcc(
             room,
@@ -129,7 +131,6 @@ pub fn verdict_within(
             result,
             claimed,
             first,
-            second,
         );
     }
     if kernel == CDLP {

@@ -1,6 +1,6 @@
 use Prim.Native.Nat.{_-_}
-use borrow.Author.Needs.{needs}
 use lib.ListN.{length}
+use borrow.Author.Needs.{needs}
 use Rattle.book_run.proofs.print.filled.Statement.{statement}
 use Rattle.book_run.proofs.print.filled.Tie as tie
 
@@ -16,8 +16,8 @@ loop-holds c = tt
 mul-if1 : tie.Need-mul-if1 Inv-loop μ-loop
 mul-if1 c = search needs
 
-shared-slice-read-if1 : tie.Need-shared-slice-read-if1 Inv-loop μ-loop
-shared-slice-read-if1 c = search needs
+shared-slice-copy-out-if1 : tie.Need-shared-slice-copy-out-if1 Inv-loop μ-loop
+shared-slice-copy-out-if1 c = search needs
 
 returns : tie.Need-returns Inv-loop μ-loop
 returns c = search needs
@@ -42,7 +42,7 @@ filled-spec =
     μ-loop
     loop-holds
     mul-if1
-    shared-slice-read-if1
+    shared-slice-copy-out-if1
     returns
     add-i
     loop-less

@@ -9,9 +9,6 @@ slice-aggregate-wcc c = search needs
 slice-aggregate-wcc-2 : tie.Need-slice-aggregate-wcc-2
 slice-aggregate-wcc-2 c = search needs
 
-slice-aggregate-wcc-3 : tie.Need-slice-aggregate-wcc-3
-slice-aggregate-wcc-3 c = search needs
-
 wcc-requires : tie.Need-wcc-requires
 wcc-requires c κs = search needs
 
@@ -33,7 +30,6 @@ wcc-job-spec =
     (tie.spec
     slice-aggregate-wcc
     slice-aggregate-wcc-2
-    slice-aggregate-wcc-3
     wcc-requires
     slice-aggregate-put-labels
     put-labels-requires

@@ -15,13 +15,10 @@ same-length c = search needs
 same-length-2 : tie.Need-same-length-2
 same-length-2 c = search needs
 
-same-length-3 : tie.Need-same-length-3
-same-length-3 c = search needs
-
 returns : tie.Need-returns
 returns c = search wcc-told
 
 pub trace-wcc-spec : {M : Type 1} → statement M
 trace-wcc-spec =
     tie.close
-    (tie.spec wcc-requires kernel-code-requires same-length same-length-2 same-length-3 returns)
+    (tie.spec wcc-requires kernel-code-requires same-length same-length-2 returns)

@@ -9,7 +9,7 @@ group-count-requires : tie.Need-group-count-requires
 group-count-requires c κs = search needs
 
 reading-code-requires : tie.Need-reading-code-requires
-reading-code-requires c κs = readable-by (c .group-count .ensures) (count-readable _ _)
+reading-code-requires c κs = readable-by (c .group-count .ensures) (count-readable _)
 
 returns : tie.Need-returns
 returns c = coded-by readingValue _ _ _ (c .before .group-count .ensures) (c .reading-code .ensures)

@@ -9,7 +9,7 @@ head-requires : tie.Need-head-requires
 head-requires c κs = search needs
 
 headed-code-requires : tie.Need-headed-code-requires
-headed-code-requires c κs = readable-by (c .head .ensures) (head-readable _ _ _)
+headed-code-requires c κs = readable-by (c .head .ensures) (head-readable _ _)
 
 returns : tie.Need-returns
 returns c = coded-by headValue _ _ _ (c .before .head .ensures) (c .headed-code .ensures)

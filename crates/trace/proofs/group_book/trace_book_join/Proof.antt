@@ -13,12 +13,9 @@ joined-code-requires c κs = search (book-readable joinValue, join-readable)
 same-length : tie.Need-same-length
 same-length c = search needs
 
-same-length-2 : tie.Need-same-length-2
-same-length-2 c = search needs
-
 returns : tie.Need-returns
 returns c = search (book-told joinValue)
 
 pub trace-book-join-spec : {M : Type 1} → statement M
 trace-book-join-spec =
-    tie.close (tie.spec join-requires joined-code-requires same-length same-length-2 returns)
+    tie.close (tie.spec join-requires joined-code-requires same-length returns)

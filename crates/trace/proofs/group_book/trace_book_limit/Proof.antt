@@ -9,7 +9,7 @@ step-limit-requires : tie.Need-step-limit-requires
 step-limit-requires c κs = search needs
 
 reading-code-requires : tie.Need-reading-code-requires
-reading-code-requires c κs = readable-by (c .step-limit .ensures) (limit-readable _ _ _)
+reading-code-requires c κs = readable-by (c .step-limit .ensures) (limit-readable _ _)
 
 returns : tie.Need-returns
 returns c = coded-by readingValue _ _ _ (c .before .step-limit .ensures) (c .reading-code .ensures)

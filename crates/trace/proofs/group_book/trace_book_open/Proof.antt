@@ -13,12 +13,9 @@ opened-code-requires c κs = search (book-readable nothing, open-readable)
 same-length : tie.Need-same-length
 same-length c = search needs
 
-same-length-2 : tie.Need-same-length-2
-same-length-2 c = search needs
-
 returns : tie.Need-returns
 returns c = search (book-told nothing)
 
 pub trace-book-open-spec : {M : Type 1} → statement M
 trace-book-open-spec =
-    tie.close (tie.spec open-book-requires opened-code-requires same-length same-length-2 returns)
+    tie.close (tie.spec open-book-requires opened-code-requires same-length returns)

@@ -9,7 +9,7 @@ same-group-requires : tie.Need-same-group-requires
 same-group-requires c κs = search needs
 
 compared-code-requires : tie.Need-compared-code-requires
-compared-code-requires c κs = readable-by (c .same-group .ensures) (same-readable _ _ _ _)
+compared-code-requires c κs = readable-by (c .same-group .ensures) (same-readable _ _ _)
 
 returns : tie.Need-returns
 returns c = coded-by sameValue _ _ _ (c .before .same-group .ensures) (c .compared-code .ensures)

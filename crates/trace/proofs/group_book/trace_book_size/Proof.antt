@@ -9,7 +9,7 @@ group-size-requires : tie.Need-group-size-requires
 group-size-requires c κs = search needs
 
 reading-code-requires : tie.Need-reading-code-requires
-reading-code-requires c κs = readable-by (c .group-size .ensures) (size-readable _ _ _)
+reading-code-requires c κs = readable-by (c .group-size .ensures) (size-readable _ _)
 
 returns : tie.Need-returns
 returns c = coded-by readingValue _ _ _ (c .before .group-size .ensures) (c .reading-code .ensures)

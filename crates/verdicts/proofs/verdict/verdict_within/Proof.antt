@@ -47,10 +47,12 @@ returns c =
 clear-requires-3 : tie.Need-clear-requires-3
 clear-requires-3 c κs = search needs
 
+clear-requires-4 : tie.Need-clear-requires-4
+clear-requires-4 c κs = search needs
+
 on-wcc-requires : tie.Need-on-wcc-requires
 on-wcc-requires c κs =
-    let h = roomy _ _ _ _ _ _ (c .before .before .before .before .before .before .before .before .before .before .has-room .ensures) in
-    (h .0, (h .1 .0, h .1 .1))
+    let h = roomy _ _ _ _ _ _ (c .before .before .before .before .before .before .before .before .before .before .before .before .before .has-room .ensures) in (h .0, h .1 .0)
 
 same-length-6 : tie.Need-same-length-6
 same-length-6 c = search needs
@@ -69,13 +71,9 @@ same-length-10 c = search needs
 
 returns-2 : tie.Need-returns-2
 returns-2 c =
-    verdict-wcc _ _ _ _ _ _ _ _ _ _ (c .before .before .before .before .before .before .before .before .before .before .before .before
-    .before .before .before .before .before .has-room .ensures)
-    (c .before .before .before .before .before .before .before .before .before .before .before .before .before .before .before .before .if1
-    .left) (c .before .before .before .before .before .before .before .before .before .before .before .before .before .before .before .if2
-    .taken) (c .before .before .before .before .before .before .on-wcc .ensures .0)
-    (c .before .before .before .before .before .before .on-wcc .ensures .1)
-    (c .before .before .before .before .before .before .before .before .before .before .before .before .before .clear3 .ensures)
+    verdict-wcc _ _ _ _ _ _ _ _ _ _ (c .before .before .before .before .before .before .before .before .before .before .before .before .before .before .before .before .before .before .has-room .ensures) (c .before .before .before .before .before .before .before .before .before .before .before .before .before .before .before .before .before .if1 .left) (c .before .before .before .before .before .before .before .before .before .before .before .before .before .before .before .before .if2 .taken)
+    (c .before .before .before .before .on-wcc .ensures .0) (c .before .before .before .before .on-wcc .ensures .1) (c .before .before .before .before .before .before .before .before .before .before .before .before .before .before .clear3 .ensures)
+    (c .before .before .before .before .before .before .before .before .before .before .clear4 .ensures)
 
 on-cdlp-requires : tie.Need-on-cdlp-requires
 on-cdlp-requires c κs =
@@ -190,6 +188,7 @@ verdict-within-spec =
     same-length-5
     returns
     clear-requires-3
+    clear-requires-4
     on-wcc-requires
     same-length-6
     same-length-7
