@@ -5,6 +5,7 @@ pub mod Scans
 pub mod Firsts
 pub mod Closures
 pub mod Orders
+pub mod Minus
 pub mod Sets
 pub mod Areas
 pub mod Alls

@@ -44,7 +44,7 @@ largerFirst = 6
 abbrev pub unknownVertex : ℕ
 unknownVertex = 7
 
--- "a lent area is too short, or the two areas of a book differ in length or pass 65,536"
+-- "a lent area is too short"; of a book it "reads as length above 65,536" (02 K9)
 abbrev pub noRoom : ℕ
 noRoom = 8
 

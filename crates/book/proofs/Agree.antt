@@ -6,7 +6,6 @@ use mathlib.Core.Bool.{Bool, true, false, _&&_}
 use Prim.Native.Nat.{ℕ, zero, suc, _+_, _<_}
 use native.Mathlib.Omega.{arith}
 use native.Mathlib.Decide.{decLt, ℕ-discrete}
-use lib.ListN.{length}
 use lib.Dec.{ltb, leb}
 use borrow.Author.Tests.{ltb-true}
 use Rattle.basis.specs.Limits.{mostVertices}
@@ -14,7 +13,7 @@ use Rattle.basis.specs.Refusal.{Said, gives, refuses, noRoom, notThere, unsound
 use Rattle.basis.proofs.Tests.{clash, no-case}
 use Rattle.basis.proofs.Saids.{check-on, check-off, onward-passed}
 use Rattle.book.specs.Rules.{mostMoves, Next, stop, to, View, WalkEnd, Heads, heads, Step, already, merge, Joining, merged, same}
-use Rattle.book.specs.Rules.{Machine, Outcome, outcome, Each, EachOutcome, counted, behind, andOn, walk, walkFrom, isStop, tally}
+use Rattle.book.specs.Rules.{Machine, EachOutcome, counted, behind, andOn, walk, walkFrom, isStop, tally}
 use Rattle.book.specs.Rules.{headOf, pair, headsOf, oneHead, sameGroup, sizeAt, groupSize, groupCount, limitOf, stepLimit}
 use Rattle.book.specs.Rules.{linkHeads, decide, openBook, writeBook, joinBook, joinEach}
 use Rattle.book.specs.Series.{Call, Answer, State, after, afterOpen, answer, answers, AnswersAsTwo}

@@ -1,5 +1,5 @@
 -- Laws of the area: an opening, for each `return` of the code, and a head's size as the code reads it. Assumes nothing.
-use mathlib.Core.Path.{_≡_, sym, ap, _∙_}
+use mathlib.Core.Path.{_≡_, ap, _∙_}
 use mathlib.Core.List.{List}
 use mathlib.Core.Bool.{Bool, true, false, not}
 use Prim.Native.Nat.{ℕ, _+_, _≤_, _<_, min}
@@ -14,7 +14,7 @@ use Rattle.basis.specs.declared.refusal.Refusal.{Refusal}
 use Rattle.basis.specs.Refusal.{gives, refuses, plain, noRoom, unsound}
 use Rattle.book.specs.declared.Headed.{Headed}
 use Rattle.book.specs.declared.Reading.{Reading}
-use Rattle.book.specs.Rules.{stop, to, outcome, openBook, headOf, groupSize}
+use Rattle.book.specs.Rules.{stop, outcome, openBook, headOf, groupSize}
 use Rattle.book.specs.One.{nextOf, sizeOf, nextHere, sizeHere, one, oneBook}
 use Rattle.book.specs.Says.{saysHeaded, saysReading}
 use Rattle.book.specs.Steps.{AtHead}

@@ -11,14 +11,14 @@ use lib.ListN.{length, getD}
 use mir.Syntax.{w64}
 use mir.Val.{Fits, SFits, toZ, ofZ}
 use mir.Facts.{toZ-ofZ}
-use mir.ValLaws.{toZ-pos}
 use borrow.Author.Tests.{ltb-true, ltb-false, lt-ltb, le-ltb}
 use Rattle.basis.proofs.Tests.{clash, no-case, same-test}
+use Rattle.basis.proofs.Minus.{minus-fits, minus-again}
 use Rattle.book.specs.Rules.{stop, to, isStop}
 use Rattle.book.specs.One.{nextOf, sizeOf, nextHere, sizeHere}
 use Rattle.book.specs.Steps.{AtHead}
 
--- ---- minus a number
+-- ---- minus a size
 
 pub minus-head : (n : ℕ) → 0 < n → nextOf (negℤ (pos n)) ≡ stop
 minus-head zero h = absurd (omega arith)
@@ -27,21 +27,6 @@ minus-head (suc n) h = refl
 pub minus-size : (n : ℕ) → sizeOf (negℤ (pos n)) ≡ n
 minus-size zero = refl
 minus-size (suc n) = refl
-
-mag-minus : (n : ℕ) → n < 2 ^ 63 → mag (negℤ (pos n)) < 2 ^ 63
-mag-minus zero h = omega arith
-mag-minus (suc n) h = omega arith
-
--- as the machine makes it of n
-module _ (n : ℕ) (h : n < 2 ^ 63) where
-  minus-is : pos 0 -ℤ toZ w64 n ≡ negℤ (pos n)
-  minus-is = ap (λ (z : ℤ). pos 0 -ℤ z) (toZ-pos w64 n h) ∙ +ℤ-idl (negℤ (pos n))
-
-  pub minus-fits : SFits w64 (pos 0 -ℤ toZ w64 n)
-  minus-fits = rw minus-is (record { sfits = mag-minus n h })
-
-  pub minus-again : toZ w64 (ofZ w64 (pos 0 -ℤ toZ w64 n)) ≡ negℤ (pos n)
-  minus-again = toZ-ofZ minus-fits ∙ minus-is
 
 -- ---- the entry of v, as it is read
 module _ (xs : List ℤ) (v : ℕ) (f : mag (getD xs v (pos 0)) < 2 ^ 63) where

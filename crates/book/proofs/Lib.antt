@@ -18,3 +18,4 @@ pub mod Agree
 pub mod Carried
 pub mod Each
 pub mod Held
+pub mod Examples

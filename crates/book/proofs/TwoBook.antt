@@ -18,7 +18,7 @@ use Rattle.book.proofs.Faithful.{Faithful}
 
 -- ---- two areas that are well lent
 module _ (ps ss : List ℕ) where
-  pub fits-of : length ps ≤ mostVertices → length ss ≡ length ps → fits ps ss ≡ true
+  fits-of : length ps ≤ mostVertices → length ss ≡ length ps → fits ps ss ≡ true
   unfolding fits
   fits-of h e = and-both (le-leb (length ps) mostVertices h) (eq-eqb (length ss) (length ps) e)
 

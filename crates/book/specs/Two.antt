@@ -1,4 +1,5 @@
--- 01 "The group book": "Two lent areas of one length, parents and sizes."
+-- 01 "The group book": "Two lent areas of one length, parents and sizes.": the book before 02 K9. No code keeps it; it is what the book of
+-- one area answers like.
 use mathlib.Core.List.{List}
 use mathlib.Core.Bool.{Bool, cond, _&&_}
 use Prim.Native.Nat.{ℕ}

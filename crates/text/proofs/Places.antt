@@ -14,6 +14,7 @@ use Rattle.basis.specs.Refusal.{badForm}
 use Rattle.basis.specs.Scan.{mem}
 use Rattle.basis.proofs.Tests.{clash, bool-cases}
 use Rattle.basis.proofs.Saids.{Any}
+use Rattle.basis.proofs.Minus.{mag-minus}
 use Rattle.text.specs.Word.{Word, malformed, outside, value, wellFormed, rangedOf, countOf, signedOf, afterMinus, identOf}
 use Rattle.text.specs.Decimal.{decimalOf}
 use Rattle.text.specs.Bytes.{lf, space}
@@ -24,7 +25,6 @@ use Rattle.text.specs.declared.decimal.Decimal.{Decimal}
 use Rattle.text.specs.declared.ident.Scan.{Scan}
 use Rattle.text.specs.declared.ident.Scan.the-variants as S
 use Rattle.text.proofs.Bytes.{cut-at, has-below}
-use Rattle.text.proofs.Scans.{mag-minus}
 use Rattle.text.proofs.Words.{ident-from}
 
 -- from `at` to q, forward and within the file

@@ -1,13 +1,12 @@
 -- Laws of a count, an identifier and a field, scanned from a place: one for each way the code leaves. Assumes nothing.
-use Prim.Native.Nat.{ℕ, zero, suc, _+_, _-_, _^_, _≤_, _<_}
+use Prim.Native.Nat.{ℕ, _+_, _-_, _^_, _≤_, _<_}
 use mathlib.Core.Path.{_≡_, refl, sym, ap, _∙_}
 use mathlib.Core.List.{List}
 use mathlib.Core.Bool.{Bool, true, false}
 use native.Mathlib.Omega.{arith}
 use borrow.Author.Tests.{le-leb, lt-leb, leb-true, leb-false, eq-eqb}
 use lib.Dec.{leb}
-use lib.IntN.{ℤ, pos, negℤ, _-ℤ_, +ℤ-idl}
-use lib.Signed.{mag}
+use lib.IntN.{ℤ}
 use lib.ListN.{length, getD}
 use mir.Syntax.{w64}
 use mir.Val.{toZ}
@@ -50,15 +49,7 @@ module _ (s : List ℕ) (at : ℕ) where
     count-run r h k e =
         rw (has-no s at 48 n, within-yes {lo = 49} {hi = 57} {b = getD s at 0} h k) (ap (λ (x : Run). scanned (value (x .n)) (x .next)) e)
 
--- ---- signed numbers
-pub zero-minus : (n : ℕ) → pos 0 -ℤ pos n ≡ negℤ (pos n)
-zero-minus n = +ℤ-idl (negℤ (pos n))
-
-pub mag-minus : (n : ℕ) → n ≤ 2 ^ 63 → mag (negℤ (pos n)) < 2 ^ 63
-mag-minus zero h = omega arith
-mag-minus (suc n) h = omega arith
-
--- a number by its sign and its range
+-- ---- a number by its sign and its range
 module _ (negative : Bool) (n next : ℕ) where
   pub ranged-least : negative ≡ true → n ≤ 9223372036854775808 → (z : ℤ) → z ≡ minusOf n → scanned (value z) next ≡ rangedAt negative n next
   ranged-least e h z q = rw (e, q, le-leb n (2 ^ 63) h)

@@ -1,7 +1,7 @@
 use native.Mathlib.Omega.{arith}
 use Rattle.book.specs.Rules.{writeBook}
 use Rattle.book.specs.Steps.{hangOne}
-use Rattle.book.proofs.Entries.{minus-fits, minus-again}
+use Rattle.basis.proofs.Minus.{minus-fits, minus-again}
 use mir.Syntax.{w64}
 use mir.ValLaws.{toZ-pos}
 use borrow.Author.Needs.{needs}

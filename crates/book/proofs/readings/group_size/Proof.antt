@@ -1,4 +1,3 @@
-use Rattle.book.specs.One.{one}
 use Rattle.book.proofs.Calls.{size-refused}
 use Rattle.book.proofs.Areas.{head-read, read-large, read-is}
 use borrow.Author.Needs.{needs}
