@@ -200,9 +200,9 @@ uint64_t trace_judge(size_t vertices, size_t arcs,
                      size_t *third, size_t third_length);
 
 /*
- * The group book: groups of the vertices 0 to n - 1, in one area of n entries, at most 65,536. Each group has a head. A head's entry is
- * minus the size of its group, -1 where it is alone. Any other vertex's entry is its parent, by which the walk to the head goes on. So a
- * negative entry makes its place a head, and one that is 0 or above names a parent, also where it names its own place.
+ * The group book: groups of the vertices 0 to n - 1, in one area of n entries, at most 65,536 (512 KiB). Each group has a head. A head's
+ * entry is minus the size of its group, -1 where it is alone. Any other vertex's entry is its parent, by which the walk to the head goes
+ * on. So a negative entry makes its place a head, and one that is 0 or above names a parent, also where it names its own place.
  * A refused call changes nothing. Refusals: 8, then 10, then 9. It is 9 where a walk that the call needs leaves the area or does not end in
  * 16 moves; where size or step limit finds a head's entry below -n; and where a join that would merge two groups finds such an entry, or
  * sizes whose sum is above n. An opened book that only these calls have written refuses no join of its vertices.

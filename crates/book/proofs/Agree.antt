@@ -150,7 +150,8 @@ module _ (M N : Machine) (F : Faithful M) (G : Faithful N) where
     fit = F .opened-fit a f ∙ sym (G .opened-fit b g);
     count = F .opened-count a ∙ e ∙ sym (G .opened-count b);
     next = λ _ v l. F .opened-next a v (omega (arith, F .opened-count a)) ∙ sym (G .opened-next b v (omega (arith, F .opened-count a, e)));
-    size = λ _ v l _. F .opened-size a v (omega (arith, F .opened-count a)) ∙ sym (G .opened-size b v (omega (arith, F .opened-count a, e)));
+    size = λ _ v l _.
+        F .opened-size a v (omega (arith, F .opened-count a)) ∙ sym (G .opened-size b v (omega (arith, F .opened-count a, e)));
   }
 
   -- an opening, whatever the areas hold

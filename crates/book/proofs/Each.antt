@@ -89,7 +89,8 @@ behind-more k m j l e = ap (λ (x : Each). eachOutcome x (e .area)) (go (e .said
         ap₂ (λ x y. stopped x y r) q p
 
 -- a turn of the loop, where i members were joined and m of the joins merged, and its end
-module _ (a : EachOutcome (List ℤ)) (b : List ℤ) (u : ℕ) (ws : List ℕ) (i m : ℕ) (f : behind i m (joinEach oneBook b u (drop i ws)) ≡ a) where
+module _ (a : EachOutcome (List ℤ)) (b : List ℤ) (u : ℕ) (ws : List ℕ) (i m : ℕ)
+    (f : behind i m (joinEach oneBook b u (drop i ws)) ≡ a) where
   pub each-end : length ws ≤ i → eachOutcome (all m) b ≡ a
   unfolding joinEach behind
   each-end l =

@@ -28,6 +28,14 @@ pub minus-size : (n : ℕ) → sizeOf (negℤ (pos n)) ≡ n
 minus-size zero = refl
 minus-size (suc n) = refl
 
+-- a head's entry is below minus n exactly where the size that it says is above n
+pub low-entry : (z : ℤ) (n : ℕ) → nextOf z ≡ stop → ltZ z (negℤ (pos n)) ≡ ltb n (sizeOf z)
+low-entry (pos p) n e = no-case cc
+low-entry (negsuc k) zero e = sym (lt-ltb 0 (suc k) (omega arith))
+low-entry (negsuc k) (suc m) e =
+    same-test (ltb m k) (ltb (suc m) (suc k)) (λ t. lt-ltb (suc m) (suc k) (let d = ltb-true m k t in omega arith))
+    (λ t. lt-ltb m k (let d = ltb-true (suc m) (suc k) t in omega arith))
+
 -- ---- the entry of v, as it is read
 module _ (xs : List ℤ) (v : ℕ) (f : mag (getD xs v (pos 0)) < 2 ^ 63) where
   abbrev z : ℤ
@@ -69,17 +77,9 @@ module _ (xs : List ℤ) (v : ℕ) (f : mag (getD xs v (pos 0)) < 2 ^ 63) where
     pub length-fits : SFits w64 (pos 0 -ℤ toZ w64 (length xs))
     length-fits = minus-fits (length xs) few
 
-    -- the entry is below minus the length where the size is above the length
     below-minus : ltZ (toZ w64 (ofZ w64 z)) (toZ w64 (ofZ w64 (pos 0 -ℤ toZ w64 (length xs)))) ≡ ltb (length xs) (sizeHere xs v)
     unfolding nextHere sizeHere
-    below-minus = ap₂ ltZ again (minus-again (length xs) few) ∙ go z (length xs) (x .head)
-      where
-        go : (y : ℤ) (m : ℕ) → nextOf y ≡ stop → ltZ y (negℤ (pos m)) ≡ ltb m (sizeOf y)
-        go (pos p) m e = no-case cc
-        go (negsuc k) zero e = sym (lt-ltb 0 (suc k) (omega arith))
-        go (negsuc k) (suc m) e =
-            same-test (ltb m k) (ltb (suc m) (suc k)) (λ t. lt-ltb (suc m) (suc k) (let d = ltb-true m k t in omega arith))
-            (λ t. lt-ltb m k (let d = ltb-true (suc m) (suc k) t in omega arith))
+    below-minus = ap₂ ltZ again (minus-again (length xs) few) ∙ low-entry z (length xs) (x .head)
 
     pub size-above : ltZ (toZ w64 (ofZ w64 z)) (toZ w64 (ofZ w64 (pos 0 -ℤ toZ w64 (length xs)))) ≡ true
         → length xs + 1 ≡ min (sizeHere xs v) (length xs + 1)

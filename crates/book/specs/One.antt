@@ -21,7 +21,7 @@ sizeOf (negsuc k) = suc k
 unfoldable pub nextHere : List ℤ → ℕ → Next
 nextHere xs v = nextOf (getD xs v (pos 0))
 
--- the size that stands at the head v
+-- the size that stands at the head v; "a head's entry below minus the length" is a size above the length (law `Entries.low-entry`)
 unfoldable pub sizeHere : List ℤ → ℕ → ℕ
 sizeHere xs v = sizeOf (getD xs v (pos 0))
 

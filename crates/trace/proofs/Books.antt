@@ -64,11 +64,14 @@ module _ (next : ℕ → Next) (n : ℕ) (small : n ≤ mostVertices) where
   walkFrom-silent v l = readable-untold (walkFrom-readable v l) (omega arith)
 
 module _ (xs : List ℤ) where
+  few : leb (length xs) mostVertices ≡ true → length xs ≤ mostVertices
+  few f = leb-true (length xs) mostVertices f
+
   pub head-readable : (v : ℕ) → Readable wide (headOf (one xs) v) headValue
   unfolding headOf one
   head-readable v =
       checked _ noRoom (omega arith) (omega arith)
-      (λ f. checked _ notThere (omega arith) (omega arith) (λ l. walkFrom-readable (nextHere xs) (length xs) (leb-true (length xs) mostVertices f) v l))
+      (λ f. checked _ notThere (omega arith) (omega arith) (λ l. walkFrom-readable (nextHere xs) (length xs) (few f) v l))
 
   heads-readable : (u v : ℕ) → Readable wide (headsOf (one xs) u v) untold
   unfolding headsOf one
@@ -76,8 +79,8 @@ module _ (xs : List ℤ) where
       checked _ noRoom (omega arith) (omega arith)
       (λ f. checked _ notThere (omega arith) (omega arith)
       (λ k. checked _ notThere (omega arith) (omega arith)
-      (λ l. pair-readable _ _ (walkFrom-silent (nextHere xs) (length xs) (leb-true (length xs) mostVertices f) u k)
-      (walkFrom-silent (nextHere xs) (length xs) (leb-true (length xs) mostVertices f) v l))))
+      (λ l. pair-readable _ _ (walkFrom-silent (nextHere xs) (length xs) (few f) u k)
+      (walkFrom-silent (nextHere xs) (length xs) (few f) v l))))
 
   pub same-readable : (u v : ℕ) → Readable wide (sameGroup (one xs) u v) sameValue
   unfolding sameGroup
@@ -101,14 +104,14 @@ module _ (xs : List ℤ) where
   size-readable v = readable-values (size-checked v) readingValue small
     where
       small : (s : ℕ) → groupSize (one xs) v ≡ gives s → s < wide
-      small s e = let t = size-inside (one xs) v s e in omega (arith, leb-true (length xs) mostVertices (t .0))
+      small s e = let t = size-inside (one xs) v s e in omega (arith, few (t .0))
 
   pub count-readable : Readable wide (groupCount (one xs)) readingValue
   unfolding groupCount one
   count-readable = checked _ noRoom (omega arith) (omega arith) (λ f. readable-given _ (small f))
     where
       small : leb (length xs) mostVertices ≡ true → tally (λ v. isStop (nextHere xs v)) (length xs) < wide
-      small f = omega (arith, leb-true (length xs) mostVertices f, tally-le (λ v. isStop (nextHere xs v)) (length xs))
+      small f = omega (arith, few f, tally-le (λ v. isStop (nextHere xs v)) (length xs))
 
   pub limit-readable : (v : ℕ) → Readable wide (stepLimit (one xs) v) readingValue
   unfolding stepLimit

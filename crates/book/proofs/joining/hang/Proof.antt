@@ -34,7 +34,9 @@ same-length c = search needs
 
 returns : tie.Need-returns
 unfolding hangOne writeBook
-returns c = simp (toZ-pos w64 (c .args .top) (omega (arith, c .pre .0 .0 .lent, c .pre .0 .0 .inside)), minus-again (c .args .total) (omega arith))
+returns c =
+    let t = c .pre .0 .0 in
+    simp (toZ-pos w64 (c .args .top) (omega (arith, t .lent, t .inside)), minus-again (c .args .total) (omega arith))
 
 pub hang-spec : {M : Type 1} → statement M
 hang-spec =

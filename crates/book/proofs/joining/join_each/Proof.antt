@@ -44,11 +44,13 @@ same-length-2 c = search needs
 returns-3 : tie.Need-returns-3 Inv-loop μ-loop
 returns-3 c =
     let w = c .before .before .before .well-lent in
-    each-missing _ _ (w .result) (w .ensures) _ (c .before .before .before .before .before .if1 .left) _ (c .before .before .if2 .left) (c .before .if3 .taken) (c .plain2 .ensures)
+    each-missing _ _ (w .result) (w .ensures) _ (c .before .before .before .before .before .if1 .left) _ (c .before .before .if2 .left)
+    (c .before .if3 .taken) (c .plain2 .ensures)
 
 walk-requires : tie.Need-walk-requires Inv-loop μ-loop
 walk-requires c κs =
-    let w = c .before .before .before .well-lent in (c .before .if3 .left, lent-within _ (w .result) (w .ensures) (c .before .before .if2 .left))
+    let w = c .before .before .before .well-lent in
+    (c .before .if3 .left, lent-within _ (w .result) (w .ensures) (c .before .before .if2 .left))
 
 loop-holds : tie.Need-loop-holds Inv-loop μ-loop
 loop-holds c =

@@ -23,9 +23,10 @@ same-length c = search needs
 
 returns-2 : tie.Need-returns-2
 returns-2 c =
-    let p = c .before .before .before .before .before .before .before .pre in
-    one-unsound _ _ _ (p .0) (p .1) (c .before .before .before .before .before .before .if1 .left) _ _ (c .before .before .before .before .size-at .ensures) (c .before .before .size-at2 .ensures) _
-    (c .before .if2 .taken) (c .plain .ensures)
+    let i = c .before .before .before .before .before .before in
+    let p = i .before .pre in
+    one-unsound _ _ _ (p .0) (p .1) (i .if1 .left) _ _ (c .before .before .before .before .size-at .ensures)
+    (c .before .before .size-at2 .ensures) _ (c .before .if2 .taken) (c .plain .ensures)
 
 goes-above-requires : tie.Need-goes-above-requires
 goes-above-requires c κs = search needs

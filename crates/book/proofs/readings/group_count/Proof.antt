@@ -35,7 +35,8 @@ is-head-requires c κs = search needs
 
 add-count : tie.Need-add-count Inv-loop μ-loop
 add-count c =
-    omega (arith, tally-le (λ v. isStop (nextHere (c .before .before .before .before .before .before .args .entries .now) v)) (c .before .before .before .loop .i))
+    let l = c .before .before .before in
+    omega (arith, tally-le (λ v. isStop (nextHere (l .before .before .before .args .entries .now) v)) (l .loop .i))
 
 add-i : tie.Need-add-i Inv-loop μ-loop
 add-i c = search needs

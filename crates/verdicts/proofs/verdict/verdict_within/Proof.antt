@@ -52,7 +52,8 @@ clear-requires-4 c κs = search needs
 
 on-wcc-requires : tie.Need-on-wcc-requires
 on-wcc-requires c κs =
-    let h = roomy _ _ _ _ _ _ (c .before .before .before .before .before .before .before .before .before .before .before .before .before .has-room .ensures) in (h .0, h .1 .0)
+    let i = c .before .before .before .before .before .before .before .before .before .before .before .before in
+    let h = roomy _ _ _ _ _ _ (i .before .has-room .ensures) in (h .0, h .1 .0)
 
 same-length-6 : tie.Need-same-length-6
 same-length-6 c = search needs
@@ -71,9 +72,12 @@ same-length-10 c = search needs
 
 returns-2 : tie.Need-returns-2
 returns-2 c =
-    verdict-wcc _ _ _ _ _ _ _ _ _ _ (c .before .before .before .before .before .before .before .before .before .before .before .before .before .before .before .before .before .before .has-room .ensures) (c .before .before .before .before .before .before .before .before .before .before .before .before .before .before .before .before .before .if1 .left) (c .before .before .before .before .before .before .before .before .before .before .before .before .before .before .before .before .if2 .taken)
-    (c .before .before .before .before .on-wcc .ensures .0) (c .before .before .before .before .on-wcc .ensures .1) (c .before .before .before .before .before .before .before .before .before .before .before .before .before .before .clear3 .ensures)
-    (c .before .before .before .before .before .before .before .before .before .before .clear4 .ensures)
+    let w = c .before .before .before .before .on-wcc in
+    let t = c .before .before .before .before .before .before .before .before .before .before in
+    let s = t .before .before .before .before in
+    let k = s .before .before in
+    verdict-wcc _ _ _ _ _ _ _ _ _ _ (k .before .before .has-room .ensures) (k .before .if1 .left) (k .if2 .taken) (w .ensures .0)
+    (w .ensures .1) (s .clear3 .ensures) (t .clear4 .ensures)
 
 on-cdlp-requires : tie.Need-on-cdlp-requires
 on-cdlp-requires c κs =

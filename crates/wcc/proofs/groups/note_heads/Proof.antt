@@ -44,7 +44,10 @@ same-length : tie.Need-same-length Inv-loop μ-loop
 same-length c = search needs
 
 returns : tie.Need-returns Inv-loop μ-loop
-returns c = let l = c .before .loop in column-end _ (l .v) (length (c .before .before .before .args .heads .now)) _ (l .heads) (omega arith) (omega arith) (l .inv .2)
+returns c =
+    let l = c .before .loop in
+    let n = length (c .before .before .before .args .heads .now) in
+    column-end _ (l .v) n _ (l .heads) (omega arith) (omega arith) (l .inv .2)
 
 pub note-heads-spec : {M : Type 1} → statement M
 note-heads-spec =

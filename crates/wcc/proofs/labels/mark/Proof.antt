@@ -18,8 +18,8 @@ abbrev μ-loop : tie.MeasureT-loop
 μ-loop heads ids result₀ n i₀ result i = n - i
 
 below : (c : tie.After-shared-slice-known Inv-loop μ-loop)
-    → noted (c .before .before .before .args .heads .now) (length (c .before .before .before .args .result .now) - 1 - c .before .before .loop .i)
-    < length (c .before .before .loop .result)
+    → noted (c .before .before .before .args .heads .now)
+    (length (c .before .before .before .args .result .now) - 1 - c .before .before .loop .i) < length (c .before .before .loop .result)
 below c = head-below _ _ _ _ (c .before .before .before .pre .within) (c .before .before .loop .inv .1) (omega arith)
 
 loop-holds : tie.Need-loop-holds Inv-loop μ-loop
