@@ -37,9 +37,9 @@ returns-2 c = search call-short
 
 fill-requires : tie.Need-fill-requires
 fill-requires c κs =
-    let i = c .before .before .before .before .before .before in
     record {
-      sound = held _ _ (check-told (i .before .before .before .sound-over .ensures)) (i .if1 .left);
+      sound = held _ _ (check-told (c .before .before .before .before .before .before .before .before .before .sound-over .ensures))
+          (c .before .before .before .before .before .before .if1 .left);
       room = held _ _ (c .before .before .before .room .ensures) (c .before .before .if2 .left);
     }
 

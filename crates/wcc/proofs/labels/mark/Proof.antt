@@ -1,7 +1,9 @@
 use borrow.Author.Needs.{needs}
+use mir.Syntax.{w64}
+use mir.Val.{Fits}
 use mir.Facts.{toZ-ofZ}
 use mathlib.Core.Path.{_≡_, refl}
-use Prim.Native.Nat.{_≤_, _<_, _-_}
+use Prim.Native.Nat.{ℕ, _*_, _≤_, _<_, _-_}
 use native.Mathlib.Omega.{arith}
 use lib.ListN.{length, length-set}
 use Rattle.wcc.specs.Steps.{noted, marked}
@@ -17,10 +19,13 @@ Inv-loop heads ids result₀ n i₀ result i =
 abbrev μ-loop : tie.MeasureT-loop
 μ-loop heads ids result₀ n i₀ result i = n - i
 
-below : (c : tie.After-shared-slice-known Inv-loop μ-loop)
-    → noted (c .before .before .before .args .heads .now)
-    (length (c .before .before .before .args .result .now) - 1 - c .before .before .loop .i) < length (c .before .before .loop .result)
-below c = head-below _ _ _ _ (c .before .before .before .pre .within) (c .before .before .loop .inv .1) (omega arith)
+below : (c : tie.After-result Inv-loop μ-loop) (v : ℕ) → v < length (c .before .before .before .before .args .result .now)
+    → noted (c .before .before .before .before .args .heads .now) v < length (c .before .before .before .loop .result)
+below c v l = head-below _ _ _ _ (c .before .before .before .before .pre .within) (c .before .before .before .loop .inv .1) l
+
+head-fits : (c : tie.After-result Inv-loop μ-loop) (v : ℕ) → v < length (c .before .before .before .before .args .result .now)
+    → Fits w64 (noted (c .before .before .before .before .args .heads .now) v * 8)
+head-fits c v l = let k = below c v l in search needs
 
 loop-holds : tie.Need-loop-holds Inv-loop μ-loop
 loop-holds c = (omega arith, refl, search mark-none)
@@ -45,11 +50,11 @@ shared-slice-copy-out-result c = omega (arith, c .before .before .before .pre .n
 
 mul-t11 : tie.Need-mul-t11 Inv-loop μ-loop
 unfolding noted
-mul-t11 c = let k = below (c .before) in search needs
+mul-t11 c = head-fits c _ (omega arith)
 
 slice-set-from-result : tie.Need-slice-set-from-result Inv-loop μ-loop
 unfolding noted
-slice-set-from-result c = below (c .before)
+slice-set-from-result c = below c _ (omega arith)
 
 add-i : tie.Need-add-i Inv-loop μ-loop
 add-i c = search needs
