@@ -12,7 +12,7 @@ abbrev pub nextOf : ℤ → Next
 nextOf (pos p) = to p
 nextOf (negsuc k) = stop
 
--- "at a head the negative of the group's size"
+-- "at a head the negative of the group's size"; a parent says no size
 abbrev pub sizeOf : ℤ → ℕ
 sizeOf (pos p) = 0
 sizeOf (negsuc k) = suc k
