@@ -10,9 +10,13 @@ linked-keeps f k (by {u = u} {v = v} r) = k u v r
 linked-keeps f k (back l) = sym (linked-keeps f k l)
 linked-keeps f k (on l m) = linked-keeps f k l ∙ linked-keeps f k m
 
--- a chain of a relation that holds less often is one of a relation that holds more often
+-- a chain each of whose steps is a chain of another relation is one of that
+pub linked-through : {R S : ℕ → ℕ → Type 0} → ((x y : ℕ) → R x y → Linked S x y) → {u v : ℕ} → Linked R u v → Linked S u v
+linked-through f (itself v) = itself v
+linked-through f (by {u = u} {v = v} r) = f u v r
+linked-through f (back l) = back (linked-through f l)
+linked-through f (on l m) = on (linked-through f l) (linked-through f m)
+
+-- so it is where the other relation holds more often
 pub linked-within : {R S : ℕ → ℕ → Type 0} → ((x y : ℕ) → R x y → S x y) → {u v : ℕ} → Linked R u v → Linked S u v
-linked-within f (itself v) = itself v
-linked-within f (by {u = u} {v = v} r) = by (f u v r)
-linked-within f (back l) = back (linked-within f l)
-linked-within f (on l m) = on (linked-within f l) (linked-within f m)
+linked-within f l = linked-through (λ x y r. by (f x y r)) l

@@ -69,8 +69,12 @@ pub or-assoc : (r s t : Bool) → (r || (s || t)) ≡ ((r || s) || t)
 or-assoc true s t = refl
 or-assoc false s t = refl
 
+-- two numbers are equal exactly where two others are
+pub eqb-by : (a b c d : ℕ) → (a ≡ b → c ≡ d) → (c ≡ d → a ≡ b) → eqb a b ≡ eqb c d
+eqb-by a b c d f g = same-test (eqb a b) (eqb c d) (λ h. eq-eqb c d (f (eqb-true a b h))) (λ h. eq-eqb a b (g (eqb-true c d h)))
+
 pub eqb-swap : (a b : ℕ) → eqb a b ≡ eqb b a
-eqb-swap a b = same-test (eqb a b) (eqb b a) (λ h. eq-eqb b a (sym (eqb-true a b h))) (λ h. eq-eqb a b (sym (eqb-true b a h)))
+eqb-swap a b = eqb-by a b b a sym sym
 
 -- after `if !f(..)`: what the answer t of a call says of the test b that it promises
 pub failed : (t b : Bool) → t ≡ b → not t ≡ true → b ≡ false

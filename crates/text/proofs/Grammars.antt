@@ -8,12 +8,12 @@ use mathlib.Core.List.{List, [], _∷_, _++_, append-assoc}
 use native.Mathlib.Omega.{arith}
 use native.Mathlib.Nat.{add-zero, one-mul, le-trans, pow-le-pow-right}
 use native.Mathlib.Numerals.{add-one}
-use borrow.Author.Tests.{leb-true, ltb-true, ltb-false, eq-eqb, ne-eqb, eqb-true, eqb-false}
+use borrow.Author.Tests.{leb-true, ltb-true, ltb-false, ne-eqb, eqb-true, eqb-false}
 use lib.Dec.{leb, ltb, eqb}
 use lib.ListN.{length, getD, take, drop, length-append, length-drop, take-append-drop}
 use lib.Seq.{length-take-le, getD-take, getD-drop, getD-append-add, drop-cons, drop-drop, drop-append-add}
 use Rattle.basis.specs.Scan.{each}
-use Rattle.basis.proofs.Tests.{clash, no-case, bool-cases, same-test, and-first, and-second, and-both}
+use Rattle.basis.proofs.Tests.{clash, no-case, bool-cases, eqb-by, and-first, and-second, and-both}
 use Rattle.basis.proofs.Scans.{each-of, each-append}
 use Rattle.text.specs.Word.{Word, malformed, outside, value, within, isDigit, withDigit, runLen, runVal}
 use Rattle.text.specs.Decimal.{Exponent, up, down, wrong, digitLimit, decimal, digitOf, pastPoint}
@@ -48,9 +48,6 @@ rest-ends (point b bs) t = refl
 -- ---- a list in two parts, by its bytes
 seam : (a r : List ℕ) → getD (a ++ r) (length a) 0 ≡ getD r 0 0
 seam a r = ap (λ (k : ℕ). getD (a ++ r) k 0) (sym (add-zero (length a))) ∙ getD-append-add a r 0 0
-
-eqb-by : (a b c d : ℕ) → (a ≡ b → c ≡ d) → (c ≡ d → a ≡ b) → eqb a b ≡ eqb c d
-eqb-by a b c d f g = same-test (eqb a b) (eqb c d) (λ h. eq-eqb c d (f (eqb-true a b h))) (λ h. eq-eqb a b (g (eqb-true c d h)))
 
 -- a power is read off what stands behind
 behind : (u t : List ℕ) → powerAt (u ++ t) (length u) ≡ powerAt t 0
