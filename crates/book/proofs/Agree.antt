@@ -16,7 +16,7 @@ use Rattle.book.specs.Rules.{mostMoves, Next, stop, to, View, WalkEnd, H
 use Rattle.book.specs.Rules.{Machine, EachOutcome, counted, behind, andOn, walk, walkFrom, isStop, tally}
 use Rattle.book.specs.Rules.{headOf, pair, headsOf, oneHead, sameGroup, sizeAt, groupSize, groupCount, limitOf, stepLimit}
 use Rattle.book.specs.Rules.{linkHeads, decide, openBook, writeBook, joinBook, joinEach}
-use Rattle.book.specs.Series.{Call, Answer, State, after, afterOpen, answer, answers, AnswersAsTwo}
+use Rattle.book.specs.Series.{Call, Answer, State, after, answer, answers, AnswersAsTwo}
 use Rattle.book.specs.One.{one, oneBook}
 use Rattle.book.specs.Two.{two, twoBook}
 use Rattle.book.proofs.Walks.{walk-head, walk-move, walk-late, walk-out, walkFrom-in}
@@ -24,7 +24,7 @@ use Rattle.book.proofs.Calls.{head-inside, heads-inside, heads-below}
 use Rattle.book.proofs.Joins.{link-merged}
 use Rattle.book.proofs.Tally.{tally-same}
 use Rattle.book.proofs.Faithful.{Mergeable, Faithful}
-use Rattle.book.proofs.Series.{join-area}
+use Rattle.book.proofs.Series.{open-area, join-area}
 use Rattle.book.proofs.OneBook.{faithful-one}
 use Rattle.book.proofs.TwoBook.{fits-is, faithful-two}
 
@@ -128,15 +128,6 @@ unfolding decide
 decide-merged w u v t d s e =
     let p = onward-passed (headsOf w u v) (linkHeads w) (merge t d s) e in
     link-merged w u v (p .0 .first) (p .0 .second) (p .1) t d s (p .2) .0
-
--- what an opening leaves in the areas
-open-area : (M : Machine) (s : State (M .Area)) → after M s Call.opening .area ≡ openBook M (s .area) .area
-unfolding after
-open-area M s = go (openBook M (s .area) .said)
-  where
-    go : (d : Said (Unit {0})) → afterOpen d (openBook M (s .area) .area) s .area ≡ openBook M (s .area) .area
-    go (gives x) = refl
-    go (refuses r) = refl
 
 -- ---- two forms of book
 module _ (M N : Machine) (F : Faithful M) (G : Faithful N) where

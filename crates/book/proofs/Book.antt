@@ -1,5 +1,5 @@
 -- A book of any form keeps the invariant of `Forest.antt`, and what the invariant says of each call's answer. Assumes nothing.
-use mathlib.Core.Path.{_≡_, refl, sym, ap, ap₂, _∙_}
+use mathlib.Core.Path.{_≡_, refl, sym, ap, ap₂, _∙_, subst}
 use mathlib.Core.List.{List, [], _∷_}
 use mathlib.Core.Bool.{Bool, true, false}
 use mathlib.Core.Logic.{_⊎_, inl, inr, _↔_}
@@ -23,7 +23,7 @@ use Rattle.basis.proofs.Scans.{bit-le}
 use Rattle.basis.specs.Closure.{Linked, back, on}
 use Rattle.basis.proofs.Closures.{linked-keeps}
 use Rattle.book.specs.Series.{Slip, slip, Accepted}
-use Rattle.book.proofs.Calls.{head-walk, heads-walks, heads-missing, heads-missing2, same-is, size-is, count-is, limit-is}
+use Rattle.book.proofs.Calls.{head-walk, heads-walks, heads-outside, same-is, size-is, count-is, limit-is}
 use Rattle.book.proofs.Joins.{above-larger, above-smaller, mergeable-of, merge-above, merge-below, link-already, link-merges}
 use Rattle.book.proofs.Tally.{tally-apart, tally-le}
 use Rattle.book.proofs.Faithful.{Mergeable, Faithful}
@@ -105,15 +105,8 @@ module _ (n : ℕ) (w : View) (js : List Slip) (m : ℕ) (S : Sound n w js m) wh
   -- a join that names no vertex of the book is refused
   pub join-outside : (u v : ℕ) → (n ≤ u) ⊎ (n ≤ v) → decide w u v ≡ refuses (plain notThere)
   unfolding decide
-  join-outside u v o = ap (λ s. onward s (linkHeads w)) (sym (go o (decLt u (w .count))))
-    where
-      missing : w .count ≤ u → refuses (plain notThere) ≡ headsOf w u v
-      missing l = heads-missing w u v true (sym (S .fit)) (plain notThere) refl l refl
-
-      go : (n ≤ u) ⊎ (n ≤ v) → Dec (u < w .count) → refuses (plain notThere) ≡ headsOf w u v
-      go o (no d) = missing (omega arith)
-      go (inl l) (yes y) = missing (omega (arith, S .count))
-      go (inr l) (yes y) = heads-missing2 w u v true (sym (S .fit)) (plain notThere) refl y (omega (arith, S .count)) refl
+  join-outside u v o =
+      ap (λ s. onward s (linkHeads w)) (heads-outside w u v (S .fit) (subst (λ (k : ℕ). (k ≤ u) ⊎ (k ≤ v)) (sym (S .count)) o))
 
 -- ---- a join
 

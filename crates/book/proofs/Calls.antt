@@ -1,8 +1,10 @@
 -- Laws of the calls that read: for each `return` of the code what the call says, its premises the tests on the way there. Assumes nothing.
-use mathlib.Core.Path.{_≡_, sym, ap, ap₂, _∙_}
+use mathlib.Core.Path.{_≡_, refl, sym, ap, ap₂, _∙_}
 use mathlib.Core.Bool.{Bool, true, false, not, _&&_}
+use mathlib.Core.Logic.{_⊎_, inl, inr}
 use Prim.Native.Nat.{ℕ, suc, _+_, _≤_, _<_}
 use native.Mathlib.Omega.{arith}
+use native.Mathlib.Decide.{decLt}
 use native.Mathlib.Numerals.{add-one}
 use lib.Dec.{leb, ltb, eqb}
 use borrow.Author.Tests.{ltb-true, leb-true, lt-ltb, le-ltb, le-leb, lt-leb, eq-eqb, ne-eqb}
@@ -112,6 +114,18 @@ module _ (w : View) (u v : ℕ) where
         → z ≡ walkFrom (w .next) (w .count) v
         → pair s z ≡ headsOf w u v
     heads-walked s z f a b p q = sym (heads-walks (held t _ e f) a b ∙ ap₂ pair (sym p) (sym q))
+
+  -- a call that names a number that is no vertex, first or second
+  pub heads-outside : w .fit ≡ true → (w .count ≤ u) ⊎ (w .count ≤ v) → headsOf w u v ≡ refuses (plain notThere)
+  heads-outside f o = sym (go o (decLt u (w .count)))
+    where
+      missing : w .count ≤ u → refuses (plain notThere) ≡ headsOf w u v
+      missing l = heads-missing true (sym f) (plain notThere) refl l refl
+
+      go : (w .count ≤ u) ⊎ (w .count ≤ v) → Dec (u < w .count) → refuses (plain notThere) ≡ headsOf w u v
+      go o (no d) = missing (omega arith)
+      go (inl l) (yes y) = missing l
+      go (inr l) (yes y) = heads-missing2 true (sym f) (plain notThere) refl y l refl
 
   -- ---- whether two are of one group
   module _ (r : Pair) (e : saysPair r ≡ headsOf w u v) where

@@ -16,7 +16,7 @@ use Rattle.book.specs.One.{one, oneBook}
 use Rattle.book.specs.Series.{Call, Answer, Slip, State, state, Kept, putEach, after}
 use Rattle.book.specs.Series.{afterEach, joinings, answer, run, headAt, movesAt}
 use Rattle.book.proofs.Faithful.{Faithful}
-use Rattle.book.proofs.Series.{open-is, demand3}
+use Rattle.book.proofs.Series.{open-is, run-snoc, demand3}
 
 pub record Held (M : Machine) (n : ℕ) (a : M .Area) (js : List Slip) : Type 0 where
   pub start : State (M .Area)
@@ -25,11 +25,6 @@ pub record Held (M : Machine) (n : ℕ) (a : M .Area) (js : List Slip) : Type 0 
   pub calls : List Call
   pub merges : ℕ
   pub now : run M start (Call.opening ∷ calls) ≡ state a (gives tt) js merges
-
-run-snoc : (M : Machine) (s : State (M .Area)) (cs : List Call) (c : Call) → run M s (cs ++ (c ∷ [])) ≡ after M (run M s cs) c
-unfolding run
-run-snoc M s [] c = refl
-run-snoc M s (d ∷ cs) c = run-snoc M (after M s d) cs c
 
 -- a book just opened
 pub held-open : (M : Machine) (a : M .Area) → M .view a .fit ≡ true → Held M (M .view a .count) (openBook M a .area) []

@@ -18,4 +18,5 @@ pub mod Agree
 pub mod Carried
 pub mod Each
 pub mod Held
+pub mod Order
 pub mod Examples

@@ -1,6 +1,6 @@
 -- Demand 3 of every form of book that meets the equations of `Faithful.antt`. Assumes nothing.
 use mathlib.Core.Path.{_≡_, refl, sym, ap, ap₂, _∙_, subst}
-use mathlib.Core.List.{List, [], _∷_}
+use mathlib.Core.List.{List, [], _∷_, _++_}
 use mathlib.Core.Bool.{Bool, true, false, cond}
 use mathlib.Core.Logic.{_⊎_, inl, inr, _↔_}
 use Prim.Native.Nat.{ℕ, suc, _+_, _-_, _^_, _≤_, _<_}
@@ -17,8 +17,8 @@ use Rattle.basis.specs.Refusal.{Said, gives, refuses, plain, notThere}
 use Rattle.basis.specs.Scan.{each, allBelow}
 use Rattle.book.specs.Rules.{mostMoves, View, Machine, walkEnd, Step, Joining, merged, same, outcome, Each, all, stopped, EachOutcome}
 use Rattle.book.specs.Rules.{counted, behind, joinEach, walkFrom, openBook, joinBook, writeBook, decide, largest}
-use Rattle.book.specs.Series.{Call, Answer, State, state, slip, Accepted, Kept, Demand3, putEach, mergesOf, after, afterJoin}
-use Rattle.book.specs.Series.{afterEach, joinings, answer, run, headIn, movesIn, headAt, movesAt, members, shown}
+use Rattle.book.specs.Series.{Call, Answer, State, state, slip, Accepted, Kept, Demand3, putEach, mergesOf, after, afterOpen}
+use Rattle.book.specs.Series.{afterJoin, afterEach, joinings, answer, run, headIn, movesIn, headAt, movesAt, members, shown}
 use Rattle.book.proofs.Walks.{walk-head}
 use Rattle.book.proofs.Powers.{largest-low, largest-high, largest-most}
 use Rattle.book.proofs.Tally.{tally-same, tally-le}
@@ -43,6 +43,22 @@ AllAccepted M n s =
 pub open-is : (M : Machine) (a : M .Area) → M .view a .fit ≡ true → openBook M a ≡ outcome (gives tt) (M .opened a)
 unfolding openBook
 open-is M a f = simp f
+
+module _ (M : Machine) where
+  -- what an opening leaves in the areas
+  pub open-area : (s : State (M .Area)) → after M s Call.opening .area ≡ openBook M (s .area) .area
+  unfolding after
+  open-area s = go (openBook M (s .area) .said)
+    where
+      go : (d : Said (Unit {0})) → afterOpen d (openBook M (s .area) .area) s .area ≡ openBook M (s .area) .area
+      go (gives x) = refl
+      go (refuses r) = refl
+
+  -- a further call
+  pub run-snoc : (s : State (M .Area)) (cs : List Call) (c : Call) → run M s (cs ++ (c ∷ [])) ≡ after M (run M s cs) c
+  unfolding run
+  run-snoc s [] c = refl
+  run-snoc s (d ∷ cs) c = run-snoc (after M s d) cs c
 
 -- ---- joins of one vertex with each of a list are joins by a call each
 

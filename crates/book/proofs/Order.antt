@@ -1,0 +1,260 @@
+-- 02 K11: the order of entry changes no group, and a further call parts none. Both follow from demand 3. Assumes nothing.
+use mathlib.Core.Path.{_≡_, refl, sym, ap, _∙_, subst}
+use mathlib.Core.List.{List, [], _∷_, _++_, List·Memᴰ·tail}
+use mathlib.Core.Bool.{true, false}
+use mathlib.Core.Logic.{_⊎_, inl, inr, ⊎-elim}
+use Prim.Native.Nat.{ℕ, _≤_, _<_}
+use native.Mathlib.Omega.{arith}
+use native.Mathlib.Decide.{decLt}
+use lib.IntN.{ℤ}
+use lib.Dec.{eqb, leb}
+use borrow.Author.Tests.{eq-eqb, eqb-true}
+use Rattle.basis.specs.Limits.{mostVertices}
+use Rattle.basis.specs.Refusal.{Said, gives, refuses, plain, noRoom, notThere, onward}
+use Rattle.basis.specs.Closure.{Linked, by, back}
+use Rattle.basis.proofs.Closures.{linked-through, linked-within}
+use Rattle.basis.proofs.Tests.{clash, bool-cases, eqb-by}
+use Rattle.basis.proofs.Saids.{check-on, onward-passed}
+use Rattle.book.specs.Rules.{mostMoves, Machine, walkEnd, Joining, merged, same, isStop, tally, walkFrom, headOf, headsOf}
+use Rattle.book.specs.Rules.{oneHead, sameGroup, sizeAt, groupSize, groupCount, limitOf, stepLimit}
+use Rattle.book.specs.Rules.{EachOutcome, linkHeads, decide, openBook, writeBook, joinBook, joinEach}
+use Rattle.book.specs.One.{one, oneBook}
+use Rattle.book.specs.Series.{Call, Answer, Slip, State, Accepted, Kept, putEach, joinedOf, after, afterJoin, run, answer}
+use Rattle.book.specs.Series.{headIn, headAt, movesAt, members, shown}
+use Rattle.book.specs.Order.{SamePairs, GroupsAgree, OrderFree, NeverApart}
+use Rattle.book.proofs.Walks.{walk-head, walkFrom-in, stop-of}
+use Rattle.book.proofs.Tally.{tally-same, tally-into}
+use Rattle.book.proofs.Calls.{head-inside, head-unlent, head-missing, heads-inside, heads-unlent, heads-outside, count-unlent}
+use Rattle.book.proofs.Answers.{open-unchanged, join-unchanged, each-stopped}
+use Rattle.book.proofs.Series.{open-area, join-area, run-snoc, demand3}
+use Rattle.book.proofs.OneBook.{faithful-one}
+
+-- ---- the same pairs link the same vertices
+pairs-linked : {js ks : List Slip} → SamePairs js ks → {u v : ℕ} → Linked (Accepted js) u v → Linked (Accepted ks) u v
+pairs-linked p l = linked-through (λ x y m. ⊎-elim (λ k. by k) (λ k. back (by k)) (p x y .0 (inl m))) l
+
+-- ---- a book and its heads
+module _ (M : Machine) (n : ℕ) (s : State (M .Area)) (K : Kept M n s) where
+  -- a head is its own
+  own-head : (v : ℕ) → isStop (shown M s .next v) ≡ true → headAt (shown M s) v ≡ v
+  unfolding walkFrom
+  own-head v e = ap headIn (walk-head (shown M s .next) (shown M s .count) mostMoves 0 v (stop-of _ true (sym e) refl))
+
+  -- a walk ends at one
+  at-head : (v : ℕ) → v < n → isStop (shown M s .next (headAt (shown M s) v)) ≡ true
+  unfolding answer
+  at-head v l =
+      let f = walkEnd (headAt (shown M s) v) (movesAt (shown M s) v) in
+      let q : Answer.heads (headOf (shown M s) v) ≡ Answer.heads (gives f) = K .headed v l in
+      let t = head-inside (shown M s) v f cc in
+      ap isStop (walkFrom-in (shown M s .next) (shown M s .count) v f (t .1) (t .2) .1)
+
+  -- the count is theirs
+  count-heads : groupCount (shown M s) ≡ gives (tally (λ v. isStop (shown M s .next v)) n)
+  unfolding groupCount
+  count-heads = check-on (shown M s .fit) noRoom _ (K .fit) ∙ ap (λ (k : ℕ). gives (tally (λ v. isStop (shown M s .next v)) k)) (K .count)
+
+  -- a number that is no vertex
+  heads-none : (u v : ℕ) → (n ≤ u) ⊎ (n ≤ v) → headsOf (shown M s) u v ≡ refuses (plain notThere)
+  heads-none u v o = heads-outside (shown M s) u v (K .fit) (subst (λ (k : ℕ). (k ≤ u) ⊎ (k ≤ v)) (sym (K .count)) o)
+
+  size-none : (v : ℕ) → n ≤ v → groupSize (shown M s) v ≡ refuses (plain notThere)
+  unfolding groupSize
+  size-none v o =
+      ap (λ d. onward d (sizeAt (shown M s)))
+      (sym (head-missing (shown M s) v true (sym (K .fit)) (plain notThere) refl (omega (arith, K .count)) refl))
+
+-- ---- two books of n vertices in which the same pairs were joined
+record Twins (M : Machine) (n : ℕ) (s t : State (M .Area)) : Type 0 where
+  first : Kept M n s
+  second : Kept M n t
+  pairs : SamePairs (s .slips) (t .slips)
+
+module _ (M : Machine) (n : ℕ) where
+  turned : {s t : State (M .Area)} → Twins M n s t → Twins M n t s
+  turned T = record { first = T .second; second = T .first; pairs = λ u v. (T .pairs u v .1, T .pairs u v .0) }
+
+  one-head : {s t : State (M .Area)} → Twins M n s t → (u v : ℕ) → u < n → v < n → headAt (shown M s) u ≡ headAt (shown M s) v
+      → headAt (shown M t) u ≡ headAt (shown M t) v
+  one-head T u v k l e = T .second .linked u v k l .1 (pairs-linked (T .pairs) (T .first .linked u v k l .0 e))
+
+  -- a head of the first goes to its head in the second, and no two to one
+  heads-into : {s t : State (M .Area)} → Twins M n s t
+      → tally (λ v. isStop (shown M s .next v)) n ≤ tally (λ v. isStop (shown M t .next v)) n
+  heads-into {s} {t} T =
+      tally-into (λ v. isStop (shown M s .next v)) (λ v. isStop (shown M t .next v)) (headAt (shown M t)) n n
+      (λ v l _. (T .second .inside v l, at-head M n t (T .second) v l))
+      (λ u v k l p q e. sym (own-head M n s (T .first) u p) ∙ one-head (turned T) u v k l e ∙ own-head M n s (T .first) v q)
+
+module _ (M : Machine) (n : ℕ) (s t : State (M .Area)) (T : Twins M n s t) where
+  counts-same : groupCount (shown M s) ≡ groupCount (shown M t)
+  counts-same =
+      let e : tally (λ v. isStop (shown M s .next v)) n ≡ tally (λ v. isStop (shown M t .next v)) n
+      = omega (arith, heads-into M n T, heads-into M n (turned M n T)) in
+      count-heads M n s (T .first) ∙ ap gives e ∙ sym (count-heads M n t (T .second))
+
+  heads-same : (u v : ℕ) → u < n → v < n
+      → eqb (headAt (shown M s) u) (headAt (shown M s) v) ≡ eqb (headAt (shown M t) u) (headAt (shown M t) v)
+  heads-same u v k l = eqb-by _ _ _ _ (one-head M n T u v k l) (one-head M n (turned M n T) u v k l)
+
+  groups-same : (u v : ℕ) → sameGroup (shown M s) u v ≡ sameGroup (shown M t) u v
+  unfolding answer sameGroup
+  groups-same u v = go (decLt u n) (decLt v n)
+    where
+      Same : Type 0
+      Same = onward (headsOf (shown M s) u v) oneHead ≡ onward (headsOf (shown M t) u v) oneHead
+
+      out : (n ≤ u) ⊎ (n ≤ v) → Same
+      out o = ap (λ d. onward d oneHead) (heads-none M n s (T .first) u v o ∙ sym (heads-none M n t (T .second) u v o))
+
+      go : Dec (u < n) → Dec (v < n) → Same
+      go (yes k) (yes l) =
+          let e = T .first .compared u v k l ∙ ap (λ b. Answer.compares (gives b)) (heads-same u v k l)
+          ∙ sym (T .second .compared u v k l) in
+          cc
+      go (yes k) (no l) = out (inr (omega arith))
+      go (no k) d = out (inl (omega arith))
+
+  members-same : (v : ℕ) → v < n → members (shown M s) v ≡ members (shown M t) v
+  members-same v l =
+      ap (tally (λ x. eqb (headAt (shown M s) x) (headAt (shown M s) v))) (T .first .count)
+      ∙ tally-same _ _ n (λ x k. heads-same x v k l)
+      ∙ sym (ap (tally (λ x. eqb (headAt (shown M t) x) (headAt (shown M t) v))) (T .second .count))
+
+  sizes-same : (v : ℕ) → groupSize (shown M s) v ≡ groupSize (shown M t) v
+  unfolding answer
+  sizes-same v = go (decLt v n)
+    where
+      go : Dec (v < n) → groupSize (shown M s) v ≡ groupSize (shown M t) v
+      go (yes l) =
+          let e = T .first .sized v l ∙ ap (λ (k : ℕ). Answer.reads (gives k)) (members-same v l) ∙ sym (T .second .sized v l) in cc
+      go (no l) = size-none M n s (T .first) v (omega arith) ∙ sym (size-none M n t (T .second) v (omega arith))
+
+-- ---- areas that are not well lent: no call changes them
+module _ (M : Machine) where
+  join-unlent : (a : M .Area) → M .view a .fit ≡ false → (u v : ℕ) → joinBook M a u v .said ≡ refuses (plain noRoom)
+  unfolding joinBook writeBook decide
+  join-unlent a f u v =
+      ap (λ d. writeBook M (onward d (linkHeads (M .view a))) a .said)
+      (sym (heads-unlent (M .view a) u v false (sym f) (plain noRoom) refl refl))
+
+  after-unlent : (s : State (M .Area)) → shown M s .fit ≡ false → (c : Call) → after M s c .area ≡ s .area
+  unfolding after joinEach
+  after-unlent s f Call.opening = open-area M s ∙ open-unchanged M (s .area) (plain noRoom) (unfold openBook in simp f)
+  after-unlent s f (Call.joining u v) =
+      join-area M s u v ∙ join-unchanged M (s .area) u v (plain noRoom) (join-unlent (s .area) f u v)
+  after-unlent s f (Call.joiningEach u []) = refl
+  after-unlent s f (Call.joiningEach u (w ∷ ws)) =
+      let e = join-unlent (s .area) f u w in
+      ap (λ (d : EachOutcome (M .Area)). d .area) (each-stopped M u (s .area) w ws (plain noRoom) e)
+      ∙ join-unchanged M (s .area) u w (plain noRoom) e
+  after-unlent s f (Call.heading v) = refl
+  after-unlent s f (Call.comparing u v) = refl
+  after-unlent s f (Call.sizing v) = refl
+  after-unlent s f Call.counting = refl
+  after-unlent s f (Call.limiting v) = refl
+
+  run-unlent : (s : State (M .Area)) → shown M s .fit ≡ false → (cs : List Call) → shown M (run M s cs) .fit ≡ false
+  unfolding run
+  run-unlent s f [] = f
+  run-unlent s f (c ∷ cs) = run-unlent (after M s c) (ap (λ a. M .view a .fit) (after-unlent s f c) ∙ f) cs
+
+-- ---- the order of entry
+agree : (s t : State (List ℤ)) → ((u v : ℕ) → sameGroup (one (s .area)) u v ≡ sameGroup (one (t .area)) u v)
+    → ((v : ℕ) → groupSize (one (s .area)) v ≡ groupSize (one (t .area)) v) → groupCount (one (s .area)) ≡ groupCount (one (t .area))
+    → GroupsAgree s t
+unfolding answer stepLimit
+agree s t c z k = record {
+  compared = λ u v. ap Answer.compares (c u v);
+  sized = λ v. ap Answer.reads (z v);
+  counted = ap Answer.reads k;
+  limited = λ v. ap (λ d. Answer.reads (onward d limitOf)) (z v);
+}
+
+unlent-agree : (s t : State (List ℤ)) → one (s .area) .fit ≡ false → one (t .area) .fit ≡ false → GroupsAgree s t
+unlent-agree s t f g =
+    let w = one (s .area) in
+    let x = one (t .area) in
+    agree s t
+    (λ u v. unfold sameGroup in
+    ap (λ d. onward d oneHead) (sym (heads-unlent w u v false (sym f) _ refl refl) ∙ heads-unlent x u v false (sym g) _ refl refl))
+    (λ v. unfold groupSize in
+    ap (λ d. onward d (sizeAt w)) (sym (head-unlent w v false (sym f) _ refl refl))
+    ∙ ap (λ d. onward d (sizeAt x)) (head-unlent x v false (sym g) _ refl refl))
+    (sym (count-unlent w false (sym f) _ refl refl) ∙ count-unlent x false (sym g) _ refl refl)
+
+pub order-free : OrderFree
+order-free s t e cs ds P =
+    bool-cases (one (s .area) .fit) _
+    (λ f. agree _ _ (groups-same oneBook _ _ _ (twins f)) (sizes-same oneBook _ _ _ (twins f)) (counts-same oneBook _ _ _ (twins f)))
+    (λ f. unlent-agree _ _ (run-unlent oneBook s f _) (run-unlent oneBook t (sym fit ∙ f) _))
+  where
+    count : one (s .area) .count ≡ one (t .area) .count
+    count = unfold one in e
+
+    fit : one (s .area) .fit ≡ one (t .area) .fit
+    fit = unfold one in ap (λ (n : ℕ). leb n mostVertices) e
+
+    twins : one (s .area) .fit ≡ true
+        → Twins oneBook (one (s .area) .count) (run oneBook s (Call.opening ∷ cs)) (run oneBook t (Call.opening ∷ ds))
+    twins f = record {
+      first = demand3 oneBook faithful-one s f cs;
+      second = subst (λ (n : ℕ). Kept oneBook n (run oneBook t (Call.opening ∷ ds))) (sym count)
+          (demand3 oneBook faithful-one t (sym fit ∙ f) ds);
+      pairs = P;
+    }
+
+-- ---- a further call
+put-more : (u : ℕ) (ws : List ℕ) {js : List Slip} (x y : ℕ) → Accepted js x y → Accepted (putEach u ws js) x y
+unfolding putEach
+put-more u [] x y m = m
+put-more u (w ∷ ws) x y m = put-more u ws x y (List·Memᴰ·tail m)
+
+module _ (M : Machine) where
+  -- keeps the joins that were accepted
+  slips-kept : (s : State (M .Area)) (c : Call) → (c ≡ Call.opening → ⊥) → (x y : ℕ) → Accepted (s .slips) x y
+      → Accepted (after M s c .slips) x y
+  unfolding after
+  slips-kept s Call.opening d x y m = absurd (d refl)
+  slips-kept s (Call.joining u v) d x y m = go (joinBook M (s .area) u v .said)
+    where
+      go : (j : Said Joining) → Accepted (afterJoin u v j (joinBook M (s .area) u v .area) s .slips) x y
+      go (gives merged) = List·Memᴰ·tail m
+      go (gives same) = List·Memᴰ·tail m
+      go (refuses r) = m
+  slips-kept s (Call.joiningEach u ws) d x y m = put-more u (joinedOf ws (joinEach M (s .area) u ws .said)) x y m
+  slips-kept s (Call.heading v) d x y m = m
+  slips-kept s (Call.comparing u v) d x y m = m
+  slips-kept s (Call.sizing v) d x y m = m
+  slips-kept s Call.counting d x y m = m
+  slips-kept s (Call.limiting v) d x y m = m
+
+  -- and the groups
+  kept-together : (n : ℕ) (s : State (M .Area)) (c : Call) → Kept M n s → Kept M n (after M s c) → (c ≡ Call.opening → ⊥) → (u v : ℕ)
+      → u < n → v < n → answer M s (Call.comparing u v) ≡ Answer.compares (gives true)
+      → answer M (after M s c) (Call.comparing u v) ≡ Answer.compares (gives true)
+  kept-together n s c K J d u v k l e =
+      let q : Answer.compares (gives (eqb (headAt (shown M s) u) (headAt (shown M s) v))) ≡ Answer.compares (gives true)
+      = sym (K .compared u v k l) ∙ e in
+      let h : eqb (headAt (shown M s) u) (headAt (shown M s) v) ≡ true = cc in
+      let g = J .linked u v k l .1 (linked-within (slips-kept s c d) (K .linked u v k l .0 (eqb-true _ _ h))) in
+      J .compared u v k l ∙ ap (λ b. Answer.compares (gives b)) (eq-eqb _ _ g)
+
+  -- what is compared is of the book
+  compared-inside : (s : State (M .Area)) (u v : ℕ) → answer M s (Call.comparing u v) ≡ Answer.compares (gives true)
+      → (shown M s .fit ≡ true) × (u < shown M s .count) × (v < shown M s .count)
+  unfolding answer sameGroup
+  compared-inside s u v e =
+      let p = onward-passed (headsOf (shown M s) u v) oneHead true cc in
+      let t = heads-inside (shown M s) u v (p .0 .first) (p .0 .second) (p .1) in
+      (t .0, t .1, t .2)
+
+pub never-apart : NeverApart
+never-apart s cs c d u v e =
+    let i = compared-inside oneBook (run oneBook s (Call.opening ∷ cs)) u v e in
+    bool-cases (one (s .area) .fit) _
+    (λ f.
+    let K = demand3 oneBook faithful-one s f in
+    let J = subst (Kept oneBook _) (run-snoc oneBook s (Call.opening ∷ cs) c) (K (cs ++ (c ∷ []))) in
+    kept-together oneBook _ _ c (K cs) J d u v (omega (arith, i .1, K cs .count)) (omega (arith, i .2, K cs .count)) e)
+    (λ f. clash (i .0) (run-unlent oneBook s f (Call.opening ∷ cs)))
