@@ -207,7 +207,7 @@ pub fn entry(dice: &mut Dice, n: usize) -> i64 {
 /// more.
 fn trees(dice: &mut Dice, n: usize, moves: usize, closed: bool) -> Vec<i64> {
     let mut order: Vec<usize> = (0..n).collect();
-    (1..n).for_each(|i| order.swap(i, dice.below(i + 1)));
+    dice.shuffle(&mut order);
     let (mut area, mut size) = (vec![0; n], 1 + dice.below(n));
     for (i, &v) in order.iter().enumerate() {
         let parent = match i {

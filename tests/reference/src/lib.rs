@@ -4,6 +4,7 @@ pub mod big;
 pub mod book;
 pub mod claims;
 pub mod dice;
+pub mod groups;
 pub mod kernels;
 pub mod lists;
 pub mod places;

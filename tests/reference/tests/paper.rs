@@ -1,6 +1,7 @@
 //! The paper's own examples.
 
 use reference::dice::Dice;
+use reference::groups::groups;
 use reference::places::{self, Form};
 use reference::{book::Book, claims, kernels, lists, plain, sheet, two_areas, Refusal, DESK};
 
@@ -149,6 +150,44 @@ fn damaged_books_k9() {
 
     // a vertex that isn't there comes before a walk that does not end
     assert_eq!((book(&[0]).join(0, 1), book(&[0]).join(0, 0)), (Err(plain(10)), Err(unsound)));
+}
+
+/// A book of any content, opened, and these slips entered.
+fn entered(n: usize, slips: &[(usize, usize)]) -> Book {
+    let mut book = Book { entries: vec![7; n] };
+    book.open().unwrap();
+    for &(u, v) in slips {
+        book.join(u, v).unwrap();
+    }
+    book
+}
+
+/// The same pairs in any order, either way round, with repeats: heads and walks may differ, what is told of groups does not, and is what
+/// the pairs alone say.
+#[test]
+fn order_of_entry_k11() {
+    let (one, other) = (entered(3, &[(0, 1), (1, 2)]), entered(3, &[(2, 1), (1, 0), (1, 2)]));
+    assert_eq!([one.head(0), one.head(1), one.head(2)], [Ok((0, 0)), Ok((0, 1)), Ok((0, 1))]);
+    assert_eq!([other.head(0), other.head(1), other.head(2)], [Ok((1, 1)), Ok((1, 0)), Ok((1, 1))]);
+    for book in [one, other] {
+        assert_eq!((book.same(0, 2), book.size(0), book.count(), book.limit(2)), (Ok(true), Ok(3), Ok(1), Ok(1)));
+        assert_eq!((book.same(0, 3), book.size(3), book.limit(3)), (Err(plain(10)), Err(plain(10)), Err(plain(10))));
+    }
+    for seed in 0..2_000 {
+        let (mut dice, n) = (Dice::new(seed), 1 + seed as usize % 30);
+        let pairs: Vec<(usize, usize)> = (0..dice.below(2 * n)).map(|_| (dice.below(n), dice.below(n))).collect();
+        let group = groups(n, &pairs);
+        let size = |v: usize| (0..n).filter(|&u| group[u] == group[v]).count();
+        let mut slips: Vec<(usize, usize)> = pairs.iter().flat_map(|&(u, v)| [(u, v), (v, u)]).collect();
+        dice.shuffle(&mut slips);
+        for book in [entered(n, &pairs), entered(n, &slips)] {
+            assert_eq!(book.count(), Ok((0..n).filter(|&v| group[v] == v).count()));
+            for v in 0..n {
+                assert_eq!((book.size(v), book.limit(v)), (Ok(size(v)), Ok((size(v) as f64).log2() as usize)));
+                (0..n).for_each(|u| assert_eq!(book.same(u, v), Ok(group[u] == group[v])));
+            }
+        }
+    }
 }
 
 #[test]
