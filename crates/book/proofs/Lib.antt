@@ -18,5 +18,4 @@ pub mod Agree
 pub mod Carried
 pub mod Each
 pub mod Held
-pub mod Order
 pub mod Examples

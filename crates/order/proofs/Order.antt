@@ -15,19 +15,20 @@ use Rattle.basis.specs.Closure.{Linked, by, back}
 use Rattle.basis.proofs.Closures.{linked-through, linked-within}
 use Rattle.basis.proofs.Tests.{clash, bool-cases, eqb-by}
 use Rattle.basis.proofs.Saids.{check-on, onward-passed}
 use Rattle.book.specs.Rules.{mostMoves, Machine, walkEnd, Joining, merged, same, isStop, tally, walkFrom, headOf, headsOf}
 use Rattle.book.specs.Rules.{oneHead, sameGroup, sizeAt, groupSize, groupCount, limitOf, stepLimit}
 use Rattle.book.specs.Rules.{EachOutcome, linkHeads, decide, openBook, writeBook, joinBook, joinEach}
 use Rattle.book.specs.One.{one, oneBook}
 use Rattle.book.specs.Series.{Call, Answer, Slip, State, Accepted, Kept, putEach, joinedOf, after, afterJoin, run, answer}
 use Rattle.book.specs.Series.{headIn, headAt, movesAt, members, shown}
-use Rattle.book.specs.Order.{SamePairs, GroupsAgree, OrderFree, NeverApart}
+use Rattle.order.specs.Order.{SamePairs, GroupsAgree, OrderFree, NeverApart}
 use Rattle.book.proofs.Walks.{walk-head, walkFrom-in, stop-of}
-use Rattle.book.proofs.Tally.{tally-same, tally-into}
+use Rattle.book.proofs.Tally.{tally-same}
 use Rattle.book.proofs.Calls.{head-inside, head-unlent, head-missing, heads-inside, heads-unlent, heads-outside, count-unlent}
 use Rattle.book.proofs.Answers.{open-unchanged, join-unchanged, each-stopped}
 use Rattle.book.proofs.Series.{open-area, join-area, run-snoc, demand3}
 use Rattle.book.proofs.OneBook.{faithful-one}
+use Rattle.order.proofs.Counts.{tally-into}
 
 -- ---- the same pairs link the same vertices
 pairs-linked : {js ks : List Slip} → SamePairs js ks → {u v : ℕ} → Linked (Accepted js) u v → Linked (Accepted ks) u v
