@@ -5,15 +5,16 @@ use mathlib.Core.Bool.{true, false}
 use mathlib.Core.Logic.{_⊎_, inl, inr, ⊎-elim}
 use Prim.Native.Nat.{ℕ, _≤_, _<_}
 use native.Mathlib.Omega.{arith}
-use native.Mathlib.Decide.{decLt}
+use native.Mathlib.Decide.{decLe, decLt}
 use lib.IntN.{ℤ}
-use lib.Dec.{eqb, leb}
-use borrow.Author.Tests.{eq-eqb, eqb-true}
+use lib.ListN.{length}
+use lib.Dec.{eqb}
+use borrow.Author.Tests.{lt-leb, eq-eqb, eqb-true}
 use Rattle.basis.specs.Limits.{mostVertices}
 use Rattle.basis.specs.Refusal.{Said, gives, refuses, plain, noRoom, notThere, onward}
 use Rattle.basis.specs.Closure.{Linked, by, back}
 use Rattle.basis.proofs.Closures.{linked-through, linked-within}
-use Rattle.basis.proofs.Tests.{clash, bool-cases, eqb-by}
+use Rattle.basis.proofs.Tests.{clash, eqb-by}
 use Rattle.basis.proofs.Saids.{check-on, onward-passed}
 use Rattle.book.specs.Rules.{mostMoves, Machine, walkEnd, Joining, merged, same, isStop, tally, walkFrom, headOf, headsOf}
 use Rattle.book.specs.Rules.{oneHead, sameGroup, sizeAt, groupSize, groupCount, limitOf, stepLimit}
@@ -26,8 +27,8 @@ use Rattle.book.proofs.Walks.{walk-head, walkFrom-in, stop-of}
 use Rattle.book.proofs.Tally.{tally-same}
 use Rattle.book.proofs.Calls.{head-inside, head-unlent, head-missing, heads-inside, heads-unlent, heads-outside, count-unlent}
 use Rattle.book.proofs.Answers.{open-unchanged, join-unchanged, each-stopped}
-use Rattle.book.proofs.Series.{open-area, join-area, run-snoc, demand3}
-use Rattle.book.proofs.OneBook.{faithful-one}
+use Rattle.book.proofs.Series.{open-area, join-area, run-snoc}
+use Rattle.book.proofs.OneBook.{demand3-one}
 use Rattle.order.proofs.Counts.{tally-into}
 
 -- ---- the same pairs link the same vertices
@@ -184,26 +185,28 @@ unlent-agree s t f g =
     ∙ ap (λ d. onward d (sizeAt x)) (head-unlent x v false (sym g) _ refl refl))
     (sym (count-unlent w false (sym f) _ refl refl) ∙ count-unlent x false (sym g) _ refl refl)
 
+-- an area that is too long
+unlent : (xs : List ℤ) → (length xs ≤ mostVertices → ⊥) → one xs .fit ≡ false
+unfolding one
+unlent xs k = lt-leb (length xs) mostVertices (omega arith)
+
 pub order-free : OrderFree
-order-free s t e cs ds P =
-    bool-cases (one (s .area) .fit) _
-    (λ f. agree _ _ (groups-same oneBook _ _ _ (twins f)) (sizes-same oneBook _ _ _ (twins f)) (counts-same oneBook _ _ _ (twins f)))
-    (λ f. unlent-agree _ _ (run-unlent oneBook s f _) (run-unlent oneBook t (sym fit ∙ f) _))
+order-free s t e cs ds P = go (decLe (length (s .area)) mostVertices)
   where
-    count : one (s .area) .count ≡ one (t .area) .count
-    count = unfold one in e
-
-    fit : one (s .area) .fit ≡ one (t .area) .fit
-    fit = unfold one in ap (λ (n : ℕ). leb n mostVertices) e
-
-    twins : one (s .area) .fit ≡ true
-        → Twins oneBook (one (s .area) .count) (run oneBook s (Call.opening ∷ cs)) (run oneBook t (Call.opening ∷ ds))
-    twins f = record {
-      first = demand3 oneBook faithful-one s f cs;
-      second = subst (λ (n : ℕ). Kept oneBook n (run oneBook t (Call.opening ∷ ds))) (sym count)
-          (demand3 oneBook faithful-one t (sym fit ∙ f) ds);
+    twins : length (s .area) ≤ mostVertices
+        → Twins oneBook (length (s .area)) (run oneBook s (Call.opening ∷ cs)) (run oneBook t (Call.opening ∷ ds))
+    twins l = record {
+      first = demand3-one s l cs;
+      second = subst (λ (n : ℕ). Kept oneBook n (run oneBook t (Call.opening ∷ ds))) (sym e) (demand3-one t (omega (arith, e)) ds);
       pairs = P;
     }
+
+    go : Dec (length (s .area) ≤ mostVertices) → GroupsAgree (run oneBook s (Call.opening ∷ cs)) (run oneBook t (Call.opening ∷ ds))
+    go (yes l) =
+        agree _ _ (groups-same oneBook _ _ _ (twins l)) (sizes-same oneBook _ _ _ (twins l)) (counts-same oneBook _ _ _ (twins l))
+    go (no k) =
+        unlent-agree _ _ (run-unlent oneBook s (unlent (s .area) k) _)
+        (run-unlent oneBook t (unlent (t .area) (λ l. k (omega (arith, e)))) _)
 
 -- ---- a further call
 put-more : (u : ℕ) (ws : List ℕ) {js : List Slip} (x y : ℕ) → Accepted js x y → Accepted (putEach u ws js) x y
@@ -251,11 +254,17 @@ module _ (M : Machine) where
       (t .0, t .1, t .2)
 
 pub never-apart : NeverApart
-never-apart s cs c d u v e =
-    let i = compared-inside oneBook (run oneBook s (Call.opening ∷ cs)) u v e in
-    bool-cases (one (s .area) .fit) _
-    (λ f.
-    let K = demand3 oneBook faithful-one s f in
-    let J = subst (Kept oneBook _) (run-snoc oneBook s (Call.opening ∷ cs) c) (K (cs ++ (c ∷ []))) in
-    kept-together oneBook _ _ c (K cs) J d u v (omega (arith, i .1, K cs .count)) (omega (arith, i .2, K cs .count)) e)
-    (λ f. clash (i .0) (run-unlent oneBook s f (Call.opening ∷ cs)))
+never-apart s cs c d u v e = go (decLe (length (s .area)) mostVertices)
+  where
+    r : State (List ℤ)
+    r = run oneBook s (Call.opening ∷ cs)
+
+    i : (shown oneBook r .fit ≡ true) × (u < shown oneBook r .count) × (v < shown oneBook r .count)
+    i = compared-inside oneBook r u v e
+
+    go : Dec (length (s .area) ≤ mostVertices) → answer oneBook (after oneBook r c) (Call.comparing u v) ≡ Answer.compares (gives true)
+    go (yes l) =
+        let K = demand3-one s l cs in
+        let J = subst (Kept oneBook _) (run-snoc oneBook s (Call.opening ∷ cs) c) (demand3-one s l (cs ++ (c ∷ []))) in
+        kept-together oneBook _ r c K J d u v (omega (arith, i .1, K .count)) (omega (arith, i .2, K .count)) e
+    go (no k) = clash (i .0) (run-unlent oneBook s (unlent (s .area) k) (Call.opening ∷ cs))
