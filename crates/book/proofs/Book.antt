@@ -1,5 +1,5 @@
 -- A book of any form keeps the invariant of `Forest.antt`, and what the invariant says of each call's answer. Assumes nothing.
-use mathlib.Core.Path.{_≡_, refl, sym, ap, ap₂, _∙_, subst}
+use mathlib.Core.Path.{_≡_, refl, sym, ap, ap₂, _∙_}
 use mathlib.Core.List.{List, [], _∷_}
 use mathlib.Core.Bool.{Bool, true, false}
 use mathlib.Core.Logic.{_⊎_, inl, inr, _↔_}
@@ -105,8 +105,7 @@ module _ (n : ℕ) (w : View) (js : List Slip) (m : ℕ) (S : Sound n w js m) wh
   -- a join that names no vertex of the book is refused
   pub join-outside : (u v : ℕ) → (n ≤ u) ⊎ (n ≤ v) → decide w u v ≡ refuses (plain notThere)
   unfolding decide
-  join-outside u v o =
-      ap (λ s. onward s (linkHeads w)) (heads-outside w u v (S .fit) (subst (λ (k : ℕ). (k ≤ u) ⊎ (k ≤ v)) (sym (S .count)) o))
+  join-outside u v o = ap (λ s. onward s (linkHeads w)) (heads-outside w u v n (S .fit) (S .count) o)
 
 -- ---- a join
 

@@ -115,17 +115,17 @@ module _ (w : View) (u v : ℕ) where
         → pair s z ≡ headsOf w u v
     heads-walked s z f a b p q = sym (heads-walks (held t _ e f) a b ∙ ap₂ pair (sym p) (sym q))
 
-  -- a call that names a number that is no vertex, first or second
-  pub heads-outside : w .fit ≡ true → (w .count ≤ u) ⊎ (w .count ≤ v) → headsOf w u v ≡ refuses (plain notThere)
-  heads-outside f o = sym (go o (decLt u (w .count)))
+  -- a call that names, first or second, a number that is none of the n vertices
+  pub heads-outside : (n : ℕ) → w .fit ≡ true → w .count ≡ n → (n ≤ u) ⊎ (n ≤ v) → headsOf w u v ≡ refuses (plain notThere)
+  heads-outside n f c o = sym (go o (decLt u (w .count)))
     where
       missing : w .count ≤ u → refuses (plain notThere) ≡ headsOf w u v
       missing l = heads-missing true (sym f) (plain notThere) refl l refl
 
-      go : (w .count ≤ u) ⊎ (w .count ≤ v) → Dec (u < w .count) → refuses (plain notThere) ≡ headsOf w u v
+      go : (n ≤ u) ⊎ (n ≤ v) → Dec (u < w .count) → refuses (plain notThere) ≡ headsOf w u v
       go o (no d) = missing (omega arith)
-      go (inl l) (yes y) = missing l
-      go (inr l) (yes y) = heads-missing2 true (sym f) (plain notThere) refl y l refl
+      go (inl l) (yes y) = missing (omega (arith, c))
+      go (inr l) (yes y) = heads-missing2 true (sym f) (plain notThere) refl y (omega (arith, c)) refl
 
   -- ---- whether two are of one group
   module _ (r : Pair) (e : saysPair r ≡ headsOf w u v) where

@@ -35,7 +35,7 @@ use Rattle.book.proofs.Joins.{link-merged, one-linked, one-first, one-s
 
 -- ---- a join whose heads are not found is refused
 module _ (M : Machine) (a : M .Area) (u : ℕ) where
-  join-lost : (w : ℕ) (r : Refusal) → refuses r ≡ headsOf (M .view a) u w → outcome (refuses r) a ≡ joinBook M a u w
+  pub join-lost : (w : ℕ) (r : Refusal) → refuses r ≡ headsOf (M .view a) u w → outcome (refuses r) a ≡ joinBook M a u w
   unfolding joinBook decide writeBook
   join-lost w r e = ap (λ s. writeBook M (onward s (linkHeads (M .view a))) a) e
 

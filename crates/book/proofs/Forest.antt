@@ -16,7 +16,7 @@ use Rattle.basis.specs.Closure.{Linked, itself, by, back, on}
 use Rattle.basis.proofs.Closures.{linked-within}
 use Rattle.book.specs.Series.{Slip, slip, Accepted}
 use Rattle.book.proofs.Walks.{walk-head, walk-move}
-use Rattle.book.proofs.Tally.{tally-sum, tally-same, tally-all, tally-one}
+use Rattle.book.proofs.Tally.{tally-sum, tally-same, tally-all, tally-one, tally-less}
 
 -- ---- from a vertex to its head in k moves
 
@@ -233,16 +233,9 @@ module _ (n : ℕ) (next next′ : ℕ → Next) (size size′ : ℕ → ℕ) (j
       omega (
         arith,
         F .counted,
-        tally-one under n under-in,
-        tally-sum (λ x. isStop (next′ x)) (λ x. eqb x under) (λ x. isStop (next x)) n (λ x _. bits x (ℕ-discrete x under)),
+        tally-less (λ x. isStop (next′ x)) (λ x. isStop (next x)) under n under-in (ap isStop at) (ap isStop under-head)
+            (λ x q. ap isStop (off x q)),
       )
-    where
-      bits : (x : ℕ) → Dec (x ≡ under) → bit (isStop (next x)) ≡ bit (isStop (next′ x)) + bit (eqb x under)
-      bits x (yes q) =
-          let d : next′ x ≡ to top = ap next′ q ∙ at in
-          let a : next x ≡ stop = ap next q ∙ under-head in
-          simp (d, a, eq-eqb _ _ q)
-      bits x (no q) = simp (off x q, ne-eqb _ _ q) (omega arith)
 
   pub forest-merged : Forest n next′ size′ (slip u v ∷ js) (suc m)
   forest-merged = record {

@@ -2,7 +2,7 @@
 -- Its areas stay shut; what is known of them is `Kept`.
 -- Assumes nothing.
 use mathlib.Core.Path.{_≡_, refl, sym, ap, _∙_, subst}
-use mathlib.Core.List.{List, [], _∷_, _++_}
+use mathlib.Core.List.{List, [], _∷_, _++_, List·Memᴰ, List·Memᴰ·tail}
 use mathlib.Core.Bool.{true}
 use Prim.Native.Nat.{ℕ, _+_, _-_, _≤_, _<_}
 use lib.IntN.{ℤ}
@@ -13,10 +13,16 @@ use Rattle.basis.specs.Refusal.{gives}
 use Rattle.basis.specs.Scan.{allBelow}
 use Rattle.book.specs.Rules.{Machine, walkEnd, Each, all, openBook, joinEach, headOf}
 use Rattle.book.specs.One.{one, oneBook}
-use Rattle.book.specs.Series.{Call, Answer, Slip, State, state, Kept, putEach, after}
+use Rattle.book.specs.Series.{Call, Answer, Slip, slip, State, state, Kept, putEach, after}
 use Rattle.book.specs.Series.{afterEach, joinings, answer, run, headAt, movesAt}
 use Rattle.book.proofs.Faithful.{Faithful}
 use Rattle.book.proofs.Series.{open-is, run-snoc, demand3}
+
+-- joins that stood on the list stand there still
+pub put-old : (u : ℕ) (ws : List ℕ) (js : List Slip) (s : Slip) → List·Memᴰ s js → List·Memᴰ s (putEach u ws js)
+unfolding putEach
+put-old u [] js s m = m
+put-old u (w ∷ ws) js s m = put-old u ws (slip u w ∷ js) s (List·Memᴰ·tail m)
 
 pub record Held (M : Machine) (n : ℕ) (a : M .Area) (js : List Slip) : Type 0 where
   pub start : State (M .Area)

@@ -15,8 +15,8 @@ use Rattle.basis.proofs.Tests.{and-first, and-second}
 use Rattle.basis.specs.declared.refusal.Refusal.{Refusal}
 use Rattle.basis.specs.Refusal.{Said, gives, refuses, plain, notThere}
 use Rattle.basis.specs.Scan.{each, allBelow}
-use Rattle.book.specs.Rules.{mostMoves, View, Machine, walkEnd, Step, Joining, merged, same, outcome, Each, all, stopped, EachOutcome}
-use Rattle.book.specs.Rules.{counted, behind, joinEach, walkFrom, openBook, joinBook, writeBook, decide, largest}
+use Rattle.book.specs.Rules.{mostMoves, stop, View, Machine, walkEnd, Step, Joining, merged, same, outcome, Each, all, stopped}
+use Rattle.book.specs.Rules.{EachOutcome, counted, behind, joinEach, walkFrom, openBook, joinBook, writeBook, decide, largest}
 use Rattle.book.specs.Series.{Call, Answer, State, state, slip, Accepted, Kept, Demand3, putEach, mergesOf, after, afterOpen}
 use Rattle.book.specs.Series.{afterJoin, afterEach, joinings, answer, run, headIn, movesIn, headAt, movesAt, members, shown}
 use Rattle.book.proofs.Walks.{walk-head}
@@ -38,6 +38,11 @@ AllAccepted M n s =
     (u : ℕ) (ws : List ℕ) → u < n → allBelow n ws ≡ true
     → (answer M s (Call.joiningEach u ws) ≡ Answer.joinsEach (all (run M s (joinings u ws) .merges - s .merges)))
     × (after M s (Call.joiningEach u ws) ≡ run M s (joinings u ws))
+
+-- a head is its own
+pub own-head : (w : View) (v : ℕ) → w .next v ≡ stop → headAt w v ≡ v
+unfolding walkFrom
+own-head w v e = ap headIn (walk-head (w .next) (w .count) mostMoves 0 v e)
 
 -- areas that are well lent are opened
 pub open-is : (M : Machine) (a : M .Area) → M .view a .fit ≡ true → openBook M a ≡ outcome (gives tt) (M .opened a)
@@ -251,11 +256,7 @@ module _ (M : Machine) (n : ℕ) (s : State (M .Area)) (W : Whole M n s) where
       )
 
   kept-settled : (v : ℕ) → v < n → headAt (M .view (s .area)) (headAt (M .view (s .area)) v) ≡ headAt (M .view (s .area)) v
-  kept-settled v l =
-      let e : walkFrom (M .view (s .area) .next) (M .view (s .area) .count) (W .forest .head v) ≡ gives (walkEnd (W .forest .head v) 0)
-      = unfold walkFrom in walk-head (M .view (s .area) .next) (M .view (s .area) .count) mostMoves 0 (W .forest .head v)
-      (head-in n _ _ _ W v l .1) in
-      rw (head-is v l) (ap headIn e)
+  kept-settled v l = rw (head-is v l) (own-head (M .view (s .area)) (W .forest .head v) (head-in n _ _ _ W v l .1))
 
   whole-kept : s .latest ≡ gives tt → AllAccepted M n s → Kept M n s
   unfolding answer

@@ -1,7 +1,7 @@
 -- Laws of `tally`, the count of the numbers below n that pass a test. Assumes nothing.
-use mathlib.Core.Path.{_≡_, refl, ap}
+use mathlib.Core.Path.{_≡_, refl, ap, _∙_}
 use mathlib.Core.Bool.{Bool, true, false, cond}
-use Prim.Native.Nat.{ℕ, zero, suc, _+_, _-_, _≤_, _<_}
+use Prim.Native.Nat.{ℕ, zero, suc, _+_, _≤_, _<_}
 use native.Mathlib.Omega.{arith}
 use native.Mathlib.Decide.{ℕ-discrete}
 use lib.Dec.{eqb}
@@ -77,3 +77,12 @@ tally-one h (suc n) l = go (ℕ-discrete n h) (λ m. tally-one h n m)
           tally-none (λ x. eqb x h) n (λ x m. ne-eqb x h (λ r. omega arith)),
         )
     go (no q) ih = omega (arith, tally-step (λ x. eqb x h) n, ap bit (ne-eqb n h q), ih (omega arith))
+
+-- a test that one number less passes
+pub tally-less : (p q : ℕ → Bool) (y n : ℕ) → y < n → p y ≡ false → q y ≡ true → ((x : ℕ) → (x ≡ y → ⊥) → p x ≡ q x)
+    → tally q n ≡ tally p n + 1
+tally-less p q y n l a b h = omega (arith, tally-one y n l, tally-sum p (λ x. eqb x y) q n (λ x _. go x (ℕ-discrete x y)))
+  where
+    go : (x : ℕ) → Dec (x ≡ y) → bit (q x) ≡ bit (p x) + bit (eqb x y)
+    go x (yes r) = simp (eq-eqb _ _ r, ap q r ∙ b, ap p r ∙ a)
+    go x (no r) = simp (ne-eqb _ _ r, h x r) (omega arith)

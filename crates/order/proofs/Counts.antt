@@ -1,27 +1,20 @@
--- No fewer numbers pass one test than another, where they can be told apart by it. Assumes nothing.
-use mathlib.Core.Path.{_≡_, ap, _∙_}
+-- Where the numbers that pass one test go to numbers that pass another, no two to one, no fewer pass the other. Assumes nothing.
+use mathlib.Core.Path.{_≡_, refl}
 use mathlib.Core.Bool.{Bool, true, false, cond}
 use Prim.Native.Nat.{ℕ, zero, suc, _+_, _≤_, _<_}
 use native.Mathlib.Omega.{arith}
-use native.Mathlib.Decide.{ℕ-discrete}
 use lib.Dec.{eqb}
 use borrow.Author.Tests.{eq-eqb, ne-eqb}
-use Rattle.basis.specs.Scan.{bit}
 use Rattle.basis.proofs.Tests.{bool-cases}
 use Rattle.book.specs.Rules.{tally}
-use Rattle.book.proofs.Tally.{tally-yes, tally-no, tally-sum, tally-one}
+use Rattle.book.proofs.Tally.{tally-yes, tally-no, tally-less}
 
--- the test without one number that passes it
+-- the test without one number
 abbrev but : ℕ → (ℕ → Bool) → ℕ → Bool
 but y q x = cond (eqb x y) false (q x)
 
 tally-but : (q : ℕ → Bool) (y n : ℕ) → y < n → q y ≡ true → tally q n ≡ tally (but y q) n + 1
-tally-but q y n l e =
-    omega (arith, tally-one y n l, tally-sum (but y q) (λ x. eqb x y) q n (λ x _. go x (ℕ-discrete x y)))
-  where
-    go : (x : ℕ) → Dec (x ≡ y) → bit (q x) ≡ bit (but y q x) + bit (eqb x y)
-    go x (yes r) = simp (eq-eqb _ _ r, ap q r ∙ e)
-    go x (no r) = simp (ne-eqb _ _ r) (omega arith)
+tally-but q y n l e = tally-less (but y q) q y n l (simp (eq-eqb y y refl)) e (λ x r. simp (ne-eqb x y r))
 
 -- where f sends the numbers that pass p to numbers that pass q, and no two to one, no fewer pass q
 pub tally-into : (p q : ℕ → Bool) (f : ℕ → ℕ) (n m : ℕ)

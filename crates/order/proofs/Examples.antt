@@ -13,14 +13,14 @@ use Rattle.book.specs.Series.{Call, Answer, Slip, slip, State, state, putEach, 
 use Rattle.order.specs.Order.{Paired, SamePairs, GroupsAgree}
 use Rattle.order.proofs.Order.{order-free}
 
--- ---- "Two clerks enter the same slips in different orders": three lots, 1 joined with 0 and with 2, in areas of any content
+-- ---- "Two clerks enter the same slips in different orders": three lots, 1 joined with 0 and with 2, in an area that held other things
 abbrev three : State (List ℤ)
 three = state (pos 0 ∷ pos 7 ∷ negsuc 9 ∷ []) (gives tt) [] 0
 
 abbrev oneClerk : List Call
 oneClerk = Call.opening ∷ Call.joining 0 1 ∷ Call.joining 1 2 ∷ []
 
--- the other's slips the other way round, one of them twice, with a question and a slip of no lot between
+-- the slips of the other: the other way round, one of them twice, with a question between and a slip that names no lot of the book
 abbrev otherClerk : List Call
 otherClerk = Call.opening ∷ Call.joining 2 1 ∷ Call.comparing 0 2 ∷ Call.joining 0 3 ∷ Call.joiningEach 1 (0 ∷ 2 ∷ []) ∷ []
 
@@ -49,7 +49,7 @@ unfolding answers answer headOf run after openBook joinBook writeBook decide hea
     nextHere sizeHere putEach behind andOn joinEach
 other-walks = refl
 
--- the answers that agree, that of no lot among them
+-- the answers that agree, a refusal among them
 abbrev asked : List Call
 asked = Call.comparing 0 2 ∷ Call.sizing 0 ∷ Call.counting ∷ Call.limiting 2 ∷ Call.comparing 0 3 ∷ []
 
@@ -93,6 +93,6 @@ either-way h u v p = ⊎-elim (λ m. h u v m) (λ m. ⊎-elim inr inl (h v u m))
 pub clerks-pairs : SamePairs (run oneBook three oneClerk .slips) (run oneBook three otherClerk .slips)
 clerks-pairs u v = rw (one-slips, other-slips) (either-way ones-paired u v, either-way others-paired u v)
 
--- so each such answer agrees, of whatever is asked
+-- so the books agree, whatever else is asked of groups
 pub clerks-agree : GroupsAgree (run oneBook three oneClerk) (run oneBook three otherClerk)
-clerks-agree = order-free three three refl _ _ clerks-pairs
+clerks-agree = order-free three three refl _ _ (λ _. clerks-pairs)

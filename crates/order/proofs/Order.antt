@@ -1,4 +1,5 @@
--- 02 K11: the order of entry changes no group, and a further call parts none. Both follow from demand 3. Assumes nothing.
+-- 02 K11: the order of entry changes no group, and no further call separates two of one group. Both follow from demand 3.
+-- Assumes nothing.
 use mathlib.Core.Path.{_≡_, refl, sym, ap, _∙_, subst}
 use mathlib.Core.List.{List, [], _∷_, _++_, List·Memᴰ·tail}
 use mathlib.Core.Bool.{true, false}
@@ -15,20 +16,22 @@ use Rattle.basis.specs.Refusal.{Said, gives, refuses, plain, noRoom, notThere, 
 use Rattle.basis.specs.Closure.{Linked, by, back}
 use Rattle.basis.proofs.Closures.{linked-through, linked-within}
 use Rattle.basis.proofs.Tests.{clash, eqb-by}
-use Rattle.basis.proofs.Saids.{check-on, onward-passed}
-use Rattle.book.specs.Rules.{mostMoves, Machine, walkEnd, Joining, merged, same, isStop, tally, walkFrom, headOf, headsOf}
+use Rattle.basis.proofs.Saids.{onward-passed}
+use Rattle.book.specs.Rules.{View, Machine, walkEnd, Joining, merged, same, isStop, tally, headOf, headsOf}
 use Rattle.book.specs.Rules.{oneHead, sameGroup, sizeAt, groupSize, groupCount, limitOf, stepLimit}
-use Rattle.book.specs.Rules.{EachOutcome, linkHeads, decide, openBook, writeBook, joinBook, joinEach}
+use Rattle.book.specs.Rules.{Outcome, EachOutcome, openBook, joinBook, joinEach}
 use Rattle.book.specs.One.{one, oneBook}
-use Rattle.book.specs.Series.{Call, Answer, Slip, State, Accepted, Kept, putEach, joinedOf, after, afterJoin, run, answer}
-use Rattle.book.specs.Series.{headIn, headAt, movesAt, members, shown}
+use Rattle.book.specs.Series.{Call, Answer, Slip, State, Accepted, Kept, joinedOf, after, afterJoin, run, answer}
+use Rattle.book.specs.Series.{headAt, movesAt, members, shown}
 use Rattle.order.specs.Order.{SamePairs, GroupsAgree, OrderFree, NeverApart}
-use Rattle.book.proofs.Walks.{walk-head, walkFrom-in, stop-of}
+use Rattle.book.proofs.Walks.{walkFrom-in, stop-of}
 use Rattle.book.proofs.Tally.{tally-same}
-use Rattle.book.proofs.Calls.{head-inside, head-unlent, head-missing, heads-inside, heads-unlent, heads-outside, count-unlent}
-use Rattle.book.proofs.Answers.{open-unchanged, join-unchanged, each-stopped}
-use Rattle.book.proofs.Series.{open-area, join-area, run-snoc}
+use Rattle.book.proofs.Calls.{head-inside, head-unlent, head-missing, heads-inside, heads-unlent, heads-outside, count-unlent, count-is}
+use Rattle.book.proofs.Answers.{open-unchanged}
+use Rattle.book.proofs.Series.{own-head, open-area, join-area, run-snoc}
 use Rattle.book.proofs.OneBook.{demand3-one}
+use Rattle.book.proofs.Each.{join-lost, each-unlent}
+use Rattle.book.proofs.Held.{put-old}
 use Rattle.order.proofs.Counts.{tally-into}
 
 -- ---- the same pairs link the same vertices
@@ -36,13 +39,11 @@ pairs-linked : {js ks : List Slip} → SamePairs js ks → {u v : ℕ} → Linke
 pairs-linked p l = linked-through (λ x y m. ⊎-elim (λ k. by k) (λ k. back (by k)) (p x y .0 (inl m))) l
 
 -- ---- a book and its heads
-module _ (M : Machine) (n : ℕ) (s : State (M .Area)) (K : Kept M n s) where
-  -- a head is its own
-  own-head : (v : ℕ) → isStop (shown M s .next v) ≡ true → headAt (shown M s) v ≡ v
-  unfolding walkFrom
-  own-head v e = ap headIn (walk-head (shown M s .next) (shown M s .count) mostMoves 0 v (stop-of _ true (sym e) refl))
+own : (w : View) (v : ℕ) → isStop (w .next v) ≡ true → headAt w v ≡ v
+own w v e = own-head w v (stop-of _ true (sym e) refl)
 
-  -- a walk ends at one
+module _ (M : Machine) (n : ℕ) (s : State (M .Area)) (K : Kept M n s) where
+  -- a walk ends at a head
   at-head : (v : ℕ) → v < n → isStop (shown M s .next (headAt (shown M s) v)) ≡ true
   unfolding answer
   at-head v l =
@@ -51,15 +52,13 @@ module _ (M : Machine) (n : ℕ) (s : State (M .Area)) (K : Kept M n s) where
       let t = head-inside (shown M s) v f cc in
       ap isStop (walkFrom-in (shown M s .next) (shown M s .count) v f (t .1) (t .2) .1)
 
-  -- the count is theirs
-  count-heads : groupCount (shown M s) ≡ gives (tally (λ v. isStop (shown M s .next v)) n)
-  unfolding groupCount
-  count-heads = check-on (shown M s .fit) noRoom _ (K .fit) ∙ ap (λ (k : ℕ). gives (tally (λ v. isStop (shown M s .next v)) k)) (K .count)
+  -- the count is the heads'
+  count-heads : gives (tally (λ v. isStop (shown M s .next v)) n) ≡ groupCount (shown M s)
+  count-heads =
+      count-is (shown M s) true (sym (K .fit)) n (tally (λ v. isStop (shown M s .next v)) n) refl (omega (arith, K .count))
+      (omega (arith, K .count)) refl
 
-  -- a number that is no vertex
-  heads-none : (u v : ℕ) → (n ≤ u) ⊎ (n ≤ v) → headsOf (shown M s) u v ≡ refuses (plain notThere)
-  heads-none u v o = heads-outside (shown M s) u v (K .fit) (subst (λ (k : ℕ). (k ≤ u) ⊎ (k ≤ v)) (sym (K .count)) o)
-
+  -- a number that is no vertex has no size
   size-none : (v : ℕ) → n ≤ v → groupSize (shown M s) v ≡ refuses (plain notThere)
   unfolding groupSize
   size-none v o =
@@ -86,14 +85,14 @@ module _ (M : Machine) (n : ℕ) where
   heads-into {s} {t} T =
       tally-into (λ v. isStop (shown M s .next v)) (λ v. isStop (shown M t .next v)) (headAt (shown M t)) n n
       (λ v l _. (T .second .inside v l, at-head M n t (T .second) v l))
-      (λ u v k l p q e. sym (own-head M n s (T .first) u p) ∙ one-head (turned T) u v k l e ∙ own-head M n s (T .first) v q)
+      (λ u v k l p q e. sym (own (shown M s) u p) ∙ one-head (turned T) u v k l e ∙ own (shown M s) v q)
 
 module _ (M : Machine) (n : ℕ) (s t : State (M .Area)) (T : Twins M n s t) where
   counts-same : groupCount (shown M s) ≡ groupCount (shown M t)
   counts-same =
       let e : tally (λ v. isStop (shown M s .next v)) n ≡ tally (λ v. isStop (shown M t .next v)) n
       = omega (arith, heads-into M n T, heads-into M n (turned M n T)) in
-      count-heads M n s (T .first) ∙ ap gives e ∙ sym (count-heads M n t (T .second))
+      sym (count-heads M n s (T .first)) ∙ ap gives e ∙ count-heads M n t (T .second)
 
   heads-same : (u v : ℕ) → u < n → v < n
       → eqb (headAt (shown M s) u) (headAt (shown M s) v) ≡ eqb (headAt (shown M t) u) (headAt (shown M t) v)
@@ -106,8 +105,11 @@ module _ (M : Machine) (n : ℕ) (s t : State (M .Area)) (T : Twins M n s t) whe
       Same : Type 0
       Same = onward (headsOf (shown M s) u v) oneHead ≡ onward (headsOf (shown M t) u v) oneHead
 
+      none : (r : State (M .Area)) → Kept M n r → (n ≤ u) ⊎ (n ≤ v) → headsOf (shown M r) u v ≡ refuses (plain notThere)
+      none r K o = heads-outside (shown M r) u v n (K .fit) (K .count) o
+
       out : (n ≤ u) ⊎ (n ≤ v) → Same
-      out o = ap (λ d. onward d oneHead) (heads-none M n s (T .first) u v o ∙ sym (heads-none M n t (T .second) u v o))
+      out o = ap (λ d. onward d oneHead) (none s (T .first) o ∙ sym (none t (T .second) o))
 
       go : Dec (u < n) → Dec (v < n) → Same
       go (yes k) (yes l) =
@@ -132,34 +134,27 @@ module _ (M : Machine) (n : ℕ) (s t : State (M .Area)) (T : Twins M n s t) whe
           let e = T .first .sized v l ∙ ap (λ (k : ℕ). Answer.reads (gives k)) (members-same v l) ∙ sym (T .second .sized v l) in cc
       go (no l) = size-none M n s (T .first) v (omega arith) ∙ sym (size-none M n t (T .second) v (omega arith))
 
--- ---- areas that are not well lent: no call changes them
-module _ (M : Machine) where
-  join-unlent : (a : M .Area) → M .view a .fit ≡ false → (u v : ℕ) → joinBook M a u v .said ≡ refuses (plain noRoom)
-  unfolding joinBook writeBook decide
-  join-unlent a f u v =
-      ap (λ d. writeBook M (onward d (linkHeads (M .view a))) a .said)
-      (sym (heads-unlent (M .view a) u v false (sym f) (plain noRoom) refl refl))
+-- ---- an area that is not well lent: no call changes it
+after-unlent : (s : State (List ℤ)) → one (s .area) .fit ≡ false → (c : Call) → after oneBook s c .area ≡ s .area
+unfolding after joinEach one
+after-unlent s f Call.opening = open-area oneBook s ∙ open-unchanged oneBook (s .area) (plain noRoom) (unfold openBook in simp f)
+after-unlent s f (Call.joining u v) =
+    join-area oneBook s u v
+    ∙ sym (ap (λ (d : Outcome Joining (List ℤ)). d .area) (join-lost oneBook (s .area) u v (plain noRoom)
+    (heads-unlent (one (s .area)) u v false (sym f) _ refl refl)))
+after-unlent s f (Call.joiningEach u []) = refl
+after-unlent s f (Call.joiningEach u (w ∷ ws)) =
+    sym (ap (λ (d : EachOutcome (List ℤ)). d .area) (each-unlent (s .area) u false (sym f) (w ∷ ws) (λ e. omega arith) _ refl refl))
+after-unlent s f (Call.heading v) = refl
+after-unlent s f (Call.comparing u v) = refl
+after-unlent s f (Call.sizing v) = refl
+after-unlent s f Call.counting = refl
+after-unlent s f (Call.limiting v) = refl
 
-  after-unlent : (s : State (M .Area)) → shown M s .fit ≡ false → (c : Call) → after M s c .area ≡ s .area
-  unfolding after joinEach
-  after-unlent s f Call.opening = open-area M s ∙ open-unchanged M (s .area) (plain noRoom) (unfold openBook in simp f)
-  after-unlent s f (Call.joining u v) =
-      join-area M s u v ∙ join-unchanged M (s .area) u v (plain noRoom) (join-unlent (s .area) f u v)
-  after-unlent s f (Call.joiningEach u []) = refl
-  after-unlent s f (Call.joiningEach u (w ∷ ws)) =
-      let e = join-unlent (s .area) f u w in
-      ap (λ (d : EachOutcome (M .Area)). d .area) (each-stopped M u (s .area) w ws (plain noRoom) e)
-      ∙ join-unchanged M (s .area) u w (plain noRoom) e
-  after-unlent s f (Call.heading v) = refl
-  after-unlent s f (Call.comparing u v) = refl
-  after-unlent s f (Call.sizing v) = refl
-  after-unlent s f Call.counting = refl
-  after-unlent s f (Call.limiting v) = refl
-
-  run-unlent : (s : State (M .Area)) → shown M s .fit ≡ false → (cs : List Call) → shown M (run M s cs) .fit ≡ false
-  unfolding run
-  run-unlent s f [] = f
-  run-unlent s f (c ∷ cs) = run-unlent (after M s c) (ap (λ a. M .view a .fit) (after-unlent s f c) ∙ f) cs
+run-unlent : (s : State (List ℤ)) → one (s .area) .fit ≡ false → (cs : List Call) → one (run oneBook s cs .area) .fit ≡ false
+unfolding run
+run-unlent s f [] = f
+run-unlent s f (c ∷ cs) = run-unlent (after oneBook s c) (ap (λ a. one a .fit) (after-unlent s f c) ∙ f) cs
 
 -- ---- the order of entry
 agree : (s t : State (List ℤ)) → ((u v : ℕ) → sameGroup (one (s .area)) u v ≡ sameGroup (one (t .area)) u v)
@@ -198,22 +193,17 @@ order-free s t e cs ds P = go (decLe (length (s .area)) mostVertices)
     twins l = record {
       first = demand3-one s l cs;
       second = subst (λ (n : ℕ). Kept oneBook n (run oneBook t (Call.opening ∷ ds))) (sym e) (demand3-one t (omega (arith, e)) ds);
-      pairs = P;
+      pairs = P l;
     }
 
     go : Dec (length (s .area) ≤ mostVertices) → GroupsAgree (run oneBook s (Call.opening ∷ cs)) (run oneBook t (Call.opening ∷ ds))
     go (yes l) =
         agree _ _ (groups-same oneBook _ _ _ (twins l)) (sizes-same oneBook _ _ _ (twins l)) (counts-same oneBook _ _ _ (twins l))
     go (no k) =
-        unlent-agree _ _ (run-unlent oneBook s (unlent (s .area) k) _)
-        (run-unlent oneBook t (unlent (t .area) (λ l. k (omega (arith, e)))) _)
+        unlent-agree _ _ (run-unlent s (unlent (s .area) k) _)
+        (run-unlent t (unlent (t .area) (λ l. k (omega (arith, e)))) _)
 
 -- ---- a further call
-put-more : (u : ℕ) (ws : List ℕ) {js : List Slip} (x y : ℕ) → Accepted js x y → Accepted (putEach u ws js) x y
-unfolding putEach
-put-more u [] x y m = m
-put-more u (w ∷ ws) x y m = put-more u ws x y (List·Memᴰ·tail m)
-
 module _ (M : Machine) where
   -- keeps the joins that were accepted
   slips-kept : (s : State (M .Area)) (c : Call) → (c ≡ Call.opening → ⊥) → (x y : ℕ) → Accepted (s .slips) x y
@@ -226,7 +216,7 @@ module _ (M : Machine) where
       go (gives merged) = List·Memᴰ·tail m
       go (gives same) = List·Memᴰ·tail m
       go (refuses r) = m
-  slips-kept s (Call.joiningEach u ws) d x y m = put-more u (joinedOf ws (joinEach M (s .area) u ws .said)) x y m
+  slips-kept s (Call.joiningEach u ws) d x y m = put-old u (joinedOf ws (joinEach M (s .area) u ws .said)) _ _ m
   slips-kept s (Call.heading v) d x y m = m
   slips-kept s (Call.comparing u v) d x y m = m
   slips-kept s (Call.sizing v) d x y m = m
@@ -267,4 +257,4 @@ never-apart s cs c d u v e = go (decLe (length (s .area)) mostVertices)
         let K = demand3-one s l cs in
         let J = subst (Kept oneBook _) (run-snoc oneBook s (Call.opening ∷ cs) c) (demand3-one s l (cs ++ (c ∷ []))) in
         kept-together oneBook _ r c K J d u v (omega (arith, i .1, K .count)) (omega (arith, i .2, K .count)) e
-    go (no k) = clash (i .0) (run-unlent oneBook s (unlent (s .area) k) (Call.opening ∷ cs))
+    go (no k) = clash (i .0) (run-unlent s (unlent (s .area) k) (Call.opening ∷ cs))

@@ -3,9 +3,10 @@ use mathlib.Core.Path.{_≡_}
 use mathlib.Core.List.{List, _∷_}
 use mathlib.Core.Bool.{true}
 use mathlib.Core.Logic.{_⊎_, _↔_}
-use Prim.Native.Nat.{ℕ}
+use Prim.Native.Nat.{ℕ, _≤_}
 use lib.IntN.{ℤ}
 use lib.ListN.{length}
+use Rattle.basis.specs.Limits.{mostVertices}
 use Rattle.basis.specs.Refusal.{gives}
 use Rattle.book.specs.One.{oneBook}
 use Rattle.book.specs.Series.{Call, opening, comparing, sizing, counting, limiting, compares, Slip, State, Accepted}
@@ -31,10 +32,11 @@ pub record GroupsAgree (s t : State (List ℤ)) : Type 0 where
   pub limited : (v : ℕ) → answer oneBook s (limiting v) ≡ answer oneBook t (limiting v)
 
 -- "for any two series of accepted joins from fresh books of equal size": areas of one length, whatever they hold, an opening of each and
--- any calls after it, further openings among them; the joins are those accepted since the latest
+-- any calls after it, further openings among them. The joins are those accepted since the latest opening; above 65,536, where no area
+-- opens, nothing is asked of them
 abbrev pub OrderFree : Type 0
 OrderFree = (s t : State (List ℤ)) → length (s .area) ≡ length (t .area) → (cs ds : List Call)
-    → SamePairs (run oneBook s (opening ∷ cs) .slips) (run oneBook t (opening ∷ ds) .slips)
+    → (length (s .area) ≤ mostVertices → SamePairs (run oneBook s (opening ∷ cs) .slips) (run oneBook t (opening ∷ ds) .slips))
     → GroupsAgree (run oneBook s (opening ∷ cs)) (run oneBook t (opening ∷ ds))
 
 -- "a further join never turns a "same group" into "apart"", nor does any further call but an opening

@@ -1,1 +1,2 @@
-// Layer book. The order of entry: it changes no group, and a further call parts none, as theorems on the book. It has no code of its own.
+// Layer book. The order of entry, as theorems on the book: it changes no group, and no further call separates two of one group. It has no
+// code of its own.

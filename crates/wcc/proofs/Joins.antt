@@ -4,7 +4,7 @@ use Prim.Native.Nat.{ℕ, zero, suc, _≤_, _<_}
 use mathlib.Core.Path.{_≡_, sym, ap, ap₂, _∙_, subst}
 use mathlib.Core.Logic.{_⊎_, inl, inr, ⊎-elim}
 use mathlib.Core.Bool.{true}
-use mathlib.Core.List.{List, [], _∷_, List·Memᴰ, List·Memᴰ·head, List·Memᴰ·tail, List·Memᴰ·not-nil, List·Memᴰ·cases-cons}
+use mathlib.Core.List.{List, [], _∷_, List·Memᴰ, List·Memᴰ·head, List·Memᴰ·not-nil, List·Memᴰ·cases-cons}
 use native.Mathlib.Nat.{not-suc-le-zero, le-of-suc-le-suc, eq-or-lt-of-le}
 use native.Mathlib.Omega.{arith}
 use lib.IntN.{ℤ}
@@ -19,7 +19,7 @@ use Rattle.book.specs.Rules.{all, openBook, joinEach}
 use Rattle.book.specs.One.{one, oneBook}
 use Rattle.book.specs.Series.{Slip, slip, putEach, headIn, headAt, Accepted}
 use Rattle.book.proofs.OneBook.{faithful-one}
-use Rattle.book.proofs.Held.{Held, one-open, held-all, held-each, held-kept, held-head}
+use Rattle.book.proofs.Held.{put-old, Held, one-open, held-all, held-each, held-kept, held-head}
 use Rattle.wcc.specs.Component.{LinkedAmong, labels}
 use Rattle.wcc.specs.Steps.{headHere, noted, joinArcs, grouped, marked, takenOver, Within, Fitting, Marking}
 use Rattle.wcc.proofs.Passes.{Heads, labels-are}
@@ -46,16 +46,11 @@ arcs-accepted n out inside a H u l =
     held-all oneBook faithful-one n (joinArcs out u a) (slipsOf out u) (held-arcs n out inside a H u (omega arith)) u (out u) l (inside u l)
 
 -- ---- they are the arcs
-part-old : (u : ℕ) (ws : List ℕ) (js : List Slip) (s : Slip) → List·Memᴰ s js → List·Memᴰ s (putEach u ws js)
-unfolding putEach
-part-old u [] js s m = m
-part-old u (w ∷ ws) js s m = part-old u ws (slip u w ∷ js) s (List·Memᴰ·tail m)
-
 part-new : (u : ℕ) (ws : List ℕ) (js : List Slip) (w : ℕ) → mem w ws ≡ true → List·Memᴰ (slip u w) (putEach u ws js)
 unfolding putEach
 part-new u [] js w t = absurd (mem-none-of w t)
 part-new u (x ∷ ws) js w t =
-    ⊎-elim (λ e. part-old u ws (slip u x ∷ js) (slip u w) (List·Memᴰ·head (ap (slip u) e))) (part-new u ws (slip u x ∷ js) w)
+    ⊎-elim (λ e. put-old u ws (slip u x ∷ js) (slip u w) (List·Memᴰ·head (ap (slip u) e))) (part-new u ws (slip u x ∷ js) w)
     (mem-cases w x ws t)
 
 part-mem : (u : ℕ) (ws : List ℕ) (js : List Slip) (x y : ℕ) → List·Memᴰ (slip x y) (putEach u ws js)
@@ -83,7 +78,7 @@ module _ (out : ℕ → List ℕ) where
       ⊎-elim
       (λ e. subst (λ (x : ℕ). List·Memᴰ (slip x w) (putEach k (out k) (slipsOf out k))) (sym e)
       (part-new k (out k) (slipsOf out k) w (subst (λ (x : ℕ). mem w (out x) ≡ true) e a)))
-      (λ h. part-old k (out k) (slipsOf out k) (slip u w) (slips-new k u w h a))
+      (λ h. put-old k (out k) (slipsOf out k) (slip u w) (slips-new k u w h a))
       (eq-or-lt-of-le (le-of-suc-le-suc l))
 
   slips-mem : (k x y : ℕ) → List·Memᴰ (slip x y) (slipsOf out k) → (x < k) × (mem y (out x) ≡ true)
