@@ -102,9 +102,9 @@ impl Clerk {
     }
 }
 
-/// What the size, step limit and count calls answer.
-fn readings(book: &[i64], v: usize) -> (u64, u64, u64) {
-    (calls::book_size(book, v), calls::book_limit(book, v), calls::book_count(book))
+/// What the size and step limit calls answer.
+fn readings(book: &[i64], v: usize) -> (u64, u64) {
+    (calls::book_size(book, v), calls::book_limit(book, v))
 }
 
 /// The four calls answer alike, and what the pairs say.
@@ -114,10 +114,11 @@ fn agree(one: &[i64], other: &[i64], pairs: &[Pair], dice: &mut Dice) {
     let mut sizes = vec![0; n];
     group.iter().for_each(|&g| sizes[g] += 1);
     let count = sizes.iter().filter(|&&size| size > 0).count() as u64;
+    assert_eq!((calls::book_count(one), calls::book_count(other)), (count, count), "{:?}", pairs);
     for v in 0..n {
         let size: u64 = sizes[group[v]];
         let limit = (0..64).take_while(|&k| 1 << k <= size).last().unwrap();
-        assert_eq!((readings(one, v), readings(other, v)), ((size, limit, count), (size, limit, count)), "{} of {:?}", v, pairs);
+        assert_eq!((readings(one, v), readings(other, v)), ((size, limit), (size, limit)), "{} of {:?}", v, pairs);
     }
     let asked: Vec<Pair> = match n {
         0..=64 => (0..n * n).map(|i| (i / n, i % n)).collect(),
@@ -129,7 +130,7 @@ fn agree(one: &[i64], other: &[i64], pairs: &[Pair], dice: &mut Dice) {
     }
     let (some, none) = (dice.below(n + 1), outside(dice, n));
     for book in [one, other] {
-        assert_eq!((readings(book, none), calls::book_count(book)), ((NOT_THERE, NOT_THERE, count), count));
+        assert_eq!(readings(book, none), (NOT_THERE, NOT_THERE));
         assert_eq!((calls::book_same(book, some, none), calls::book_same(book, none, some)), (NOT_THERE, NOT_THERE));
     }
 }
@@ -147,19 +148,23 @@ fn shift(seed: u64, n: usize, slips: usize) -> bool {
 }
 
 fn main() {
-    let cases = std::env::args().nth(1).map_or(6_000, |word| word.parse().unwrap());
+    let cases = std::env::args().nth(1).map_or(24_000, |word| word.parse().unwrap());
     let differ = (0..cases).filter(|&seed| shift(seed, seed as usize % 42, Dice::new(seed + 7).below(60))).count();
     println!("shifts: {} entered in two orders, the books agree; heads or walks differed in {}", cases, differ);
     assert!(differ > 0 || cases < 10, "no order made a difference to the heads");
 
-    // a large book: few groups, many, and one
-    for (seed, slips) in [(1, 20_000), (2, 40_000), (3, 120_000)] {
+    // the largest book: many groups, one large among small ones, and one
+    for (seed, slips) in [(1, 20_000), (2, 40_000), (3, 120_000), (4, 600_000)] {
         assert!(shift(seed, 65_536, slips));
     }
 
-    // one place too many: each of the four calls is 8 in both, before 10
-    let long = vec![-1; 65_537];
-    for (u, v) in [(0, 1), (0, 65_537), (65_537, 0)] {
-        assert_eq!((readings(&long, v), calls::book_same(&long, u, v)), ((NO_ROOM, NO_ROOM, NO_ROOM), NO_ROOM));
+    // one place too many: neither area opens, and each of the four calls is 8 in both, before 10
+    for mut long in [vec![-1; 65_537], (0..65_537).collect::<Vec<i64>>()] {
+        let before = long.clone();
+        assert_eq!((calls::book_open(&mut long), calls::book_join(&mut long, 0, 1), calls::book_count(&long)), (NO_ROOM, NO_ROOM, NO_ROOM));
+        for (u, v) in [(0, 1), (0, 65_537), (65_537, 0)] {
+            assert_eq!((readings(&long, v), calls::book_same(&long, u, v)), ((NO_ROOM, NO_ROOM), NO_ROOM));
+        }
+        assert_eq!(long, before);
     }
 }

@@ -152,7 +152,7 @@ fn damaged_books_k9() {
     assert_eq!((book(&[0]).join(0, 1), book(&[0]).join(0, 0)), (Err(plain(10)), Err(unsound)));
 }
 
-/// A book of any content, opened, and these slips entered.
+/// A book that held other things, opened, and these slips entered.
 fn entered(n: usize, slips: &[(usize, usize)]) -> Book {
     let mut book = Book { entries: vec![7; n] };
     book.open().unwrap();
