@@ -206,9 +206,9 @@ uint64_t trace_judge(size_t vertices, size_t arcs,
  * A refused call changes nothing. Refusals: 8, then 10, then 9. It is 9 where a walk that the call needs leaves the area or does not end in
  * 16 moves; where size or step limit finds a head's entry below -n; and where a join that would merge two groups finds such an entry, or
  * sizes whose sum is above n. An opened book that only these calls have written refuses no join of its vertices.
- * Two such books of one length in which the same pairs were joined, in any order, either way round and however often, answer same, size,
- * count and limit alike. Heads and moves may differ: do not compare them between books. Vertices of one group stay so until it is opened
- * again.
+ * Two such books of one length in which the same pairs were joined since the opening, in any order, either way round and however often,
+ * answer same, size, count and limit alike. Heads and moves may differ: do not compare them between books. Vertices of one group stay so
+ * until the book is opened again.
  */
 
 /* Each vertex its own group: every entry is -1. Answers 0. Refusal: 8. */

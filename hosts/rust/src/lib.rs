@@ -305,8 +305,8 @@ impl Graph {
 }
 
 /// A group book, in one area. Two books of one size in which the same pairs were joined, in any order, either way round and however often,
-/// answer `same`, `size`, `count` and `step_limit` alike; heads and moves may differ, and so may `entries`. So `==` tells whether two areas
-/// hold the same, and not whether two books have the same groups. Vertices of one group stay so.
+/// answer `same`, `size`, `count` and `step_limit` alike. Heads, moves and `entries` may differ and are not to be compared between books;
+/// so `==` tells whether two areas hold the same, and not whether two books have the same groups. Vertices of one group stay so.
 #[derive(Clone, Debug, PartialEq, Eq)]
 pub struct Book {
     entries: Vec<i64>,
