@@ -247,7 +247,7 @@ pub fn entries(dice: &mut Dice) -> Vec<i64> {
 /// A vertex of a book of so many, or at times a number that is none.
 pub fn vertex(dice: &mut Dice, n: usize) -> usize {
     if dice.one_in(12) {
-        *dice.pick(&[n, n + 1, 65_536, 1 << 32, 1 << 63, usize::MAX])
+        dice.beyond(n)
     } else {
         dice.below(n)
     }

@@ -16,11 +16,6 @@ const NOT_THERE: u64 = 10 * REFUSAL;
 
 type Pair = (usize, usize);
 
-/// A number that is no vertex of n.
-fn outside(dice: &mut Dice, n: usize) -> usize {
-    *dice.pick(&[n, n + 1, 65_536, 1 << 32, 1 << 63, usize::MAX])
-}
-
 /// A clerk's book, and some pairs that are watched: whether they were of one group at the last look.
 struct Clerk {
     dice: Dice,
@@ -64,7 +59,7 @@ impl Clerk {
     /// A question, or a slip with a number that is no vertex: nothing changes.
     fn interrupt(&mut self) {
         let (n, before) = (self.book.len(), self.book.to_vec());
-        let (some, none) = (self.dice.below(n + 1), outside(&mut self.dice, n));
+        let (some, none) = (self.dice.below(n + 1), self.dice.beyond(n));
         match self.dice.below(7) {
             0 => assert_eq!(calls::book_join(&mut self.book, some, none), NOT_THERE),
             1 => assert_eq!(calls::book_join(&mut self.book, none, some), NOT_THERE),
@@ -128,7 +123,7 @@ fn agree(one: &[i64], other: &[i64], pairs: &[Pair], dice: &mut Dice) {
         let same = u64::from(group[u] == group[v]);
         assert_eq!((calls::book_same(one, u, v), calls::book_same(other, u, v)), (same, same), "{} and {} of {:?}", u, v, pairs);
     }
-    let (some, none) = (dice.below(n + 1), outside(dice, n));
+    let (some, none) = (dice.below(n + 1), dice.beyond(n));
     for book in [one, other] {
         assert_eq!(readings(book, none), (NOT_THERE, NOT_THERE));
         assert_eq!((calls::book_same(book, some, none), calls::book_same(book, none, some)), (NOT_THERE, NOT_THERE));

@@ -20,6 +20,11 @@ impl Dice {
         (self.next() >> 11) as usize % n.max(1)
     }
 
+    /// A number that is not below n, which is at most 65,536.
+    pub fn beyond(&mut self, n: usize) -> usize {
+        *self.pick(&[n, n + 1, 65_536, 1 << 32, 1 << 63, usize::MAX])
+    }
+
     pub fn one_in(&mut self, n: usize) -> bool {
         self.below(n) == 0
     }
