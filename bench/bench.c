@@ -60,14 +60,19 @@ static int by_value(const void *a, const void *b) {
     return (x > y) - (x < y);
 }
 
-/* Identifiers are 1,000,003 times the vertex number, less 10^9: some below zero. Hubs: one end is drawn towards low numbers. */
-static struct lists make(const char *name, int directed, int hubs, size_t n, size_t m) {
+/* Hubs: one end is drawn towards low numbers. Vats: an edge begins at one of 64. A star: it begins at the middle vertex and ends at another. */
+enum shape { UNIFORM, HUBS, VATS, STAR };
+
+/* Identifiers are 1,000,003 times the vertex number, less 10^9: some below zero. */
+static struct lists make(const char *name, int directed, enum shape shape, size_t n, size_t m) {
     seed = 0x9e3779b97f4a7c15u ^ (n * 31 + m);
     struct lists l = {name, directed, n, 0, {room(n, 24), 0}, {room(m, 48), 0}};
     uint64_t *pairs = room(m, sizeof *pairs);
     for (size_t i = 0; i < m; i++) {
         uint64_t u = dice() % n, v = dice() % n;
-        if (hubs) u = u * (dice() % n) / n * (dice() % n) / n;
+        if (shape == HUBS) u = u * (dice() % n) / n * (dice() % n) / n;
+        if (shape == VATS) u = u % 64 * (n / 64);
+        if (shape == STAR) u = n / 2, v = i < u ? i : i + 1;
         if (u == v) v = (v + 1) % n;
         if (!directed && u > v) {
             uint64_t t = u;
@@ -281,6 +286,42 @@ static void measure(struct lists l, int with_lcc, int with_groups, int times) {
     for (size_t i = 0; i < sizeof all / sizeof *all; i++) free(all[i]);
 }
 
+/* LCC at the library's limits, where a call takes long: beside the plain walk and beside a plain engine that marks neighbours. */
+static void measure_lcc(struct lists l, int turns) {
+    size_t n = l.vertices, m = l.directed ? l.edges : 2 * l.edges;
+    struct graph g = areas(n, m);
+    size_t *a = room(n, 8), *b = room(n, 8), *c = room(n, 8), *x = room(n, 8), *y = room(n, 8);
+    int64_t *result = room(n, 8);
+    uint8_t *marks = room(n, 1);
+    double engine = 0, walk = 0, marked = 0, sound = 0, check = 0;
+    int several = repeat;
+    if (!plain_load(l.directed, l.vertex_file.bytes, l.vertex_file.length, l.edge_file.bytes, l.edge_file.length, &g)) exit(1);
+    repeat = turns;
+    TURNS {
+        BEST(sound, trace_bfs(GRAPH(g, n, m), 1, result, n, a, n));
+        BEST(check, if (!plain_sound(&g, a)) exit(1));
+        BEST(engine, trace_lcc(GRAPH(g, n, m), x, n, y, n, c, n));
+        BEST(walk, {
+            if (!plain_sound(&g, c)) exit(1);
+            plain_lcc(&g, a, b, c);
+        });
+        same(a, x, n * 8, "numerators");
+        same(b, y, n * 8, "denominators");
+        BEST(marked, {
+            if (!plain_sound(&g, c)) exit(1);
+            plain_lcc_marked(&g, a, b, c, marks);
+        });
+        same(a, x, n * 8, "numerators, by marks");
+        same(b, y, n * 8, "denominators, by marks");
+    }
+    repeat = several;
+    row(l.name, "lcc core", engine - sound, walk - check);
+    row(l.name, "lcc core : marking", engine - sound, marked - check);
+    void *all[] = {l.vertex_file.bytes, l.edge_file.bytes, g.ids, g.out_offsets, g.out_targets, g.in_offsets, g.in_sources, a, b, c, x, y,
+                   result, marks};
+    for (size_t i = 0; i < sizeof all / sizeof *all; i++) free(all[i]);
+}
+
 static void measure_book(size_t n, size_t calls) {
     int64_t *entries = room(n, 8), *p = room(n, 8);
     uint32_t *u = room(calls, 4), *v = room(calls, 4);
@@ -341,7 +382,7 @@ static void measure_desk(const char *engine_program, const char *plain_program) 
     if (!mkdtemp(folder)) exit(1);
     snprintf(sheet, sizeof sheet, "%s/sheet", folder);
     for (int i = 0; i < 2; i++) snprintf(out[i], sizeof out[i], "%s/out%d", folder, i);
-    struct lists l = make("full sheet", 1, 0, 1024, 2048);
+    struct lists l = make("full sheet", 1, UNIFORM, 1024, 2048);
     FILE *f = fopen(sheet, "wb");
     if (!f) exit(1);
     fprintf(f, "directed\n%zu\n%.*s%zu\n%.*s16\n", l.vertices, (int)l.vertex_file.length, (const char *)l.vertex_file.bytes, l.edges,
@@ -377,13 +418,19 @@ int main(int argc, char **argv) {
         snprintf(name[0], 64, "(a) uniform%s", suffix);
         snprintf(name[1], 64, "(b) hubs%s", suffix);
         snprintf(name[2], 64, "(c) undirected%s", suffix);
-        measure(make(name[0], 1, 0, 65536 / part, 1000000 / part), 0, 0, 1);
-        measure(make(name[1], 1, 1, 65536 / part, 300000 / part), 0, 0, 1);
-        measure(make(name[2], 0, 0, 65536 / part, 500000 / part), 0, 0, 1);
+        measure(make(name[0], 1, UNIFORM, 65536 / part, 1000000 / part), 0, 0, 1);
+        measure(make(name[1], 1, HUBS, 65536 / part, 300000 / part), 0, 0, 1);
+        measure(make(name[2], 0, UNIFORM, 65536 / part, 500000 / part), 0, 0, 1);
+        measure_lcc(make(name[0], 1, UNIFORM, 65536 / part, 1000000 / part), quick ? 1 : 5);
+        measure_lcc(make(name[1], 1, HUBS, 65536 / part, 300000 / part), quick ? 1 : 5);
+        measure_lcc(make(name[2], 0, UNIFORM, 65536 / part, 500000 / part), quick ? 1 : 5);
     }
-    measure(make("(d) desk size, 1,000 times", 1, 0, 1024, 2048), 1, 0, quick ? 100 : 1000);
-    measure(make("4,096 vertices, 16,384 edges", 1, 0, 4096, 16384), 1, 0, 10);
-    measure(make("16,384 vertices, undirected", 0, 0, 16384, 20000), 0, 1, 1);
+    measure_lcc(make("64 vats", 1, VATS, 65536, 300000), quick ? 1 : 3);
+    measure_lcc(make("star of 65,535", 0, STAR, 65536, 65535), quick ? 1 : 3);
+    measure_lcc(make("star of 65,535, directed", 1, STAR, 65536, 65535), quick ? 1 : 3);
+    measure(make("(d) desk size, 1,000 times", 1, UNIFORM, 1024, 2048), 1, 0, quick ? 100 : 1000);
+    measure(make("4,096 vertices, 16,384 edges", 1, UNIFORM, 4096, 16384), 1, 0, 10);
+    measure(make("16,384 vertices, undirected", 0, UNIFORM, 16384, 20000), 0, 1, 1);
     measure_book(65536, 1000000);
     measure_desk(argv[1], argv[2]);
     return 0;

@@ -17,8 +17,10 @@ void plain_bfs(const struct graph *g, size_t root, int64_t *depth, size_t *queue
 /* The same algorithm as the engine's: `result` holds the book until `heads` has each vertex's head, and then the labels. */
 void plain_wcc(const struct graph *g, int64_t *result, size_t *heads);
 void plain_cdlp(const struct graph *g, int rounds, int64_t *result, size_t *labels, size_t *next, size_t *counts);
-/* The same algorithm as the engine's: each member of one list is looked for in the other, one by one. */
+/* The same algorithm as the engine's, but that it trusts its lists to rise: common members by one walk along both. */
 void plain_lcc(const struct graph *g, size_t *numerators, size_t *denominators, size_t *work);
+/* By marks: the neighbours of a vertex are marked, and their arcs to marked vertices counted. */
+void plain_lcc_marked(const struct graph *g, size_t *numerators, size_t *denominators, size_t *work, uint8_t *marks);
 /* The first line of a claim that is not as the result says, 0 where there is none. */
 size_t plain_judge(const struct graph *g, const int64_t *result, const uint8_t *claim, size_t claim_len);
 size_t plain_judge_groups(const struct graph *g, const int64_t *result, const uint8_t *claim, size_t claim_len, int64_t *claimed);

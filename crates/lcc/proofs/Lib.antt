@@ -7,3 +7,4 @@ pub mod Neighbours
 pub mod Calls
 pub mod Meaning
 pub mod Examples
+pub mod Walks
