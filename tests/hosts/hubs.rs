@@ -97,5 +97,5 @@ fn main() {
         assert!(work.iter().all(|&x| x == 0), "the working area, seed {}", seed);
     }
     assert!(cases < 1_000 || longest > 200 && refused > 100);
-    println!("hubs: {} graphs, lists of up to {}, {} refused: the coefficients are the independent implementation's", cases, longest, refused);
+    println!("hubs: {} graphs, lists of up to {}, {} refused; the coefficients are the independent ones", cases, longest, refused);
 }
