@@ -60,7 +60,7 @@ static int by_value(const void *a, const void *b) {
     return (x > y) - (x < y);
 }
 
-/* Hubs: one end is drawn towards low numbers. Vats: one end is one of 64 vertices. A star: one end is the middle vertex, for each other. */
+/* Hubs: one end is drawn towards low numbers. Vats: edges begin at one of 64. A star: the middle vertex and each other one; m is n - 1. */
 enum shape { UNIFORM, HUBS, VATS, STAR };
 
 /* Identifiers are 1,000,003 times the vertex number, less 10^9: some below zero. */
