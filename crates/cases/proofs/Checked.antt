@@ -24,7 +24,7 @@ use Rattle.lcc.specs.Call.{roomFor as lcc-roomFor, leftBy as lcc-leftBy, lccCal
 use Rattle.lists.specs.Files.{edgeTest}
 use Rattle.load.specs.Load.{arcsRead, listsRead, loaded, outcomeOf, loadCall}
 use Rattle.matching.specs.Close.{isClose}
-use Rattle.matching.specs.Verdict.{firstLine, sameKind, agrees, failingLine, unlikeLine, judgedBy}
+use Rattle.matching.specs.Verdict.{firstPlace, sameKind, agrees, failingPlace, unlikeVertex, judgedBy}
 use Rattle.matching.specs.Calls.{numbersCall, nearWithin, coefficientsSays}
 use Rattle.book.specs.Rules.{walk, walkFrom, above, mergeable, mergeHeads, linkHeads, headsOf}
 use Rattle.book.specs.Rules.{decide, openBook, writeBook, joinBook, groupCount, tally}
@@ -41,7 +41,7 @@ unfolding column every each mem within digitOf pastPoint wholeIsGood signedPower
     wccCall times mostTimes standing mostCommon smallest smallestOr nextLabel around labelsAt nextAt oneRound rounds cdlpOf goodRounds
     cdlp-roomFor cdlp-leftBy cdlpCall commonCount euclid gcdOf lowest those neighbours arcsFrom coefficientAmong numerator denominator
     lcc-roomFor
-    lcc-leftBy lccCall isClose firstLine sameKind agrees failingLine unlikeLine judgedBy numbersCall nearWithin coefficientsSays walk
+    lcc-leftBy lccCall isClose firstPlace sameKind agrees failingPlace unlikeVertex judgedBy numbersCall nearWithin coefficientsSays walk
     walkFrom
     above mergeable mergeHeads linkHeads headsOf decide openBook writeBook joinBook groupCount tally nextHere sizeHere one after run
 checked = refl

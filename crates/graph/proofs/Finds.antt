@@ -9,7 +9,9 @@ use native.Mathlib.Nat.{not-suc-le-zero, sub-self, sub-zero}
 use native.Mathlib.Decide.{ℕ-discrete, decLt}
 use lib.IntN.{ℤ, pos}
 use lib.ListN.{length, getD}
-use borrow.Author.Tests.{lt-ltb, le-ltb, eqb-true}
+use lib.Dec.{ltb}
+use lib.Signed.{ltZ}
+use borrow.Author.Tests.{lt-ltb, le-ltb, ltb-true, eqb-true}
 use Rattle.basis.specs.Order.{sameZ, risingBy, risingZ}
 use Rattle.basis.specs.Refusal.{gives, refuses, plain, notThere}
 use Rattle.basis.proofs.Tests.{clash, no-case, bool-cases}
@@ -196,6 +198,37 @@ place-right l id = by (placeIn l id) (place-from 0 l id)
 pub find-rising : (l : List ℤ) (id : ℤ) → risingZ l ≡ true → bisected l id ≡ placeIn l id
 find-rising l id r =
     right-one signed-order (pos 0) l r id (bisected l id) (placeIn l id) (bisect-finds signed-order (pos 0) l r id) (place-right l id)
+
+-- in any list it ends at a place of the list, or at none
+bisect-below : (l : List ℤ) (id : ℤ) (turns low high : ℕ) (i : ℕ) → high ≤ length l
+    → bisect ltZ (pos 0) l id turns low high ≡ At i → i < length l
+unfolding bisect
+bisect-below l id zero low high i h e = no-case (let z : Missing ≡ At i = e in cc)
+bisect-below l id (suc turns) low high i h e =
+    let middle = low + (high - low) / 2 in
+    by (ltb low high) (ltZ (getD l middle (pos 0)) id) (ltZ id (getD l middle (pos 0))) refl e
+    (bisect-below l id turns (middle + 1) high i h) (bisect-below l id turns low middle i)
+  where
+    by : (a b c : Bool) → ltb low high ≡ a
+        → elim a [
+            | true ↦
+                elim b [
+                  | true ↦ bisect ltZ (pos 0) l id turns (low + (high - low) / 2 + 1) high
+                  | false ↦ elim c [ true ↦ bisect ltZ (pos 0) l id turns low (low + (high - low) / 2) | false ↦ At (low + (high - low) / 2) ]
+                ]
+            | false ↦ Missing
+          ] ≡ At i
+        → (bisect ltZ (pos 0) l id turns (low + (high - low) / 2 + 1) high ≡ At i → i < length l)
+        → (low + (high - low) / 2 ≤ length l → bisect ltZ (pos 0) l id turns low (low + (high - low) / 2) ≡ At i → i < length l)
+        → i < length l
+    by true true c t e f g = f e
+    by true false true t e f g = let k = ltb-true low high t in g (omega arith) e
+    by true false false t e f g =
+        let k = ltb-true low high t in let q : low + (high - low) / 2 ≡ i = cc in omega arith
+    by false b c t e f g = no-case (let z : Missing ≡ At i = e in cc)
+
+pub bisected-below : (l : List ℤ) (id : ℤ) (i : ℕ) → bisected l id ≡ At i → i < length l
+bisected-below l id i e = bisect-below l id (length l) 0 (length l) i (omega arith) e
 
 -- an identifier has the number i exactly where it stands at place i
 pub place-at : (l : List ℤ) (id : ℤ) → risingZ l ≡ true → (i : ℕ) → (placeIn l id ≡ At i) ↔ StandsAt l id i

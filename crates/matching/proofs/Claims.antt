@@ -19,7 +19,7 @@ use Rattle.text.proofs.Breaks.{RightStop, ident-right, decimal-right, pair-righ
 use Rattle.text.proofs.Files.{file-accepted, file-refused}
 use Rattle.matching.specs.Claim.{claimLines, numberLines, coefficientLines, claimedOf}
 use Rattle.matching.specs.Verdict.{Verdict, matched, incompleteAt, mismatchAt, Fraction}
-use Rattle.matching.specs.Verdict.{near, unequalLine, unlikeLine, farLine, judgedBy}
+use Rattle.matching.specs.Verdict.{near, unequalVertex, unlikeVertex, farVertex, judgedBy}
 use Rattle.matching.specs.Good.{Least, Alike, Differs, Disagrees, EqualWhere, Judges}
 use Rattle.matching.proofs.Leasts.{first-least, line-exactly, unlike-least}
 use Rattle.matching.proofs.Meaning.{same-list, accepted-exactly, incomplete-exactly, mismatch-exactly, equal-exactly}
@@ -124,24 +124,24 @@ module _ (most : ℕ) (ids : List ℤ) where
   -- "Exact match"
   pub exact-judged : (reference : List ℤ) (s : List ℕ)
       → Judges identOf most ids (λ vs. vs ≡ reference) (Differs sameZ (pos 0) (pos 0) reference) s
-      (judgedBy ids (unequalLine reference) (numberLines most s))
+      (judgedBy ids (unequalVertex reference) (numberLines most s))
   exact-judged reference s =
-      judged-exactly identForm ident-right most ids (unequalLine reference) (λ vs. vs ≡ reference) (Differs sameZ (pos 0) (pos 0) reference)
+      judged-exactly identForm ident-right most ids (unequalVertex reference) (λ vs. vs ≡ reference) (Differs sameZ (pos 0) (pos 0) reference)
       (λ vs. same-list reference vs) (λ vs i. first-least sameZ (pos 0) (pos 0) reference vs i) s
 
   -- "Equivalence match", where labels are equal exactly at places that belong together
   pub equivalence-judged : (labels : List ℤ) (n : ℕ) → length labels ≡ n → (Together : ℕ → ℕ → Type 0) → EqualWhere n Together labels
       → (s : List ℕ)
-      → Judges identOf most ids (EqualWhere n Together) (Disagrees labels) s (judgedBy ids (unlikeLine labels) (numberLines most s))
+      → Judges identOf most ids (EqualWhere n Together) (Disagrees labels) s (judgedBy ids (unlikeVertex labels) (numberLines most s))
   equivalence-judged labels n long Together same s =
-      judged-exactly identForm ident-right most ids (unlikeLine labels) (EqualWhere n Together) (Disagrees labels)
+      judged-exactly identForm ident-right most ids (unlikeVertex labels) (EqualWhere n Together) (Disagrees labels)
       (λ vs. equal-exactly labels vs n long Together same) (λ vs i. unlike-least labels vs i) s
 
   -- "Epsilon match"
   pub epsilon-judged : (any : Decimal) (reference : List Fraction) (s : List ℕ)
       → Judges decimalOf most ids (Alike near (0, 1) any reference) (Differs near (0, 1) any reference) s
-      (judgedBy ids (farLine reference) (coefficientLines most s))
+      (judgedBy ids (farVertex reference) (coefficientLines most s))
   epsilon-judged any reference s =
-      judged-exactly decimalForm decimal-right most ids (farLine reference) (Alike near (0, 1) any reference)
+      judged-exactly decimalForm decimal-right most ids (farVertex reference) (Alike near (0, 1) any reference)
       (Differs near (0, 1) any reference)
       (λ vs. line-exactly near (0, 1) any reference vs) (λ vs i. first-least near (0, 1) any reference vs i) s

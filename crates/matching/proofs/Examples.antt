@@ -15,16 +15,16 @@ use Rattle.text.specs.Line.{lineBy, twoOf, twoStop}
 use Rattle.text.specs.File.{linesFrom, valuesFrom}
 use Rattle.matching.specs.Close.{isClose}
 use Rattle.matching.specs.Claim.{numberLines, coefficientLines}
-use Rattle.matching.specs.Verdict.{Verdict, matched, incompleteAt, mismatchAt, Fraction, firstLine}
-use Rattle.matching.specs.Verdict.{unequalLine, farLine, judgedBy}
+use Rattle.matching.specs.Verdict.{Verdict, matched, incompleteAt, mismatchAt, Fraction, firstPlace}
+use Rattle.matching.specs.Verdict.{unequalVertex, farVertex, judgedBy}
 
 -- a claim on one vertex, number 1, of which the coefficient is r
 abbrev coefficientClaim : Fraction → List ℕ → Said Verdict
-coefficientClaim r s = judgedBy (pos 1 ∷ []) (farLine (r ∷ [])) (coefficientLines mostVertices s)
+coefficientClaim r s = judgedBy (pos 1 ∷ []) (farVertex (r ∷ [])) (coefficientLines mostVertices s)
 
 -- a claim of at most so many lines on vertices 1, 2 and 3, of depths 0, 1 and 1
 abbrev depthClaim : ℕ → List ℕ → Said Verdict
-depthClaim most s = judgedBy (pos 1 ∷ pos 2 ∷ pos 3 ∷ []) (unequalLine (pos 0 ∷ pos 1 ∷ pos 1 ∷ [])) (numberLines most s)
+depthClaim most s = judgedBy (pos 1 ∷ pos 2 ∷ pos 3 ∷ []) (unequalVertex (pos 0 ∷ pos 1 ∷ pos 1 ∷ [])) (numberLines most s)
 
 -- what is said of some claims
 pub record Others : Type 0 where
@@ -50,7 +50,7 @@ pub record Others : Type 0 where
   pub largestDown : coefficientClaim (1, 4294770690) (bytes "1 99999999999999999e-99\n") ≡ gives (mismatchAt 1)
 
 pub others : Others
-unfolding judgedBy firstLine every each mem linesFrom valuesFrom lineBy twoOf twoStop isClose decimalOf fractionOf partsOf powerAt
+unfolding judgedBy firstPlace every each mem linesFrom valuesFrom lineBy twoOf twoStop isClose decimalOf fractionOf partsOf powerAt
     signedPower wholeIsGood pastPoint digitOf within isSign digitsStop powerStop partsStop fractionStop decimalStop
 others = record {
   matches = refl;

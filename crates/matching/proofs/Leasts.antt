@@ -1,12 +1,12 @@
--- A first line is the least place at fault, both ways, and 0 exactly where no place is. Assumes nothing.
+-- A first place is the least at fault, both ways, and 0 exactly where no place is. Assumes nothing.
 use mathlib.Core.Path.{_≡_, refl, sym, ap, _∙_, subst}
 use mathlib.Core.Bool.{Bool, true, false, cond, _&&_}
 use mathlib.Core.Logic.{_↔_, _⊎_, inl, inr}
 use mathlib.Core.List.{List, [], _∷_}
-use Prim.Native.Nat.{ℕ, zero, suc, _+_, _≤_, _<_}
-use native.Mathlib.Nat.{not-suc-le-zero}
+use Prim.Native.Nat.{ℕ, zero, suc, _+_, _≤_, _<_, min}
+use native.Mathlib.Nat.{not-suc-le-zero, min-eq-left, min-eq-right}
 use native.Mathlib.Omega.{arith}
-use native.Mathlib.Decide.{decLt}
+use native.Mathlib.Decide.{decLt, ℕ-discrete}
 use lib.Dec.{eqb}
 use lib.IntN.{ℤ}
 use lib.ListN.{length, getD}
@@ -14,7 +14,9 @@ use borrow.Author.Tests.{eqb-true, eqb-false}
 use Rattle.basis.specs.Scan.{every}
 use Rattle.basis.proofs.Tests.{clash, bool-cases}
 use Rattle.basis.proofs.Scans.{every-fail}
-use Rattle.matching.specs.Verdict.{firstLine, sameKind, agrees, failingLine, unlikeLine}
+use Rattle.matching.specs.Cover.{failingPlace}
+use Rattle.matching.specs.Verdict.{firstPlace, sameKind, agrees, unlikeVertex}
+use Rattle.matching.specs.Steps.{lesserFault}
 use Rattle.matching.specs.Good.{Least, Alike, Differs, other, missing, surplus, Disagrees}
 
 -- ---- a line, counted from k on, that is 0 where no place has P and else is that of the least
@@ -36,6 +38,12 @@ module _ {P : ℕ → Type 0} {line : ℕ} where
   finds-none : Finds P 0 line → (line ≡ 0) ↔ ((j : ℕ) → P j → ⊥)
   finds-none (inl h) = (λ e. h .1, λ n. h .0)
   finds-none (inr h) = (λ e. absurd (omega (arith, h .1)), λ n. absurd (n (h .0) (h .2 .here)))
+
+finds-one : {P : ℕ → Type 0} {a b : ℕ} → Finds P 0 a → Finds P 0 b → a ≡ b
+finds-one (inl h) (inl g) = h .0 ∙ sym (g .0)
+finds-one (inl h) (inr g) = absurd (h .1 (g .0) (g .2 .here))
+finds-one (inr h) (inl g) = absurd (g .1 (h .0) (h .2 .here))
+finds-one (inr h) (inr g) = omega (arith, h .1, g .1, h .2 .least (g .0) (g .2 .here), g .2 .least (h .0) (h .2 .here))
 
 -- ---- two lists side by side
 module _ {A B : Type 0} (alike : A → B → Bool) (x : A) (y : B) where
@@ -63,15 +71,15 @@ module _ {A B : Type 0} (alike : A → B → Bool) (x : A) (y : B) where
     at-first e (missing p q) = not-suc-le-zero p
     at-first e (surplus p q) = not-suc-le-zero p
 
-  line-finds : (k : ℕ) (xs : List A) (ys : List B) → Finds (At xs ys) k (firstLine alike (k + 1) xs ys)
-  unfolding firstLine
+  line-finds : (k : ℕ) (xs : List A) (ys : List B) → Finds (At xs ys) k (firstPlace alike (k + 1) xs ys)
+  unfolding firstPlace
   line-finds k [] [] = inl (refl, none-at)
   line-finds k [] (b ∷ ys) = inr (0, omega arith, record { here = surplus (omega arith) (omega arith); least = λ j d. omega arith })
   line-finds k (a ∷ xs) [] = inr (0, omega arith, record { here = missing (omega arith) (omega arith); least = λ j d. omega arith })
   line-finds k (a ∷ xs) (b ∷ ys) = by (alike a b) refl (line-finds (k + 1) xs ys)
     where
-      by : (t : Bool) → alike a b ≡ t → Finds (At xs ys) (k + 1) (firstLine alike (k + 1 + 1) xs ys)
-          → Finds (At (a ∷ xs) (b ∷ ys)) k (cond t (firstLine alike (k + 1 + 1) xs ys) (k + 1))
+      by : (t : Bool) → alike a b ≡ t → Finds (At xs ys) (k + 1) (firstPlace alike (k + 1 + 1) xs ys)
+          → Finds (At (a ∷ xs) (b ∷ ys)) k (cond t (firstPlace alike (k + 1 + 1) xs ys) (k + 1))
       by true q (inl h) = inl (h .0, nowhere)
         where
           nowhere : (j : ℕ) → At (a ∷ xs) (b ∷ ys) j → ⊥
@@ -85,8 +93,8 @@ module _ {A B : Type 0} (alike : A → B → Bool) (x : A) (y : B) where
       by false q h = inr (0, omega arith, record { here = other (omega arith) (omega arith) q; least = λ j d. omega arith })
 
   module _ (xs : List A) (ys : List B) where
-    -- a first line is the least place at which the second list differs from the first, counted from 1
-    pub first-least : (i : ℕ) → (firstLine alike 1 xs ys ≡ suc i) ↔ Least (Differs alike x y xs ys) i
+    -- a first place is the least at which the second list differs from the first, counted from 1
+    pub first-least : (i : ℕ) → (firstPlace alike 1 xs ys ≡ suc i) ↔ Least (Differs alike x y xs ys) i
     first-least i = finds-exactly (line-finds 0 xs ys) i
 
     alike-of : ((j : ℕ) → At xs ys j → ⊥) → Alike alike x y xs ys
@@ -114,20 +122,20 @@ module _ {A B : Type 0} (alike : A → B → Bool) (x : A) (y : B) where
     none-differs h j (surplus p q) = omega (arith, h .long)
 
     -- there is none exactly where the two are alike at every place
-    pub line-exactly : (firstLine alike 1 xs ys ≡ 0) ↔ Alike alike x y xs ys
+    pub line-exactly : (firstPlace alike 1 xs ys ≡ 0) ↔ Alike alike x y xs ys
     line-exactly = let f = finds-none (line-finds 0 xs ys) in (λ e. alike-of (f .0 e), λ h. f .1 (none-differs h))
 
 -- ---- the places from i on that fail a test
 abbrev Fails : (ℕ → Bool) → ℕ → ℕ → ℕ → Type 0
 Fails p n i j = (i ≤ j) × (j < i + n) × (p j ≡ false)
 
-failing-finds : (p : ℕ → Bool) (n i : ℕ) → Finds (Fails p n i) 0 (failingLine p n i)
-unfolding failingLine
+failing-finds : (p : ℕ → Bool) (n i : ℕ) → Finds (Fails p n i) 0 (failingPlace p n i)
+unfolding failingPlace
 failing-finds p zero i = inl (refl, λ j h. omega (arith, h .0, h .1))
 failing-finds p (suc n) i = by (p i) refl (failing-finds p n (i + 1))
   where
-    by : (t : Bool) → p i ≡ t → Finds (Fails p n (i + 1)) 0 (failingLine p n (i + 1))
-        → Finds (Fails p (suc n) i) 0 (cond t (failingLine p n (i + 1)) (i + 1))
+    by : (t : Bool) → p i ≡ t → Finds (Fails p n (i + 1)) 0 (failingPlace p n (i + 1))
+        → Finds (Fails p (suc n) i) 0 (cond t (failingPlace p n (i + 1)) (i + 1))
     by true q h =
         finds-same (λ j f. (omega (arith, f .0), omega (arith, f .1), f .2))
         (λ j f. (
@@ -138,7 +146,50 @@ failing-finds p (suc n) i = by (p i) refl (failing-finds p n (i + 1))
         )) h
     by false q h = inr (i, omega arith, record { here = (omega arith, omega arith, q); least = λ j f. f .0 })
 
--- ---- lines that disagree in kind with an earlier one
+-- a test that comes to fail at v, where it held, and is the same elsewhere
+module _ (p q : ℕ → Bool) (n v : ℕ) (l : v < n) (e : p v ≡ true) (same : (u : ℕ) → u < n → (u ≡ v → ⊥) → q u ≡ p u) where
+  fails-now : q v ≡ false → Finds (Fails p n 0) 0 (failingPlace p n 0) → Finds (Fails q n 0) 0 (lesserFault (failingPlace p n 0) (v + 1))
+  fails-now f (inl h) =
+      rw (h .0)
+      (inr (v, omega arith, record {
+        here = (omega arith, omega arith, f);
+        least = λ j g.
+            elim (ℕ-discrete j v) as (λ _. v ≤ j) [
+              | yes d ↦ omega arith
+              | no d ↦ absurd (h .1 j (g .0, g .1, sym (same j (omega (arith, g .1)) d) ∙ g .2))
+            ];
+      }))
+  fails-now f (inr h) =
+      let i = h .0 in
+      let line : failingPlace p n 0 ≡ suc i = omega (arith, h .1) in
+      let at = h .2 .here in
+      elim (decLt i v) as (λ _. Finds (Fails q n 0) 0 (lesserFault (failingPlace p n 0) (v + 1))) [
+        | yes k ↦
+            rw (line, min-eq-left (let m : suc i ≤ v + 1 = omega arith in m))
+            (inr (i, omega arith, record {
+              here = (omega arith, at .1, same i (omega (arith, at .1)) (λ d. omega arith) ∙ at .2);
+              least = λ j g.
+                  elim (ℕ-discrete j v) as (λ _. i ≤ j) [
+                    | yes d ↦ omega arith
+                    | no d ↦ h .2 .least j (g .0, g .1, sym (same j (omega (arith, g .1)) d) ∙ g .2)
+                  ];
+            }))
+        | no k ↦
+            rw (line, min-eq-right (let m : v + 1 ≤ suc i = omega arith in m))
+            (inr (v, omega arith, record {
+              here = (omega arith, omega arith, f);
+              least = λ j g.
+                  elim (ℕ-discrete j v) as (λ _. v ≤ j) [
+                    | yes d ↦ omega arith
+                    | no d ↦ let m = h .2 .least j (g .0, g .1, sym (same j (omega (arith, g .1)) d) ∙ g .2) in omega arith
+                  ];
+            }))
+      ]
+
+  pub failing-now : q v ≡ false → failingPlace q n 0 ≡ lesserFault (failingPlace p n 0) (v + 1)
+  failing-now f = finds-one (failing-finds q n 0) (fails-now f (failing-finds p n 0))
+
+-- ---- vertices that disagree in kind with a smaller one
 every-some : (p : ℕ → Bool) (n : ℕ) → every n p ≡ false → (i : ℕ) × (i < n) × (p i ≡ false)
 unfolding every
 every-some p zero e = clash refl e
@@ -150,18 +201,18 @@ every-some p (suc n) e = by (every n p) refl e (every-some p n)
     by false q f h = let r = h q in (r .0, omega (arith, r .1), r .2)
 
 module _ (labels claims : List ℤ) where
-  unlike-finds : Finds (Disagrees labels claims) 0 (unlikeLine labels claims)
-  unfolding unlikeLine agrees
+  unlike-finds : Finds (Disagrees labels claims) 0 (unlikeVertex labels claims)
+  unfolding unlikeVertex agrees
   unlike-finds =
       finds-same
       (λ j f. let r = every-some (sameKind labels claims j) j (f .2) in
-      record { inside = omega (arith, f .1); earlier = r .0; isEarlier = r .1; unlike = r .2 })
-      (λ j d. (omega arith, omega (arith, d .inside), every-fail (sameKind labels claims j) j (d .earlier) (d .isEarlier) (d .unlike)))
+      record { inside = omega (arith, f .1); smaller = r .0; isSmaller = r .1; unlike = r .2 })
+      (λ j d. (omega arith, omega (arith, d .inside), every-fail (sameKind labels claims j) j (d .smaller) (d .isSmaller) (d .unlike)))
       (failing-finds (agrees labels claims) (length labels) 0)
 
-  -- "The mismatch is the smallest line that disagrees in kind with some earlier line."
-  pub unlike-least : (i : ℕ) → (unlikeLine labels claims ≡ suc i) ↔ Least (Disagrees labels claims) i
+  -- "for WCC the smallest vertex that disagrees with a smaller one"
+  pub unlike-least : (i : ℕ) → (unlikeVertex labels claims ≡ suc i) ↔ Least (Disagrees labels claims) i
   unlike-least i = finds-exactly unlike-finds i
 
-  pub unlike-none : (unlikeLine labels claims ≡ 0) ↔ ((i : ℕ) → Disagrees labels claims i → ⊥)
+  pub unlike-none : (unlikeVertex labels claims ≡ 0) ↔ ((i : ℕ) → Disagrees labels claims i → ⊥)
   unlike-none = finds-none unlike-finds

@@ -1,9 +1,11 @@
 -- Laws of matching.
 pub mod Closeness
-pub mod FirstLines
+pub mod FirstPlaces
 pub mod Leasts
 pub mod Mismatches
 pub mod Readings
+pub mod Covering
+pub mod Records
 pub mod NumberLines
 pub mod DecimalLines
 pub mod Judging

@@ -23,7 +23,7 @@ use Rattle.write.specs.Number.{signedText}
 use Rattle.write.proofs.Texts.{signed-without}
 use Rattle.write.proofs.Back.{ident-back}
 use Rattle.matching.specs.Claim.{claimLines, numberLines, coefficientLines, idsOf, claimedOf}
-use Rattle.matching.specs.Verdict.{Fraction, near, unequalLine, unlikeLine, farLine, judgedBy}
+use Rattle.matching.specs.Verdict.{Fraction, near, unequalVertex, unlikeVertex, farVertex, judgedBy}
 use Rattle.matching.specs.Good.{Alike}
 use Rattle.matching.proofs.Meaning.{accepted, exact-match, epsilon-match, equivalence-match, renamed}
 
@@ -159,14 +159,14 @@ module _ (most : ℕ) (ids : List ℤ) (few : length ids ≤ most) (fits : AllFi
     lines = numbers-back most (listed ids values) (listed-spelled ids values fits fit) (let h = listed-length ids values in omega arith)
 
     -- "the vertex values of the system's output" are the reference output
-    pub exact-own : judgedBy ids (unequalLine values) (numberLines most (claimText (listed ids values))) ≡ accepted
+    pub exact-own : judgedBy ids (unequalVertex values) (numberLines most (claimText (listed ids values))) ≡ accepted
     exact-own =
         rw lines (exact-match ids values (pairsOf (listed ids values)) (listed-ids ids values long) .1 (listed-values ids values long))
 
     -- they are a reference output renamed
     pub equivalence-own : (f : ℤ → ℤ) → ((x y : ℤ) → f x ≡ f y → x ≡ y) → (reference : List ℤ) → length reference ≡ length ids
         → values ≡ map f reference
-        → judgedBy ids (unlikeLine reference) (numberLines most (claimText (listed ids values))) ≡ accepted
+        → judgedBy ids (unlikeVertex reference) (numberLines most (claimText (listed ids values))) ≡ accepted
     equivalence-own f apart reference n e =
         rw lines
         (equivalence-match ids reference (pairsOf (listed ids values)) n (listed-ids ids values long) .1
@@ -176,5 +176,5 @@ module _ (most : ℕ) (ids : List ℤ) (few : length ids ≤ most) (fits : AllFi
   pub epsilon-own : (any : Decimal) (reference : List Fraction) (l : List (WrittenLine Decimal)) → AllSpelled decimalOf l → length l ≤ most
       → idsOf (pairsOf l) ≡ ids
       → Alike near (0, 1) any reference (claimedOf (pairsOf l))
-      → judgedBy ids (farLine reference) (coefficientLines most (claimText l)) ≡ accepted
+      → judgedBy ids (farVertex reference) (coefficientLines most (claimText l)) ≡ accepted
   epsilon-own any reference l h f e a = rw (coefficients-back most l h f) (epsilon-match any ids reference (pairsOf l) e .1 a)

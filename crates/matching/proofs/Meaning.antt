@@ -20,8 +20,8 @@ use Rattle.basis.proofs.Orders.{signed-order}
 use Rattle.text.specs.declared.decimal.Decimal.{Decimal}
 use Rattle.matching.specs.Close.{distance, isClose}
 use Rattle.matching.specs.Claim.{idsOf, claimedOf}
-use Rattle.matching.specs.Verdict.{Verdict, matched, incompleteAt, mismatchAt, Fraction, near, firstLine}
-use Rattle.matching.specs.Verdict.{incompleteLine, unequalLine, sameKind, unlikeLine, farLine, verdictOf, judgedBy}
+use Rattle.matching.specs.Verdict.{Verdict, matched, incompleteAt, mismatchAt, Fraction, near, firstPlace}
+use Rattle.matching.specs.Verdict.{incompleteLine, unequalVertex, sameKind, unlikeVertex, farVertex, verdictOf, judgedBy}
 use Rattle.matching.specs.Good.{Least, Alike, Differs, EqualWhere, TwoWay}
 use Rattle.matching.proofs.Closeness.{cancel, window, ten-pos, zero-only}
 use Rattle.matching.proofs.Leasts.{first-least, line-exactly, unlike-none}
@@ -76,7 +76,7 @@ abbrev pub accepted : Said Verdict
 accepted = gives matched
 
 -- two lists of numbers are alike exactly where they are the same
-pub same-list : (xs ys : List ℤ) → (firstLine sameZ 1 xs ys ≡ 0) ↔ (ys ≡ xs)
+pub same-list : (xs ys : List ℤ) → (firstPlace sameZ 1 xs ys ≡ 0) ↔ (ys ≡ xs)
 same-list xs ys =
     let f = line-exactly sameZ (pos 0) (pos 0) xs ys in (
       λ e.
@@ -143,13 +143,13 @@ module _ {A : Type 0} (ids : List ℤ) (mismatch : List A → ℕ) (l : List (�
 
 -- ---- "Exact match": "the vertex values of the system's output should be identical to the reference output"
 pub exact-match : (ids reference : List ℤ) (l : List (ℤ × ℤ)) → idsOf l ≡ ids
-    → (judgedBy ids (unequalLine reference) (gives l) ≡ accepted) ↔ (claimedOf l ≡ reference)
-exact-match ids reference l = by-match ids (unequalLine reference) l (same-list reference (claimedOf l))
+    → (judgedBy ids (unequalVertex reference) (gives l) ≡ accepted) ↔ (claimedOf l ≡ reference)
+exact-match ids reference l = by-match ids (unequalVertex reference) l (same-list reference (claimedOf l))
 
 -- ---- "Epsilon match": every decimal is close to the fraction of its vertex
 pub epsilon-match : (any : Decimal) (ids : List ℤ) (reference : List Fraction) (l : List (ℤ × Decimal)) → idsOf l ≡ ids
-    → (judgedBy ids (farLine reference) (gives l) ≡ accepted) ↔ (Alike near (0, 1) any reference (claimedOf l))
-epsilon-match any ids reference l = by-match ids (farLine reference) l (line-exactly near (0, 1) any reference (claimedOf l))
+    → (judgedBy ids (farVertex reference) (gives l) ≡ accepted) ↔ (Alike near (0, 1) any reference (claimedOf l))
+epsilon-match any ids reference l = by-match ids (farVertex reference) l (line-exactly near (0, 1) any reference (claimedOf l))
 
 -- ---- "Equivalence match"
 -- what stands beside the first z in a list of keys
@@ -193,7 +193,7 @@ module _ (a b : List ℤ) where
   Kinds = (i j : ℕ) → i < length a → j < length a → sameZ (getD a i (pos 0)) (getD a j (pos 0))
       ≡ sameZ (getD b i (pos 0)) (getD b j (pos 0))
 
-  kinds-of : unlikeLine a b ≡ 0 → Kinds
+  kinds-of : unlikeVertex a b ≡ 0 → Kinds
   unfolding sameKind
   kinds-of h i j k l =
       elim (decLt j i) as (λ _. sameZ (getD a i (pos 0)) (getD a j (pos 0)) ≡ sameZ (getD b i (pos 0)) (getD b j (pos 0))) [
@@ -213,7 +213,7 @@ module _ (a b : List ℤ) where
           (bool-cases (sameKind a b i j) (sameKind a b i j ≡ true) (λ t. t)
           (λ t. absurd (unlike-none a b .0 h i (record { inside = k; earlier = j; isEarlier = f; unlike = t })))))
 
-  kinds-all : Kinds → unlikeLine a b ≡ 0
+  kinds-all : Kinds → unlikeVertex a b ≡ 0
   unfolding sameKind
   kinds-all h =
       unlike-none a b .1
@@ -222,7 +222,7 @@ module _ (a b : List ℤ) where
 
   -- "equal claims exactly where components are equal", for labels that are equal where places belong together
   pub equal-exactly : (n : ℕ) → length a ≡ n → (Together : ℕ → ℕ → Type 0) → EqualWhere n Together a
-      → (unlikeLine a b ≡ 0) ↔ EqualWhere n Together b
+      → (unlikeVertex a b ≡ 0) ↔ EqualWhere n Together b
   equal-exactly n e Together same = (
     λ z i j k l.
         let h = kinds-of z i j (omega arith) (omega arith) in (
@@ -261,13 +261,13 @@ module _ (a b : List ℤ) where
         (signed-order .same-refl (getD a j (pos 0))))
 
     -- "all vertices which have the same label in the system's output also have the same label in the reference output, and vice versa"
-    pub unlike-exactly : (unlikeLine a b ≡ 0) ↔ (TwoWay a b)
+    pub unlike-exactly : (unlikeVertex a b ≡ 0) ↔ (TwoWay a b)
     unlike-exactly = (λ h. two-way (kinds-of h), λ w. kinds-all (one-way w))
 
 pub equivalence-match : (ids reference : List ℤ) (l : List (ℤ × ℤ)) → length reference ≡ length ids → idsOf l ≡ ids
-    → (judgedBy ids (unlikeLine reference) (gives l) ≡ accepted) ↔ (TwoWay reference (claimedOf l))
+    → (judgedBy ids (unlikeVertex reference) (gives l) ≡ accepted) ↔ (TwoWay reference (claimedOf l))
 equivalence-match ids reference l n c =
-    by-match ids (unlikeLine reference) l (unlike-exactly reference (claimedOf l)
+    by-match ids (unlikeVertex reference) l (unlike-exactly reference (claimedOf l)
     (n ∙ ap length (sym c) ∙ ids-length l ∙ sym (claimed-length l))) c
 
 -- a reference output under a renaming that keeps labels apart

@@ -10,22 +10,23 @@ use borrow.Author.Tests.{not-true, not-false}
 use Rattle.basis.specs.Order.{sameZ}
 use Rattle.basis.specs.Scan.{every}
 use Rattle.basis.proofs.Scans.{every-more, every-fail}
-use Rattle.matching.specs.Verdict.{firstLine, unequalLine, sameKind, agrees, failingLine, unlikeLine}
-use Rattle.matching.proofs.FirstLines.{first-end, first-here, first-later, fails-nowhere, fails-here, fails-later}
+use Rattle.matching.specs.Cover.{failingPlace}
+use Rattle.matching.specs.Verdict.{firstPlace, unequalVertex, sameKind, agrees, unlikeVertex}
+use Rattle.matching.proofs.FirstPlaces.{first-end, first-here, first-later, fails-nowhere, fails-here, fails-later}
 
 -- ---- the first line at which two lists of one length differ, i places being passed
-module _ (a b : List ℤ) (e : length a ≡ length b) (i : ℕ) (h : unequalLine a b ≡ firstLine sameZ (i + 1) (drop i a) (drop i b)) where
-  pub unequal-end : length a ≤ i → 0 ≡ unequalLine a b
+module _ (a b : List ℤ) (e : length a ≡ length b) (i : ℕ) (h : unequalVertex a b ≡ firstPlace sameZ (i + 1) (drop i a) (drop i b)) where
+  pub unequal-end : length a ≤ i → 0 ≡ unequalVertex a b
   unequal-end l = sym (h ∙ first-end sameZ (pos 0) (pos 0) a b e i l)
 
   module _ (l : i < length a) {x y : ℤ} (p : x ≡ getD a i (pos 0)) (q : y ≡ getD b i (pos 0)) {t : Bool} (s : t ≡ sameZ x y) where
     test : t ≡ sameZ (getD a i (pos 0)) (getD b i (pos 0))
     test = s ∙ ap₂ sameZ p q
 
-    pub unequal-here : not t ≡ true → i + 1 ≡ unequalLine a b
+    pub unequal-here : not t ≡ true → i + 1 ≡ unequalVertex a b
     unequal-here f = sym (h ∙ first-here sameZ (pos 0) (pos 0) a b e i l (sym test ∙ not-true t f))
 
-    pub unequal-later : not t ≡ false → unequalLine a b ≡ firstLine sameZ (i + 1 + 1) (drop (i + 1) a) (drop (i + 1) b)
+    pub unequal-later : not t ≡ false → unequalVertex a b ≡ firstPlace sameZ (i + 1 + 1) (drop (i + 1) a) (drop (i + 1) b)
     unequal-later f = h ∙ first-later sameZ (pos 0) (pos 0) a b e i l (sym test ∙ not-false t f)
 
 -- ---- four numbers that went through the machine's bits: s and t are the tests of the first two and of the last two
@@ -49,17 +50,17 @@ module _ (x y v w : ℤ) {x′ y′ v′ w′ : ℤ} (p : x′ ≡ x) (q : y′ 
   unlike-apart h = rw (tests, h) (when-apart t)
 
 -- ---- the first line that disagrees in kind with an earlier one
-pub unlike-start : (a b : List ℤ) → unlikeLine a b ≡ failingLine (agrees a b) (length a - 0) 0
-unfolding unlikeLine
+pub unlike-start : (a b : List ℤ) → unlikeVertex a b ≡ failingPlace (agrees a b) (length a - 0) 0
+unfolding unlikeVertex
 unlike-start a b = let e : length a - 0 ≡ length a = omega arith in rw e
 
-module _ (a b : List ℤ) (n i : ℕ) (h : unlikeLine a b ≡ failingLine (agrees a b) (n - i) i) where
-  pub unlike-end : n ≤ i → 0 ≡ unlikeLine a b
+module _ (a b : List ℤ) (n i : ℕ) (h : unlikeVertex a b ≡ failingPlace (agrees a b) (n - i) i) where
+  pub unlike-end : n ≤ i → 0 ≡ unlikeVertex a b
   unlike-end l = sym (h ∙ fails-nowhere (agrees a b) n i l)
 
   -- the earlier lines up to j agree with line i
   module _ (l : i < n) (j : ℕ) (k : every j (sameKind a b i) ≡ true) where
-    pub unlike-later : i ≤ j → j ≤ i → unlikeLine a b ≡ failingLine (agrees a b) (n - (i + 1)) (i + 1)
+    pub unlike-later : i ≤ j → j ≤ i → unlikeVertex a b ≡ failingPlace (agrees a b) (n - (i + 1)) (i + 1)
     unfolding agrees
     unlike-later f g =
         let q : j ≡ i = omega arith in
@@ -72,7 +73,7 @@ module _ (a b : List ℤ) (n i : ℕ) (h : unlikeLine a b ≡ failingLine (agree
       unfolding sameKind
       kind = s ∙ ap₂ (λ s t. not (Bool·beq s t)) (ap₂ sameZ p q) (ap₂ sameZ r o)
 
-      pub unlike-here : j < i → t ≡ true → i + 1 ≡ unlikeLine a b
+      pub unlike-here : j < i → t ≡ true → i + 1 ≡ unlikeVertex a b
       unfolding agrees
       unlike-here f g =
           sym (h ∙ fails-here (agrees a b) n i l (every-fail (sameKind a b i) i j f (not-true (sameKind a b i j) (sym kind ∙ g))))

@@ -13,7 +13,9 @@ use Rattle.matching.specs.declared.judged.Judged.the-variants as J
 use Rattle.matching.specs.declared.numbers.Rule.{Rule}
 use Rattle.matching.specs.declared.numbers.Rule.the-variants.{Exact, Equivalence}
 use Rattle.matching.specs.Close.{isClose}
-use Rattle.matching.specs.Claim.{idsOf, claimedOf}
+use Rattle.graph.specs.declared.find.Found.{Found}
+use Rattle.matching.specs.Claim.{idsOf}
+use Rattle.matching.specs.Cover.{failingPlace, incompleteLine, inOrder, reportedLine}
 
 -- a verdict's number, its file and its line
 pub record Verdict : Type 0 where
@@ -33,7 +35,7 @@ matched = verdict 0 0
 abbrev pub incompleteAt : ℕ → Verdict
 incompleteAt line = verdict 20 line
 
--- "Verdict 21, only for a complete claim, is a mismatch at its first line."
+-- "Verdict 21, only for a complete claim, is a mismatch", at the claim line of "the smallest vertex at fault"
 abbrev pub mismatchAt : ℕ → Verdict
 mismatchAt line = verdict 21 line
 
@@ -44,40 +46,32 @@ says (J.Incomplete line) = gives (incompleteAt line)
 says (J.Mismatch line) = gives (mismatchAt line)
 says (J.Refused r) = refuses r
 
--- two lists side by side, the next line being k: the first line at which they aren't alike by a test,
+-- two lists side by side, the next place being k: the first place at which they aren't alike by a test,
 -- or at which one of them has ended; 0 where there is none
-unfoldable pub firstLine : {A B : Type 0} → (A → B → Bool) → ℕ → List A → List B → ℕ
-firstLine alike k [] [] = 0
-firstLine alike k [] (y ∷ ys) = k
-firstLine alike k (x ∷ xs) [] = k
-firstLine alike k (x ∷ xs) (y ∷ ys) = cond (alike x y) (firstLine alike (k + 1) xs ys) k
+unfoldable pub firstPlace : {A B : Type 0} → (A → B → Bool) → ℕ → List A → List B → ℕ
+firstPlace alike k [] [] = 0
+firstPlace alike k [] (y ∷ ys) = k
+firstPlace alike k (x ∷ xs) [] = k
+firstPlace alike k (x ∷ xs) (y ∷ ys) = cond (alike x y) (firstPlace alike (k + 1) xs ys) k
 
--- "the first line whose identifier isn't the graph's at that place, or the first missing or surplus line"
-abbrev pub incompleteLine : List ℤ → List ℤ → ℕ
-incompleteLine ids claimed = firstLine sameZ 1 ids claimed
+-- 000 "Exact match": "the vertex values of the system's output should be identical to the reference output";
+-- the first vertex, counted from 1, of which they are not
+abbrev pub unequalVertex : List ℤ → List ℤ → ℕ
+unequalVertex reference claimed = firstPlace sameZ 1 reference claimed
 
--- 000 "Exact match": "the vertex values of the system's output should be identical to the reference output"
-abbrev pub unequalLine : List ℤ → List ℤ → ℕ
-unequalLine reference claimed = firstLine sameZ 1 reference claimed
-
--- 000 "Equivalence match": two lines agree in kind, "all vertices which have the same label in the system's output
+-- 000 "Equivalence match": two vertices agree in kind, "all vertices which have the same label in the system's output
 -- also have the same label in the reference output, and vice versa"
 unfoldable pub sameKind : List ℤ → List ℤ → ℕ → ℕ → Bool
 sameKind labels claims i j =
     Bool·beq (sameZ (getD claims i (pos 0)) (getD claims j (pos 0))) (sameZ (getD labels i (pos 0)) (getD labels j (pos 0)))
 
--- line i agrees in kind with every earlier line
+-- vertex i agrees in kind with every smaller one
 unfoldable pub agrees : List ℤ → List ℤ → ℕ → Bool
 agrees labels claims i = every i (sameKind labels claims i)
 
--- the first of so many places, from i on, that fails a test, as a line; 0 where there is none
-unfoldable pub failingLine : (ℕ → Bool) → ℕ → ℕ → ℕ
-failingLine p zero i = 0
-failingLine p (suc n) i = cond (p i) (failingLine p n (i + 1)) (i + 1)
-
--- "The mismatch is the smallest line that disagrees in kind with some earlier line."
-unfoldable pub unlikeLine : List ℤ → List ℤ → ℕ
-unlikeLine labels claims = failingLine (agrees labels claims) (length labels) 0
+-- "for WCC the smallest vertex that disagrees with a smaller one", counted from 1
+unfoldable pub unlikeVertex : List ℤ → List ℤ → ℕ
+unlikeVertex labels claims = failingPlace (agrees labels claims) (length labels) 0
 
 -- "with r the exact fraction": its numerator and its denominator
 abbrev pub Fraction : Type 0
@@ -87,22 +81,25 @@ Fraction = ℕ × ℕ
 abbrev pub near : Fraction → Decimal → Bool
 near r s = isClose (r .0) (r .1) s
 
--- the first line whose decimal does not match its fraction, or at which one of the two lists has ended; 0 where there is none
-abbrev pub farLine : List Fraction → List Decimal → ℕ
-farLine reference claimed = firstLine near 1 reference claimed
+-- the first vertex, counted from 1, whose decimal does not match its fraction, or at which one of the two lists has ended;
+-- 0 where there is none
+abbrev pub farVertex : List Fraction → List Decimal → ℕ
+farVertex reference claimed = firstPlace near 1 reference claimed
 
--- the first mismatch of numbers by a rule: exact or equivalence match
-abbrev pub mismatchLine : Rule → List ℤ → List ℤ → ℕ
-mismatchLine Exact reference claimed = unequalLine reference claimed
-mismatchLine Equivalence reference claimed = unlikeLine reference claimed
+-- the smallest vertex at fault by a rule for numbers: exact or equivalence match
+abbrev pub mismatchVertex : Rule → List ℤ → List ℤ → ℕ
+mismatchVertex Exact reference claimed = unequalVertex reference claimed
+mismatchVertex Equivalence reference claimed = unlikeVertex reference claimed
 
--- "Verdict 21, only for a complete claim": by the first incomplete line and the first mismatch
+-- "Verdict 21, only for a complete claim": by the first incomplete line and the line of the mismatch
 abbrev pub verdictOf : ℕ → ℕ → Verdict
 verdictOf (suc k) mismatch = incompleteAt (suc k)
 verdictOf zero (suc k) = mismatchAt (suc k)
 verdictOf zero zero = matched
 
--- "All lines are read for 1, 2 and 3 first": what is said of a claim on vertices with these identifiers, by the line of its first mismatch
-unfoldable pub judgedBy : {A : Type 0} → List ℤ → (List A → ℕ) → Said (List (ℤ × A)) → Said Verdict
-judgedBy ids mismatch (gives l) = gives (verdictOf (incompleteLine ids (idsOf l)) (mismatch (claimedOf l)))
-judgedBy ids mismatch (refuses r) = refuses r
+-- "All lines are read for 1, 2 and 3 first": what is said of a claim on n vertices, whose identifiers stand at these places,
+-- by the smallest vertex at fault among the values in vertex order
+unfoldable pub judgedBy : {A : Type 0} → (ℤ → Found) → ℕ → A → (List A → ℕ) → Said (List (ℤ × A)) → Said Verdict
+judgedBy place n z mismatch (gives l) =
+    gives (verdictOf (incompleteLine place n (idsOf l)) (reportedLine place (idsOf l) (mismatch (inOrder place z n l))))
+judgedBy place n z mismatch (refuses r) = refuses r

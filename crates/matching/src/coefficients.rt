@@ -1,23 +1,29 @@
 // A claim whose values are decimals, beside the reference output's fractions.
 use crate::close::close;
 use crate::judged::Judged;
-use crate::numbers::both_room;
+use crate::numbers::has_room;
 use crate::numbers::verdict_of;
-use crate::reading::covered;
 use crate::reading::ended;
+use crate::reading::recorded;
+use crate::reading::reported;
+use crate::reading::strayed;
 use basis::Refusal;
+use basis::area::clear;
+use basis::order::lesser;
 use basis::refusal::CLAIM_FILE;
 use basis::refusal::NO_ROOM;
 use basis::refusal::TOO_MANY;
+use graph::find::Found;
 use text::Cursor;
 use text::decimal::Decimal;
 use text::line::CoefficientLine;
 ghost use mathlib.Core.Path.{_≡_};
-ghost use Prim.Native.Nat.{_-_, _^_, _<_, _≤_};
+ghost use Prim.Native.Nat.{_≤_};
 ghost use lib.ListN.{length};
 ghost use Rattle.matching.specs.Verdict.{says};
-ghost use Rattle.matching.specs.Calls.{nearWithin, coefficientsJudged, coefficientsSays};
-ghost use Rattle.matching.specs.Steps.{nearStep};
+ghost use Rattle.basis.specs.Area.{cleared};
+ghost use Rattle.matching.specs.Calls.{nearWithin, told, coefficientsCall};
+ghost use Rattle.matching.specs.Steps.{Within, farStep, JudgedOf};
 
 // A decimal is near a fraction whose terms are within 32 bits.
 fn near_within(a: usize, b: usize, s: Decimal) -> bool
@@ -32,61 +38,64 @@ fn near_within(a: usize, b: usize, s: Decimal) -> bool
     close(a as u32, b as u32, s)
 }
 
-// The first mismatch, once the line after k others has claimed s.
+// The smallest vertex at fault, counted from 1, once a new vertex, or none, has claimed s; 0 where there is none.
 fn measured(
     numerators: &[usize],
     denominators: &[usize],
-    n: usize,
-    k: usize,
+    vertex: Found,
     s: Decimal,
-    mismatch: usize,
+    far: usize,
 ) -> usize
-    requires { ⌜ (n ≤ length (now numerators)) × (n ≤ length (now denominators)) ⌝ }
-    requires { ⌜ k < 2 ^ 64 - 1 ⌝ }
-    ensures { λ r. ⌜ r ≡ nearStep n (now (numerators .entry)) (now (denominators .entry)) k s mismatch ⌝ }
+    requires { ⌜ (Within vertex (length (now numerators))) × (Within vertex (length (now denominators))) ⌝ }
+    ensures { λ r. ⌜ r ≡ farStep (now (numerators .entry)) (now (denominators .entry)) vertex s far ⌝ }
 {
-    if mismatch != 0 {
-        return mismatch;
+    match vertex {
+        Found::Missing => far,
+        Found::At(v) => {
+            if near_within(numerators[v], denominators[v], s) {
+                return far;
+            }
+            if far == 0 {
+                return v + 1;
+            }
+            lesser(far, v + 1)
+        }
     }
-    if n <= k {
-        return k + 1;
-    }
-    if near_within(numerators[k], denominators[k], s) {
-        return 0;
-    }
-    k + 1
 }
 
-// All lines are read, whatever is found in them, since a fault in a later one comes first.
+// All lines are read, whatever is found in them, since a fault in a later one comes first. `lines` is zero before.
 fn read_coefficients(
     most: usize,
     ids: &[i64],
     numerators: &[usize],
     denominators: &[usize],
     claim: &[u8],
+    lines: &mut [usize],
 ) -> Judged
     requires { ⌜ (length (now ids) ≤ length (now numerators)) × (length (now ids) ≤ length (now denominators)) ⌝ }
+    requires { ⌜ (length (now ids) ≤ length (now lines)) × (now lines ≡ cleared (now lines)) ⌝ }
     ensures { λ r. ⌜
-        says r
-        ≡ coefficientsJudged most (now (ids .entry)) (now (numerators .entry)) (now (denominators .entry)) (now (claim .entry)) ⌝ }
+        JudgedOf most (now (ids .entry)) (now (numerators .entry)) (now (denominators .entry)) (now (claim .entry))
+        (length (now (lines .entry))) (now (lines .exit)) (says r) ⌝ }
 {
     let n = ids.len();
     let mut cursor = Cursor { at: 0 };
     let mut k = 0;
-    let mut incomplete = 0;
-    let mut mismatch = 0;
+    let mut stray = 0;
+    let mut far = 0;
     while k < most {
         let line = cursor.coefficient_claim(claim);
         match line {
             CoefficientLine::End(_) => {
-                return verdict_of(ended(ids, k, incomplete), mismatch);
+                return verdict_of(ended(lines, n, k, stray), reported(lines, far));
             }
             CoefficientLine::Fault(number, column, _) => {
                 return Judged::Refused(Refusal::at_column(number, CLAIM_FILE, k + 1, column));
             }
             CoefficientLine::Line(id, s, next) => {
-                incomplete = covered(ids, k, id, incomplete);
-                mismatch = measured(numerators, denominators, n, k, s, mismatch);
+                let vertex = recorded(ids, lines, k, id);
+                far = measured(numerators, denominators, vertex, s, far);
+                stray = strayed(vertex, k, stray);
                 cursor = next;
                 k += 1;
             }
@@ -96,23 +105,28 @@ fn read_coefficients(
     if at < claim.len() {
         return Judged::Refused(Refusal::at(TOO_MANY, CLAIM_FILE, k + 1));
     }
-    verdict_of(ended(ids, k, incomplete), mismatch)
+    verdict_of(ended(lines, n, k, stray), reported(lines, far))
 }
 
-// A claim of at most so many lines, on vertices with these identifiers.
+// A claim of at most so many lines, on vertices with these identifiers; `lines` is a working area.
 pub fn judge_coefficients(
     most: usize,
     ids: &[i64],
     numerators: &[usize],
     denominators: &[usize],
     claim: &[u8],
+    lines: &mut [usize],
 ) -> Judged
     ensures { λ r. ⌜
-        says r
-        ≡ coefficientsSays most (now (ids .entry)) (now (numerators .entry)) (now (denominators .entry)) (now (claim .entry)) ⌝ }
+        told (says r) (now (lines .exit))
+        ≡ coefficientsCall most (now (ids .entry)) (now (numerators .entry)) (now (denominators .entry)) (now (claim .entry))
+        (now (lines .entry)) ⌝ }
 {
-    if !both_room(ids.len(), numerators.len(), denominators.len()) {
+    clear(lines);
+    if !has_room(ids.len(), numerators.len(), denominators.len(), lines.len()) {
         return Judged::Refused(Refusal::plain(NO_ROOM));
     }
-    read_coefficients(most, ids, numerators, denominators, claim)
+    let judged = read_coefficients(most, ids, numerators, denominators, claim, lines);
+    clear(lines);
+    judged
 }

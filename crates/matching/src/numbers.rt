@@ -3,17 +3,18 @@ use crate::judged::Judged;
 use crate::kinds::first_unlike;
 use crate::reading::Read;
 use crate::reading::read_numbers;
+use crate::reading::reported;
 use basis::Refusal;
+use basis::area::clear;
 use basis::area::clear_signed;
 use basis::order::same;
 use basis::refusal::NO_ROOM;
 ghost use mathlib.Core.Path.{_≡_};
-ghost use mathlib.Core.Bool.{_&&_};
 ghost use lib.ListN.{length};
-ghost use lib.Dec.{leb};
+ghost use Prim.Native.Nat.{_≤_};
 ghost use Rattle.basis.specs.Refusal.{gives};
-ghost use Rattle.matching.specs.Verdict.{says, unequalLine, mismatchLine, verdictOf};
-ghost use Rattle.matching.specs.Calls.{outcome, numbersCall};
+ghost use Rattle.matching.specs.Verdict.{says, unequalVertex, mismatchVertex, verdictOf};
+ghost use Rattle.matching.specs.Calls.{outcome, roomIn, numbersCall};
 ghost use Rattle.matching.specs.Steps.{readJudged};
 
 // 000's methods for numbers: exact match, for BFS and CDLP, and equivalence match, for WCC.
@@ -22,10 +23,10 @@ pub enum Rule {
     Equivalence,
 }
 
-// The first line at which two lists differ, or 0.
+// The first vertex, counted from 1, at which two lists differ, or 0.
 fn first_unequal(a: &[i64], b: &[i64]) -> usize
     requires { ⌜ length (now a) ≡ length (now b) ⌝ }
-    ensures { λ r. ⌜ r ≡ unequalLine (now (a .entry)) (now (b .entry)) ⌝ }
+    ensures { λ r. ⌜ r ≡ unequalVertex (now (a .entry)) (now (b .entry)) ⌝ }
 {
     let mut i = 0;
     while i < a.len() {
@@ -37,10 +38,10 @@ fn first_unequal(a: &[i64], b: &[i64]) -> usize
     0
 }
 
-// The first mismatch by a rule, or 0.
+// The smallest vertex at fault by a rule, counted from 1, or 0.
 fn mismatch(rule: Rule, reference: &[i64], claimed: &[i64]) -> usize
     requires { ⌜ length (now reference) ≡ length (now claimed) ⌝ }
-    ensures { λ r. ⌜ r ≡ mismatchLine rule (now (reference .entry)) (now (claimed .entry)) ⌝ }
+    ensures { λ r. ⌜ r ≡ mismatchVertex rule (now (reference .entry)) (now (claimed .entry)) ⌝ }
 {
     match rule {
         Rule::Exact => first_unequal(reference, claimed),
@@ -48,7 +49,7 @@ fn mismatch(rule: Rule, reference: &[i64], claimed: &[i64]) -> usize
     }
 }
 
-// The verdict by the first incomplete line and the first mismatch, 0 where there is none.
+// The verdict by the first incomplete line and the line of the mismatch, 0 where there is none.
 pub(crate) fn verdict_of(incomplete: usize, mismatch: usize) -> Judged
     ensures { λ r. ⌜ says r ≡ gives (verdictOf incomplete mismatch) ⌝ }
 {
@@ -62,9 +63,9 @@ pub(crate) fn verdict_of(incomplete: usize, mismatch: usize) -> Judged
 }
 
 // What is said of a claim once it is read: matching is looked at only where it is complete.
-fn judged_on(rule: Rule, read: Read, reference: &[i64], claimed: &[i64]) -> Judged
-    requires { ⌜ length (now reference) ≡ length (now claimed) ⌝ }
-    ensures { λ r. ⌜ says r ≡ readJudged rule (now (reference .entry)) (now (claimed .entry)) read ⌝ }
+fn judged_on(rule: Rule, read: Read, reference: &[i64], claimed: &[i64], lines: &[usize]) -> Judged
+    requires { ⌜ (length (now reference) ≡ length (now claimed)) × (length (now claimed) ≤ length (now lines)) ⌝ }
+    ensures { λ r. ⌜ says r ≡ readJudged rule (now (reference .entry)) (now (claimed .entry)) (now (lines .entry)) read ⌝ }
 {
     match read {
         Read::Fault(r) => Judged::Refused(r),
@@ -72,22 +73,25 @@ fn judged_on(rule: Rule, read: Read, reference: &[i64], claimed: &[i64]) -> Judg
             if incomplete != 0 {
                 return Judged::Incomplete(incomplete);
             }
-            verdict_of(0, mismatch(rule, reference, claimed))
+            verdict_of(0, reported(lines, mismatch(rule, reference, claimed)))
         }
     }
 }
 
-// Two areas have n places each.
-pub(crate) fn both_room(n: usize, first: usize, second: usize) -> bool
-    ensures { λ r. ⌜ r ≡ (leb n first && leb n second) ⌝ }
+// Three areas of these lengths have n places each.
+pub(crate) fn has_room(n: usize, first: usize, second: usize, third: usize) -> bool
+    ensures { λ r. ⌜ r ≡ roomIn n first second third ⌝ }
 {
     if first < n {
         return false;
     }
-    n <= second
+    if second < n {
+        return false;
+    }
+    n <= third
 }
 
-// A claim of at most so many lines, on vertices with these identifiers; `claimed` is a working area.
+// A claim of at most so many lines, on vertices with these identifiers; `claimed` and `lines` are working areas.
 pub fn judge_numbers(
     rule: Rule,
     most: usize,
@@ -95,18 +99,22 @@ pub fn judge_numbers(
     reference: &[i64],
     claim: &[u8],
     claimed: &mut [i64],
+    lines: &mut [usize],
 ) -> Judged
     ensures { λ r. ⌜
-        outcome (says r) (now (claimed .exit))
-        ≡ numbersCall rule most (now (ids .entry)) (now (reference .entry)) (now (claim .entry)) (now (claimed .entry)) ⌝ }
+        outcome (says r) (now (claimed .exit)) (now (lines .exit))
+        ≡ numbersCall rule most (now (ids .entry)) (now (reference .entry)) (now (claim .entry))
+        (now (claimed .entry)) (now (lines .entry)) ⌝ }
 {
     let n = ids.len();
-    if !both_room(n, reference.len(), claimed.len()) {
+    clear(lines);
+    if !has_room(n, reference.len(), claimed.len(), lines.len()) {
         clear_signed(claimed);
         return Judged::Refused(Refusal::plain(NO_ROOM));
     }
-    let read = read_numbers(most, ids, claim, claimed);
-    let judged = judged_on(rule, read, &reference[..n], &claimed[..n]);
+    let read = read_numbers(most, ids, claim, claimed, lines);
+    let judged = judged_on(rule, read, &reference[..n], &claimed[..n], lines);
     clear_signed(claimed);
+    clear(lines);
     judged
 }

@@ -23,7 +23,7 @@ use Rattle.graph.proofs.Sounds.{sound-of}
 use Rattle.kernels.specs.Answer.{kernelSays, bfsNumber, wccNumber, cdlpNumber, lccNumber}
 use Rattle.wcc.specs.Component.{labelOf, wccOf}
 use Rattle.matching.specs.Claim.{claimLines, numberLines, coefficientLines, idsOf, claimedOf}
-use Rattle.matching.specs.Verdict.{Verdict, near, firstLine, incompleteLine, agrees, failingLine, unlikeLine, verdictOf, judgedBy}
+use Rattle.matching.specs.Verdict.{Verdict, near, firstPlace, incompleteLine, agrees, failingPlace, unlikeVertex, verdictOf, judgedBy}
 use Rattle.matching.proofs.Readings.{ids-length, claimed-length}
 use Rattle.verdicts.specs.Reference.{Reference, coefficients, bfsReference, wccReference, cdlpReference, lccReference}
 use Rattle.verdicts.specs.Call as Call
@@ -48,28 +48,28 @@ module _ {A : Type 0} (form : Form A) (R : RightStop form) (s : List ℕ) (room 
 
 -- ---- the line of a verdict
 
-first-bound : {A B : Type 0} (alike : A → B → Bool) (k : ℕ) (xs : List A) (ys : List B) → firstLine alike k xs ys ≤ k + length ys
-unfolding firstLine
+first-bound : {A B : Type 0} (alike : A → B → Bool) (k : ℕ) (xs : List A) (ys : List B) → firstPlace alike k xs ys ≤ k + length ys
+unfolding firstPlace
 first-bound alike k [] [] = omega arith
 first-bound alike k [] (y ∷ ys) = omega arith
 first-bound alike k (x ∷ xs) [] = omega arith
 first-bound alike k (x ∷ xs) (y ∷ ys) = go (alike x y) (first-bound alike (k + 1) xs ys)
   where
-    go : (t : Bool) → firstLine alike (k + 1) xs ys ≤ k + 1 + length ys → cond t (firstLine alike (k + 1) xs ys) k ≤ k + suc (length ys)
+    go : (t : Bool) → firstPlace alike (k + 1) xs ys ≤ k + 1 + length ys → cond t (firstPlace alike (k + 1) xs ys) k ≤ k + suc (length ys)
     go true h = omega arith
     go false h = omega arith
 
-failing-bound : (p : ℕ → Bool) (n i : ℕ) → failingLine p n i ≤ i + n
-unfolding failingLine
+failing-bound : (p : ℕ → Bool) (n i : ℕ) → failingPlace p n i ≤ i + n
+unfolding failingPlace
 failing-bound p zero i = omega arith
 failing-bound p (suc n) i = go (p i) (failing-bound p n (i + 1))
   where
-    go : (t : Bool) → failingLine p n (i + 1) ≤ i + 1 + n → cond t (failingLine p n (i + 1)) (i + 1) ≤ i + suc n
+    go : (t : Bool) → failingPlace p n (i + 1) ≤ i + 1 + n → cond t (failingPlace p n (i + 1)) (i + 1) ≤ i + suc n
     go true h = omega arith
     go false h = omega arith
 
-unlike-bound : (a b : List ℤ) → unlikeLine a b ≤ length a
-unfolding unlikeLine
+unlike-bound : (a b : List ℤ) → unlikeVertex a b ≤ length a
+unfolding unlikeVertex
 unlike-bound a b = let h = failing-bound (agrees a b) (length a) 0 in omega arith
 
 -- ---- what is said of a claim
@@ -91,9 +91,9 @@ module _ (room : ℕ) (some : Call.mostLines + 1 < room) where
   -- by the line at which two lists part
   parted-small : {A B : Type 0} (alike : B → A → Bool) (ids : List ℤ) (reference : List B) (x : Said (List (ℤ × A)))
       → Readable room x (λ l. 1 + length l)
-      → Small room (asRefusal (judgedBy ids (firstLine alike 1 reference) x))
+      → Small room (asRefusal (judgedBy ids (firstPlace alike 1 reference) x))
   parted-small alike ids reference x h =
-      judged-small ids (firstLine alike 1 reference) x h
+      judged-small ids (firstPlace alike 1 reference) x h
       (λ l e. let f = first-bound alike 1 reference (claimedOf l) in let n = claimed-length l in let k = h .values l e in omega arith)
 
   module _ (most : ℕ) (few : most ≤ Call.mostLines) (g : Graph) (s : List ℕ) (kernel : ℕ) (parameter : ℤ) where
@@ -103,9 +103,9 @@ module _ (room : ℕ) (some : Call.mostLines + 1 < room) where
     decimals-readable : Readable room (coefficientLines most s) (λ l. 1 + length l)
     decimals-readable = lines-readable (pairForm decimalForm) (pair-right decimalForm decimal-right) s room most (omega arith)
 
-    wcc-small : soundGraph g ≡ true → Small room (asRefusal (judgedBy (names g) (unlikeLine (wccOf g)) (numberLines most s)))
+    wcc-small : soundGraph g ≡ true → Small room (asRefusal (judgedBy (names g) (unlikeVertex (wccOf g)) (numberLines most s)))
     wcc-small h =
-        judged-small (names g) (unlikeLine (wccOf g)) (numberLines most s) numbers-readable
+        judged-small (names g) (unlikeVertex (wccOf g)) (numberLines most s) numbers-readable
         (λ l e. let f = unlike-bound (wccOf g) (claimedOf l) in
         let n = column-length (labelOf (g .vertices) (outward g) (names g)) 0 (g .vertices) in let k = sound-of g h .fewVertices in
         omega arith)

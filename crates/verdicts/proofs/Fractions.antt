@@ -21,7 +21,7 @@ use Rattle.lcc.specs.Call as lcc
 use Rattle.lcc.proofs.Meaning.{coefficient-meaning}
 use Rattle.text.specs.declared.decimal.Decimal.{Decimal}
 use Rattle.matching.specs.Claim.{coefficientLines, claimedOf, idsOf}
-use Rattle.matching.specs.Verdict.{Verdict, Fraction, firstLine, near, farLine, incompleteLine, verdictOf, judgedBy}
+use Rattle.matching.specs.Verdict.{Verdict, Fraction, firstPlace, near, farVertex, incompleteLine, verdictOf, judgedBy}
 use Rattle.matching.specs.Calls.{nearWithin, farWithin, fractionIn, fractions}
 use Rattle.verdicts.specs.Reference.{coefficientAt, coefficients, lccReference}
 use Rattle.verdicts.specs.Call.{verdictSays}
@@ -31,8 +31,8 @@ use Rattle.verdicts.proofs.Running.{Ran, ran-fine, ran-known, ran-roomy
 
 -- ---- two tests that agree on one list's members find the same line
 first-same : {A B : Type 0} (p q : A → B → Bool) (z : A) (k : ℕ) (xs : List A) (ys : List B)
-    → ((i : ℕ) → i < length xs → (y : B) → p (getD xs i z) y ≡ q (getD xs i z) y) → firstLine p k xs ys ≡ firstLine q k xs ys
-unfolding firstLine
+    → ((i : ℕ) → i < length xs → (y : B) → p (getD xs i z) y ≡ q (getD xs i z) y) → firstPlace p k xs ys ≡ firstPlace q k xs ys
+unfolding firstPlace
 first-same p q z k [] [] h = refl
 first-same p q z k [] (y ∷ ys) h = refl
 first-same p q z k (x ∷ xs) [] h = refl
@@ -53,7 +53,7 @@ module _ (g : Graph) (sound : soundGraph g ≡ true) where
       let m = coefficient-meaning g sound v l in
       rw (lt-ltb (coefficientAt g v .0) (2 ^ 32) (omega (arith, m .within, m .small)), lt-ltb (coefficientAt g v .1) (2 ^ 32) (m .small))
 
-  far-coefficients : (l : List Decimal) → farWithin (coefficients g) l ≡ farLine (coefficients g) l
+  far-coefficients : (l : List Decimal) → farWithin (coefficients g) l ≡ farVertex (coefficients g) l
   far-coefficients l =
       first-same nearWithin near (0, 0) 1 (coefficients g) l
       (λ i h s.
@@ -128,7 +128,7 @@ module _ (g : Graph) (F S W : List ℕ) {a : Said (Unit {0})} {F′ S′ W′ : 
         (λ d. ap (λ (x : Said Verdict). check room noRoom x)
         (ap (λ (l : List Fraction). judgedBy (take (g .vertices) (g .ids)) (farWithin l) (coefficientLines most s))
         (fractions-are g F′ S′ (ran-front upper-ran d) (ran-front lower-ran d))
-        ∙ judged-same (take (g .vertices) (g .ids)) (farWithin (coefficients g)) (farLine (coefficients g)) (coefficientLines most s)
+        ∙ judged-same (take (g .vertices) (g .ids)) (farWithin (coefficients g)) (farVertex (coefficients g)) (coefficientLines most s)
         (far-coefficients g (ran-fine upper-ran d .isSound))))
         ∙ rw (upper-ran .said)
         (says-rooms (soundGraph g) true 0 (lcc.roomFor (g .vertices) F S W) room (lccReference most g s .judged)

@@ -14,7 +14,7 @@ use Rattle.basis.proofs.Saids.{refused-given}
 use Rattle.kernels.specs.Answer.{kernelSays}
 use Rattle.matching.specs.declared.numbers.Rule.{Rule}
 use Rattle.matching.specs.Claim.{numberLines}
-use Rattle.matching.specs.Verdict.{Verdict, mismatchLine, judgedBy}
+use Rattle.matching.specs.Verdict.{Verdict, mismatchVertex, judgedBy}
 use Rattle.verdicts.specs.Reference.{Reference}
 use Rattle.verdicts.specs.Call.{thenSays, verdictSays}
 use Rattle.verdicts.specs.Steps.{unlessRefused, Known, Roomy, Numbers, numbersSays, numbersOn, numbersVerdict}
@@ -108,16 +108,16 @@ module _ {A : Type 0} {z : A} {given : Bool} {number : ℕ} {values : List A} {n
 module _ (k : Reference) {n : ℕ} (ids : List ℤ) {sound own : Bool} (R : List ℤ) {answer : Said (Unit {0})} {R′ : List ℤ}
     (h : Ran (pos 0) (k .given) (k .number) (k .values) n (length ids) sound own (length R) answer R′)
     {room : Bool} (r : room ≡ true → own ≡ true) (rule : Rule) (most : ℕ) (s : List ℕ)
-    (q : k .judged ≡ judgedBy (take n ids) (mismatchLine rule (k .values)) (numberLines most s)) where
+    (q : k .judged ≡ judgedBy (take n ids) (mismatchVertex rule (k .values)) (numberLines most s)) where
   says-same : numbersSays answer room rule most (take n ids) (take n R′) s ≡ verdictSays k sound room
   unfolding numbersSays verdictSays
   says-same =
       then-same answer
-      (λ e. ap (λ (l : List ℤ). check room noRoom (judgedBy (take n ids) (mismatchLine rule l) (numberLines most s))) (ran-front h e))
+      (λ e. ap (λ (l : List ℤ). check room noRoom (judgedBy (take n ids) (mismatchVertex rule l) (numberLines most s))) (ran-front h e))
       ∙ rw (h .said, ← q) (says-rooms sound (k .given) (k .number) own room (k .judged) r)
 
   pub numbers-verdict : (C : List ℤ) {x : Numbers} → x ≡ numbersOn answer room rule most n ids s R′ C → x ≡ numbersVerdict k sound room R C
   unfolding numbersOn numbersVerdict numbersSays
   numbers-verdict C p =
       p ∙ both-numbers says-same
-      (ran-leaves h (check room noRoom (judgedBy (take n ids) (mismatchLine rule (take n R′)) (numberLines most s))) says-same) refl
+      (ran-leaves h (check room noRoom (judgedBy (take n ids) (mismatchVertex rule (take n R′)) (numberLines most s))) says-same) refl

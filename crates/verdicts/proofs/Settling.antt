@@ -17,7 +17,7 @@ use Rattle.kernels.specs.Answer.{says as answers}
 use Rattle.matching.specs.declared.judged.Judged.{Judged}
 use Rattle.matching.specs.declared.numbers.Rule.{Rule}
 use Rattle.matching.specs.Claim.{numberLines, coefficientLines}
-use Rattle.matching.specs.Verdict.{Verdict, says, mismatchLine, judgedBy}
+use Rattle.matching.specs.Verdict.{Verdict, says, mismatchVertex, judgedBy}
 use Rattle.matching.specs.Calls as calls
 use Rattle.verdicts.specs.Steps.{isRefused, unlessRefused, Known, Roomy, Numbers, numbers}
 use Rattle.verdicts.specs.Steps.{numbersSays, numbersOn, Terms, terms, termsSays, termsOn}
@@ -71,7 +71,7 @@ module _ (answer : Answer) (room : Bool) (rule : Rule) (most n : ℕ) (ids : Lis
       numbers-done h roomy j C′ q i R′ p =
           let t = not-false room h in
           let l = length-take-le n ids (known-ids answer n (length ids) e known) in
-          let f : says j ≡ judgedBy (take n ids) (mismatchLine rule (take n R)) (numberLines most s) =
+          let f : says j ≡ judgedBy (take n ids) (mismatchVertex rule (take n R)) (numberLines most s) =
           ap (λ (o : calls.Outcome). o .said) q
           ∙ rw (l, le-leb n (length R) (roomy .0 t), le-leb n (length C) (roomy .1 t)) in
           rw (e, t) (both-numbers (ap says (p .0) ∙ f) (p .1 ∙ ap (λ (x : Said Verdict). unlessRefused x (pos 0) R) f)

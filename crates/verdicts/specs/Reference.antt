@@ -13,7 +13,7 @@ use Rattle.cdlp.specs.Call.{goodRounds}
 use Rattle.cdlp.specs.Rounds.{cdlpOf}
 use Rattle.lcc.specs.Lcc.{numerator, denominator, numerators, denominators}
 use Rattle.matching.specs.Claim.{numberLines, coefficientLines}
-use Rattle.matching.specs.Verdict.{Verdict, Fraction, unequalLine, unlikeLine, farLine, judgedBy}
+use Rattle.matching.specs.Verdict.{Verdict, Fraction, unequalVertex, unlikeVertex, farVertex, judgedBy}
 
 -- whether the parameter is good, else the number of its refusal; the result areas' content; what is said of the claim
 pub record Reference : Type 0 where
@@ -43,7 +43,7 @@ module _ (most : ℕ) (g : Graph) (s : List ℕ) where
         values = depthsFrom g (placeIn (names g) root);
         numerators = [];
         denominators = [];
-        judged = judgedBy (names g) (unequalLine (depthsFrom g (placeIn (names g) root))) (numberLines most s);
+        judged = judgedBy (names g) (unequalVertex (depthsFrom g (placeIn (names g) root))) (numberLines most s);
       }
 
   -- "WCC: equal claims exactly where components are equal."
@@ -55,7 +55,7 @@ module _ (most : ℕ) (g : Graph) (s : List ℕ) where
         values = wccOf g;
         numerators = [];
         denominators = [];
-        judged = judgedBy (names g) (unlikeLine (wccOf g)) (numberLines most s);
+        judged = judgedBy (names g) (unlikeVertex (wccOf g)) (numberLines most s);
       }
 
   -- "BFS and CDLP: equal numbers.": the labels after so many iterations
@@ -67,7 +67,7 @@ module _ (most : ℕ) (g : Graph) (s : List ℕ) where
         values = cdlpOf g (natAbs iterations);
         numerators = [];
         denominators = [];
-        judged = judgedBy (names g) (unequalLine (cdlpOf g (natAbs iterations))) (numberLines most s);
+        judged = judgedBy (names g) (unequalVertex (cdlpOf g (natAbs iterations))) (numberLines most s);
       }
 
   -- "LCC: 10,000 times |r-s| at most r"
@@ -79,5 +79,5 @@ module _ (most : ℕ) (g : Graph) (s : List ℕ) where
         values = [];
         numerators = numerators g;
         denominators = denominators g;
-        judged = judgedBy (names g) (farLine (coefficients g)) (coefficientLines most s);
+        judged = judgedBy (names g) (farVertex (coefficients g)) (coefficientLines most s);
       }

@@ -10,7 +10,7 @@ use Rattle.basis.specs.Area.{leaves, clearedZ}
 use Rattle.graph.specs.Sound.{Graph, soundGraph}
 use Rattle.matching.specs.declared.numbers.Rule.{Rule}
 use Rattle.matching.specs.Claim.{numberLines, coefficientLines}
-use Rattle.matching.specs.Verdict.{Verdict, mismatchLine, judgedBy}
+use Rattle.matching.specs.Verdict.{Verdict, mismatchVertex, judgedBy}
 use Rattle.matching.specs.Calls.{fractions, farWithin}
 use Rattle.verdicts.specs.Reference.{Reference, bfsReference, wccReference, cdlpReference, lccReference}
 use Rattle.verdicts.specs.Call.{thenSays, verdictSays}
@@ -46,7 +46,7 @@ numbers said result claimed = record { said = said; result = result; claimed = c
 -- what is said of a claim of numbers by the results of a kernel that answered so, if there is room in all areas
 unfoldable pub numbersSays : Said (Unit {0}) → Bool → Rule → ℕ → List ℤ → List ℤ → List ℕ → Said Verdict
 numbersSays answer room rule most ids reference s =
-    thenSays answer (check room noRoom (judgedBy ids (mismatchLine rule reference) (numberLines most s)))
+    thenSays answer (check room noRoom (judgedBy ids (mismatchVertex rule reference) (numberLines most s)))
 
 -- the same by the first n identifiers and results; the result area stays, or is zero after a refusal, and the working area is zero
 unfoldable pub numbersOn : Said (Unit {0}) → Bool → Rule → ℕ → ℕ → List ℤ → List ℕ → List ℤ → List ℤ → Numbers

@@ -1,20 +1,42 @@
-use Rattle.matching.proofs.FirstLines.{room-first, room-second}
-use Rattle.matching.proofs.DecimalLines.{coefficients-short, coefficients-done}
+use Rattle.matching.proofs.FirstPlaces.{room-first, room-second, room-third}
+use Rattle.matching.proofs.DecimalLines.{coefficients-short, coefficients-cleared, coefficients-done}
 use borrow.Author.Needs.{needs}
 use Rattle.matching.proofs.coefficients.judge_coefficients.Statement.{statement}
 use Rattle.matching.proofs.coefficients.judge_coefficients.Tie as tie
+use Rattle.matching.proofs.coefficients.judge_coefficients.Reads as reads
+use Rattle.matching.proofs.coefficients.judge_coefficients.Lts as lts
+use Rattle.basis.proofs.area.clear.Reads as clear-reads
+use Rattle.basis.proofs.refusal.Refusal.plain.Reads as plain-reads
+use Rattle.matching.proofs.coefficients.read_coefficients.Reads as read-coefficients-reads
+use Rattle.matching.proofs.numbers.has_room.Reads as has-room-reads
 
-both-room-requires : tie.Need-both-room-requires
-both-room-requires c κs = search needs
+clear-requires : tie.Need-clear-requires
+clear-requires c κs = search needs
+
+has-room-requires : tie.Need-has-room-requires
+has-room-requires c κs = search needs
 
 plain-requires : tie.Need-plain-requires
 plain-requires c κs = search needs
+
+same-length : tie.Need-same-length
+same-length c = search needs
 
 returns : tie.Need-returns
 returns c = search coefficients-short
 
 read-coefficients-requires : tie.Need-read-coefficients-requires
-read-coefficients-requires c κs = (search room-first, search room-second)
+read-coefficients-requires c κs =
+    let e = c .before .before .has-room .ensures in
+    let f = c .before .if1 .left in
+    ((room-first _ _ _ _ e f, room-second _ _ _ _ e f),
+    (room-third _ _ _ _ e f, coefficients-cleared _ _ _ _ _ _ (c .before .before .before .before .before .clear .ensures) e))
+
+clear-requires-2 : tie.Need-clear-requires-2
+clear-requires-2 c κs = search needs
+
+same-length-2 : tie.Need-same-length-2
+same-length-2 c = search needs
 
 returns-2 : tie.Need-returns-2
 returns-2 c = search coefficients-done
@@ -22,4 +44,13 @@ returns-2 c = search coefficients-done
 pub judge-coefficients-spec : {M : Type 1} → statement M
 judge-coefficients-spec =
     tie.close
-    (tie.spec both-room-requires plain-requires returns read-coefficients-requires returns-2)
+    (tie.spec
+    clear-requires
+    has-room-requires
+    plain-requires
+    same-length
+    returns
+    read-coefficients-requires
+    clear-requires-2
+    same-length-2
+    returns-2)

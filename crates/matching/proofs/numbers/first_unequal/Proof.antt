@@ -3,14 +3,14 @@ use Prim.Native.Nat.{_+_, _-_, _≤_}
 use mathlib.Core.Path.{_≡_, refl}
 use lib.ListN.{length, drop}
 use Rattle.basis.specs.Order.{sameZ}
-use Rattle.matching.specs.Verdict.{firstLine, unequalLine}
+use Rattle.matching.specs.Verdict.{firstPlace, unequalVertex}
 use Rattle.matching.proofs.Mismatches.{unequal-end, unequal-here, unequal-later}
-use Rattle.matching.proofs.FirstLines.{bits-back}
+use Rattle.matching.proofs.FirstPlaces.{bits-back}
 use Rattle.matching.proofs.numbers.first_unequal.Statement.{statement}
 use Rattle.matching.proofs.numbers.first_unequal.Tie as tie
 
 abbrev Inv-loop : tie.InvT-loop
-Inv-loop a b i₀ i = (i ≤ length a) × (unequalLine a b ≡ firstLine sameZ (i + 1) (drop i a) (drop i b))
+Inv-loop a b i₀ i = (i ≤ length a) × (unequalVertex a b ≡ firstPlace sameZ (i + 1) (drop i a) (drop i b))
 
 abbrev μ-loop : tie.MeasureT-loop
 μ-loop a b i₀ i = length a - i

@@ -1,13 +1,24 @@
-use Rattle.matching.proofs.FirstLines.{room-first, room-second}
+use Rattle.matching.proofs.FirstPlaces.{room-first, room-second, room-third}
 use lib.Seq.{length-take-le}
 use mathlib.Core.Path.{sym}
-use Rattle.matching.proofs.Judging.{judge-short, judge-kept, judge-lengths, judge-done}
+use Rattle.matching.proofs.Judging.{judge-short, judge-cleared, judge-kept, judge-lengths, judge-wide, judge-done}
 use borrow.Author.Needs.{needs}
 use Rattle.matching.proofs.numbers.judge_numbers.Statement.{statement}
 use Rattle.matching.proofs.numbers.judge_numbers.Tie as tie
+use Rattle.matching.proofs.numbers.judge_numbers.Reads as reads
+use Rattle.matching.proofs.numbers.judge_numbers.Lts as lts
+use Rattle.basis.proofs.area.clear.Reads as clear-reads
+use Rattle.basis.proofs.area.clear_signed.Reads as clear-signed-reads
+use Rattle.basis.proofs.refusal.Refusal.plain.Reads as plain-reads
+use Rattle.matching.proofs.numbers.has_room.Reads as has-room-reads
+use Rattle.matching.proofs.numbers.judged_on.Reads as judged-on-reads
+use Rattle.matching.proofs.reading.read_numbers.Reads as read-numbers-reads
 
-both-room-requires : tie.Need-both-room-requires
-both-room-requires c κs = search needs
+clear-requires : tie.Need-clear-requires
+clear-requires c κs = search needs
+
+has-room-requires : tie.Need-has-room-requires
+has-room-requires c κs = search needs
 
 clear-signed-requires : tie.Need-clear-signed-requires
 clear-signed-requires c κs = search needs
@@ -18,14 +29,18 @@ plain-requires c κs = search needs
 same-length : tie.Need-same-length
 same-length c = search needs
 
+same-length-2 : tie.Need-same-length-2
+same-length-2 c = search needs
+
 returns : tie.Need-returns
 returns c = search judge-short
 
 read-numbers-requires : tie.Need-read-numbers-requires
-read-numbers-requires c κs = search room-second
+read-numbers-requires c κs = ((search room-second, search room-third), search judge-cleared)
 
 slice-aggregate-judged-on : tie.Need-slice-aggregate-judged-on
-slice-aggregate-judged-on c = sym (length-take-le _ _ (search room-first))
+slice-aggregate-judged-on c =
+    sym (length-take-le _ _ (room-first _ _ _ _ (c .before .before .before .before .before .before .before .before .has-room .ensures) (c .before .before .before .before .before .before .before .if1 .left)))
 
 slice-reshare-prefix-judged-on : tie.Need-slice-reshare-prefix-judged-on
 slice-reshare-prefix-judged-on c = search judge-kept
@@ -34,13 +49,24 @@ slice-aggregate-judged-on-2 : tie.Need-slice-aggregate-judged-on-2
 slice-aggregate-judged-on-2 c = sym (length-take-le _ _ (search judge-kept))
 
 judged-on-requires : tie.Need-judged-on-requires
-judged-on-requires c κs = search judge-lengths
+judged-on-requires c κs =
+    let k = c .before .before .before .before .before .before .before .before .before .before .before .before .before .clear .ensures in
+    let e = c .before .before .before .before .before .before .before .before .before .before .has-room .ensures in
+    let f = c .before .before .before .before .before .before .before .before .before .if1 .left in
+    let h = c .before .before .before .before .before .before .read-numbers .ensures in
+    (judge-lengths _ _ _ _ _ _ _ k e f _ _ _ h, judge-wide _ _ _ _ _ _ _ k e f _ _ _ h)
 
 clear-signed-requires-2 : tie.Need-clear-signed-requires-2
 clear-signed-requires-2 c κs = search needs
 
-same-length-2 : tie.Need-same-length-2
-same-length-2 c = search needs
+clear-requires-2 : tie.Need-clear-requires-2
+clear-requires-2 c κs = search needs
+
+same-length-3 : tie.Need-same-length-3
+same-length-3 c = search needs
+
+same-length-4 : tie.Need-same-length-4
+same-length-4 c = search needs
 
 returns-2 : tie.Need-returns-2
 returns-2 c = search judge-done
@@ -49,10 +75,12 @@ pub judge-numbers-spec : {M : Type 1} → statement M
 judge-numbers-spec =
     tie.close
     (tie.spec
-    both-room-requires
+    clear-requires
+    has-room-requires
     clear-signed-requires
     plain-requires
     same-length
+    same-length-2
     returns
     read-numbers-requires
     slice-aggregate-judged-on
@@ -60,5 +88,7 @@ judge-numbers-spec =
     slice-aggregate-judged-on-2
     judged-on-requires
     clear-signed-requires-2
-    same-length-2
+    clear-requires-2
+    same-length-3
+    same-length-4
     returns-2)

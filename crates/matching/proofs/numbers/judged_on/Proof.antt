@@ -1,7 +1,12 @@
-use Rattle.matching.proofs.Judging.{read-fault, read-incomplete, read-complete}
+use Rattle.matching.proofs.Judging.{read-fault, read-incomplete, read-complete, fault-inside}
 use borrow.Author.Needs.{needs}
 use Rattle.matching.proofs.numbers.judged_on.Statement.{statement}
 use Rattle.matching.proofs.numbers.judged_on.Tie as tie
+use Rattle.matching.proofs.numbers.judged_on.Reads as reads
+use Rattle.matching.proofs.numbers.judged_on.Lts as lts
+use Rattle.matching.proofs.numbers.mismatch.Reads as mismatch-reads
+use Rattle.matching.proofs.numbers.verdict_of.Reads as verdict-of-reads
+use Rattle.matching.proofs.reading.reported.Reads as reported-reads
 
 enum-known-read : tie.Need-enum-known-read
 enum-known-read c = search needs
@@ -14,6 +19,9 @@ returns c = search read-incomplete
 
 mismatch-requires : tie.Need-mismatch-requires
 mismatch-requires c κs = search needs
+
+reported-requires : tie.Need-reported-requires
+reported-requires c κs = search fault-inside
 
 verdict-of-requires : tie.Need-verdict-of-requires
 verdict-of-requires c κs = search needs
@@ -32,6 +40,7 @@ judged-on-spec =
     enum-known-read-2
     returns
     mismatch-requires
+    reported-requires
     verdict-of-requires
     returns-2
     returns-3)

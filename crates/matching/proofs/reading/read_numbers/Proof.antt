@@ -1,19 +1,29 @@
+use native.Mathlib.Omega.{arith}
 use borrow.Author.Needs.{needs}
 use Prim.Native.Nat.{_-_}
 use lib.ListN.{length}
-use Rattle.matching.proofs.NumberLines.{Numbers, numbers-none, numbers-next, numbers-end, numbers-fault, numbers-over, numbers-full}
+use Rattle.matching.proofs.NumberLines.{Numbers, numbers-none, numbers-next, numbers-end, numbers-fault, numbers-over, numbers-full, named-within}
 use Rattle.matching.proofs.reading.read_numbers.Statement.{statement}
 use Rattle.matching.proofs.reading.read_numbers.Tie as tie
+use Rattle.matching.proofs.reading.read_numbers.Reads as reads
+use Rattle.matching.proofs.reading.read_numbers.Lts as lts
+use Rattle.basis.proofs.refusal.Refusal.at.Reads as at-reads
+use Rattle.basis.proofs.refusal.Refusal.at_column.Reads as at-column-reads
+use Rattle.matching.proofs.reading.ended.Reads as ended-reads
+use Rattle.matching.proofs.reading.keep.Reads as keep-reads
+use Rattle.matching.proofs.reading.recorded.Reads as recorded-reads
+use Rattle.matching.proofs.reading.strayed.Reads as strayed-reads
+use Rattle.text.proofs.line.Cursor.claim.Reads as claim-reads
 
 abbrev Inv-loop : tie.InvT-loop
-Inv-loop most ids claim claimed₀ n cursor₀ k₀ incomplete₀ claimed cursor k incomplete =
-    Numbers most ids claim (length claimed₀) claimed (cursor .at) k incomplete
+Inv-loop most ids claim claimed₀ lines₀ n cursor₀ k₀ stray₀ claimed lines cursor k stray = 
+    Numbers most ids claim (length claimed₀) (length lines₀) claimed lines (cursor .at) k stray
 
 abbrev μ-loop : tie.MeasureT-loop
-μ-loop most ids claim claimed₀ n cursor₀ k₀ incomplete₀ claimed cursor k incomplete = most - k
+μ-loop most ids claim claimed₀ lines₀ n cursor₀ k₀ stray₀ claimed lines cursor k stray = most - k
 
 loop-holds : tie.Need-loop-holds Inv-loop μ-loop
-loop-holds c = numbers-none _ _ _ _
+loop-holds c = search numbers-none
 
 claim-requires : tie.Need-claim-requires Inv-loop μ-loop
 claim-requires c κs = search needs
@@ -27,6 +37,9 @@ ended-requires c κs = search needs
 same-length : tie.Need-same-length Inv-loop μ-loop
 same-length c = search needs
 
+same-length-2 : tie.Need-same-length-2 Inv-loop μ-loop
+same-length-2 c = search needs
+
 returns : tie.Need-returns Inv-loop μ-loop
 returns c = search numbers-end
 
@@ -39,8 +52,11 @@ add-at-column c = search needs
 at-column-requires : tie.Need-at-column-requires Inv-loop μ-loop
 at-column-requires c κs = search needs
 
-same-length-2 : tie.Need-same-length-2 Inv-loop μ-loop
-same-length-2 c = search needs
+same-length-3 : tie.Need-same-length-3 Inv-loop μ-loop
+same-length-3 c = search needs
+
+same-length-4 : tie.Need-same-length-4 Inv-loop μ-loop
+same-length-4 c = search needs
 
 returns-2 : tie.Need-returns-2 Inv-loop μ-loop
 returns-2 c = search numbers-fault
@@ -48,11 +64,17 @@ returns-2 c = search numbers-fault
 enum-known-line-2 : tie.Need-enum-known-line-2 Inv-loop μ-loop
 enum-known-line-2 c = search needs
 
-covered-requires : tie.Need-covered-requires Inv-loop μ-loop
-covered-requires c κs = search needs
+recorded-requires : tie.Need-recorded-requires Inv-loop μ-loop
+recorded-requires c κs = search needs
 
 keep-requires : tie.Need-keep-requires Inv-loop μ-loop
-keep-requires c κs = search needs
+keep-requires c κs =
+    named-within _ _ _ (c .before .before .before .recorded .ensures .0) _
+    (omega (arith, c .before .before .before .before .before .before .before .before .before .before .loop .inv .kept,
+    c .before .before .before .before .before .before .before .before .before .before .before .before .before .pre .0 .0))
+
+strayed-requires : tie.Need-strayed-requires Inv-loop μ-loop
+strayed-requires c κs = search needs
 
 add-k : tie.Need-add-k Inv-loop μ-loop
 add-k c = search needs
@@ -69,8 +91,11 @@ add-at c = search needs
 at-requires : tie.Need-at-requires Inv-loop μ-loop
 at-requires c κs = search needs
 
-same-length-3 : tie.Need-same-length-3 Inv-loop μ-loop
-same-length-3 c = search needs
+same-length-5 : tie.Need-same-length-5 Inv-loop μ-loop
+same-length-5 c = search needs
+
+same-length-6 : tie.Need-same-length-6 Inv-loop μ-loop
+same-length-6 c = search needs
 
 returns-3 : tie.Need-returns-3 Inv-loop μ-loop
 returns-3 c = search numbers-over
@@ -78,8 +103,11 @@ returns-3 c = search numbers-over
 ended-requires-2 : tie.Need-ended-requires-2 Inv-loop μ-loop
 ended-requires-2 c κs = search needs
 
-same-length-4 : tie.Need-same-length-4 Inv-loop μ-loop
-same-length-4 c = search needs
+same-length-7 : tie.Need-same-length-7 Inv-loop μ-loop
+same-length-7 c = search needs
+
+same-length-8 : tie.Need-same-length-8 Inv-loop μ-loop
+same-length-8 c = search needs
 
 returns-4 : tie.Need-returns-4 Inv-loop μ-loop
 returns-4 c = search numbers-full
@@ -95,22 +123,27 @@ read-numbers-spec =
     enum-told
     ended-requires
     same-length
+    same-length-2
     returns
     enum-known-line
     add-at-column
     at-column-requires
-    same-length-2
+    same-length-3
+    same-length-4
     returns-2
     enum-known-line-2
-    covered-requires
+    recorded-requires
     keep-requires
+    strayed-requires
     add-k
     loop-less
     loop-again
     add-at
     at-requires
-    same-length-3
+    same-length-5
+    same-length-6
     returns-3
     ended-requires-2
-    same-length-4
+    same-length-7
+    same-length-8
     returns-4)
