@@ -1,14 +1,15 @@
 -- What is said of a claim, on its bytes: each answer exactly where the bytes are of its kind, by any of 000's three methods.
 -- Assumes nothing.
-use mathlib.Core.Path.{_≡_, refl, sym, ap, _∙_}
+use mathlib.Core.Path.{_≡_, refl, sym, ap, _∙_, subst}
+use mathlib.Core.Bool.{true}
 use mathlib.Core.Logic.{_↔_}
 use mathlib.Core.List.{List}
-use Prim.Native.Nat.{ℕ, suc}
+use Prim.Native.Nat.{ℕ, suc, _≤_}
 use lib.IntN.{ℤ, pos}
 use lib.ListN.{length}
 use Rattle.basis.specs.declared.refusal.Refusal.{Refusal}
 use Rattle.basis.specs.Refusal.{Said, gives, refuses, claimFile}
-use Rattle.basis.specs.Order.{sameZ}
+use Rattle.basis.specs.Order.{sameZ, risingZ}
 use Rattle.basis.proofs.Saids.{refused-given}
 use Rattle.text.specs.Word.{identOf}
 use Rattle.text.specs.Decimal.{decimalOf}
@@ -17,12 +18,17 @@ use Rattle.text.specs.File.{noTest, GoodFile, FirstFault}
 use Rattle.text.specs.declared.decimal.Decimal.{Decimal}
 use Rattle.text.proofs.Breaks.{RightStop, ident-right, decimal-right, pair-right}
 use Rattle.text.proofs.Files.{file-accepted, file-refused}
-use Rattle.matching.specs.Claim.{claimLines, numberLines, coefficientLines, claimedOf}
+use Rattle.graph.specs.declared.find.Found.{Found}
+use Rattle.graph.specs.Find.{placeIn}
+use Rattle.matching.specs.Claim.{claimLines, numberLines, coefficientLines}
+use Rattle.matching.specs.Cover.{inOrder}
 use Rattle.matching.specs.Verdict.{Verdict, matched, incompleteAt, mismatchAt, Fraction}
 use Rattle.matching.specs.Verdict.{near, unequalVertex, unlikeVertex, farVertex, judgedBy}
 use Rattle.matching.specs.Good.{Least, Alike, Differs, Disagrees, EqualWhere, Judges}
 use Rattle.matching.proofs.Leasts.{first-least, line-exactly, unlike-least}
-use Rattle.matching.proofs.Meaning.{same-list, accepted-exactly, incomplete-exactly, mismatch-exactly, equal-exactly}
+use Rattle.matching.proofs.Covers.{values-of, values-one}
+use Rattle.matching.proofs.Meaning.{same-list, first-within, unlike-within, accepted-exactly}
+use Rattle.matching.proofs.Meaning.{incomplete-exactly, mismatch-exactly, equal-exactly}
 
 -- ---- a claim's lines, on its bytes: read exactly where they say the lines, at most so many; refused exactly at the first fault
 module _ {A : Type 0} (form : Form A) (R : RightStop form) (most : ℕ) (s : List ℕ) where
@@ -50,98 +56,119 @@ module _ (most : ℕ) (s : List ℕ) where
   coefficients-refused r = claim-refused decimalForm decimal-right most s r
 
 -- ---- a verdict is given on lines that were read, and a refusal is theirs
-module _ {A : Type 0} (ids : List ℤ) (mismatch : List A → ℕ) where
-  on-lines : (x : Said (List (ℤ × A))) (v : Verdict) → judgedBy ids mismatch x ≡ gives v
-      → (l : List (ℤ × A)) × (x ≡ gives l) × (judgedBy ids mismatch (gives l) ≡ gives v)
+module _ {A : Type 0} (place : ℤ → Found) (n : ℕ) (z : A) (mismatch : List A → ℕ) where
+  on-lines : (x : Said (List (ℤ × A))) (v : Verdict) → judgedBy place n z mismatch x ≡ gives v
+      → (l : List (ℤ × A)) × (x ≡ gives l) × (judgedBy place n z mismatch (gives l) ≡ gives v)
   unfolding judgedBy
   on-lines (gives l) v e = (l, refl, e)
   on-lines (refuses r) v e = refused-given e
 
-  on-fault : (x : Said (List (ℤ × A))) (r : Refusal) → (judgedBy ids mismatch x ≡ refuses r) ↔ (x ≡ refuses r)
+  on-fault : (x : Said (List (ℤ × A))) (r : Refusal) → (judgedBy place n z mismatch x ≡ refuses r) ↔ (x ≡ refuses r)
   unfolding judgedBy
   on-fault (gives l) r = (λ e. refused-given (sym e), λ e. refused-given (sym e))
   on-fault (refuses q) r = (λ e. cc, λ e. cc)
 
--- ---- by any method that says where values match and at which place they are wrong
-module _ {A : Type 0} (form : Form A) (R : RightStop form) (most : ℕ) (ids : List ℤ) (mismatch : List A → ℕ) (Matches : List A → Type 0)
-    (Wrong : List A → ℕ → Type 0)
+-- ---- by any method that says where values match and at which vertex they are wrong
+module _ {A : Type 0} (form : Form A) (R : RightStop form) (z : A) (most : ℕ) (ids : List ℤ) (rises : risingZ ids ≡ true)
+    (mismatch : List A → ℕ) (within : (vs : List A) → length vs ≡ length ids → mismatch vs ≤ length ids)
+    (Matches : List A → Type 0) (Wrong : List A → ℕ → Type 0)
     (match : (vs : List A) → (mismatch vs ≡ 0) ↔ Matches vs)
     (wrong : (vs : List A) (i : ℕ) → (mismatch vs ≡ suc i) ↔ Least (Wrong vs) i)
     (s : List ℕ) where
   abbrev read : Said (List (ℤ × A))
   read = claimLines (lineBy (pairForm form)) most s
 
-  read-as : {l : List (ℤ × A)} {v : Verdict} → GoodFile (twoOf identOf (form .word)) most noTest s l
-      → judgedBy ids mismatch (gives l) ≡ gives v → judgedBy ids mismatch read ≡ gives v
-  read-as {l} g e = ap (judgedBy ids mismatch) (claim-read form R most s l .1 g) ∙ e
+  abbrev judge : Said (List (ℤ × A)) → Said Verdict
+  judge x = judgedBy (placeIn ids) (length ids) z mismatch x
 
-  pub judged-exactly : Judges (form .word) most ids Matches Wrong s (judgedBy ids mismatch read)
+  read-as : {l : List (ℤ × A)} {v : Verdict} → GoodFile (twoOf identOf (form .word)) most noTest s l
+      → judge (gives l) ≡ gives v → judge read ≡ gives v
+  read-as {l} g e = ap judge (claim-read form R most s l .1 g) ∙ e
+
+  pub judged-exactly : Judges (form .word) z most ids Matches Wrong s (judge read)
   judged-exactly =
       record {
         accepted = (
           λ e.
-              let h = on-lines ids mismatch read matched e in
-              let m = accepted-exactly ids mismatch (h .0) .0 (h .2) in
+              let h = on-lines (placeIn ids) (length ids) z mismatch read matched e in
+              let m = accepted-exactly ids rises z mismatch within (h .0) .0 (h .2) in
               record {
                 lines = h .0;
                 file = claim-read form R most s (h .0) .0 (h .1);
                 complete = m .0;
-                matches = match (claimedOf (h .0)) .0 (m .1);
+                values = inOrder (placeIn ids) z (length ids) (h .0);
+                are = values-of ids rises z (h .0) (m .0);
+                matches = match (inOrder (placeIn ids) z (length ids) (h .0)) .0 (m .1);
               },
-          λ g. read-as (g .file) (accepted-exactly ids mismatch (g .lines) .1 (g .complete, match (claimedOf (g .lines)) .1 (g .matches))),
+          λ g.
+              read-as (g .file)
+              (accepted-exactly ids rises z mismatch within (g .lines) .1
+              (g .complete, match (inOrder (placeIn ids) z (length ids) (g .lines)) .1
+              (subst Matches (values-one ids rises z (g .lines) (g .complete) (g .values) (g .are)) (g .matches)))),
         );
         incomplete = λ i. (
           λ e.
-              let h = on-lines ids mismatch read (incompleteAt (suc i)) e in
+              let h = on-lines (placeIn ids) (length ids) z mismatch read (incompleteAt (suc i)) e in
               record {
                 lines = h .0;
                 file = claim-read form R most s (h .0) .0 (h .1);
-                first = incomplete-exactly ids mismatch (h .0) i .0 (h .2);
+                first = incomplete-exactly ids rises z mismatch within (h .0) i .0 (h .2);
               },
-          λ g. read-as (g .file) (incomplete-exactly ids mismatch (g .lines) i .1 (g .first)),
+          λ g. read-as (g .file) (incomplete-exactly ids rises z mismatch within (g .lines) i .1 (g .first)),
         );
         mismatched = λ i. (
           λ e.
-              let h = on-lines ids mismatch read (mismatchAt (suc i)) e in
-              let m = mismatch-exactly ids mismatch (h .0) i .0 (h .2) in
+              let h = on-lines (placeIn ids) (length ids) z mismatch read (mismatchAt (suc i)) e in
+              let m = mismatch-exactly ids rises z mismatch within (h .0) i .0 (h .2) in
               record {
                 lines = h .0;
                 file = claim-read form R most s (h .0) .0 (h .1);
                 complete = m .0;
-                first = wrong (claimedOf (h .0)) i .0 (m .1);
+                values = inOrder (placeIn ids) z (length ids) (h .0);
+                are = values-of ids rises z (h .0) (m .0);
+                vertex = m .1 .0;
+                first = wrong (inOrder (placeIn ids) z (length ids) (h .0)) (m .1 .0) .0 (m .1 .1);
+                reported = m .1 .2;
               },
-          λ g. read-as (g .file) (mismatch-exactly ids mismatch (g .lines) i .1
-              (g .complete, wrong (claimedOf (g .lines)) i .1 (g .first))),
+          λ g.
+              read-as (g .file)
+              (mismatch-exactly ids rises z mismatch within (g .lines) i .1
+              (g .complete, (g .vertex, wrong (inOrder (placeIn ids) z (length ids) (g .lines)) (g .vertex) .1
+              (subst (λ (vs : List A). Least (Wrong vs) (g .vertex))
+              (values-one ids rises z (g .lines) (g .complete) (g .values) (g .are)) (g .first)), g .reported))),
         );
         refused = λ r. (
-          λ e. claim-refused form R most s r .0 (on-fault ids mismatch read r .0 e),
-          λ f. on-fault ids mismatch read r .1 (claim-refused form R most s r .1 f),
+          λ e. claim-refused form R most s r .0 (on-fault (placeIn ids) (length ids) z mismatch read r .0 e),
+          λ f. on-fault (placeIn ids) (length ids) z mismatch read r .1 (claim-refused form R most s r .1 f),
         );
       }
 
--- ---- 000's three methods
-module _ (most : ℕ) (ids : List ℤ) where
+-- ---- 000's three methods, beside reference outputs of one value for each vertex
+module _ (most : ℕ) (ids : List ℤ) (rises : risingZ ids ≡ true) where
   -- "Exact match"
-  pub exact-judged : (reference : List ℤ) (s : List ℕ)
-      → Judges identOf most ids (λ vs. vs ≡ reference) (Differs sameZ (pos 0) (pos 0) reference) s
-      (judgedBy ids (unequalVertex reference) (numberLines most s))
-  exact-judged reference s =
-      judged-exactly identForm ident-right most ids (unequalVertex reference) (λ vs. vs ≡ reference) (Differs sameZ (pos 0) (pos 0) reference)
+  pub exact-judged : (reference : List ℤ) → length reference ≡ length ids → (s : List ℕ)
+      → Judges identOf (pos 0) most ids (λ vs. vs ≡ reference) (Differs sameZ (pos 0) (pos 0) reference) s
+      (judgedBy (placeIn ids) (length ids) (pos 0) (unequalVertex reference) (numberLines most s))
+  exact-judged reference long s =
+      judged-exactly identForm ident-right (pos 0) most ids rises (unequalVertex reference) (first-within ids sameZ reference long)
+      (λ vs. vs ≡ reference) (Differs sameZ (pos 0) (pos 0) reference)
       (λ vs. same-list reference vs) (λ vs i. first-least sameZ (pos 0) (pos 0) reference vs i) s
 
-  -- "Equivalence match", where labels are equal exactly at places that belong together
-  pub equivalence-judged : (labels : List ℤ) (n : ℕ) → length labels ≡ n → (Together : ℕ → ℕ → Type 0) → EqualWhere n Together labels
-      → (s : List ℕ)
-      → Judges identOf most ids (EqualWhere n Together) (Disagrees labels) s (judgedBy ids (unlikeVertex labels) (numberLines most s))
-  equivalence-judged labels n long Together same s =
-      judged-exactly identForm ident-right most ids (unlikeVertex labels) (EqualWhere n Together) (Disagrees labels)
-      (λ vs. equal-exactly labels vs n long Together same) (λ vs i. unlike-least labels vs i) s
+  -- "Equivalence match", where labels are equal exactly at vertices that belong together
+  pub equivalence-judged : (labels : List ℤ) → length labels ≡ length ids → (Together : ℕ → ℕ → Type 0)
+      → EqualWhere (length ids) Together labels → (s : List ℕ)
+      → Judges identOf (pos 0) most ids (EqualWhere (length ids) Together) (Disagrees labels) s
+      (judgedBy (placeIn ids) (length ids) (pos 0) (unlikeVertex labels) (numberLines most s))
+  equivalence-judged labels long Together same s =
+      judged-exactly identForm ident-right (pos 0) most ids rises (unlikeVertex labels) (unlike-within ids labels long)
+      (EqualWhere (length ids) Together) (Disagrees labels)
+      (λ vs. equal-exactly labels vs (length ids) long Together same) (λ vs i. unlike-least labels vs i) s
 
   -- "Epsilon match"
-  pub epsilon-judged : (any : Decimal) (reference : List Fraction) (s : List ℕ)
-      → Judges decimalOf most ids (Alike near (0, 1) any reference) (Differs near (0, 1) any reference) s
-      (judgedBy ids (farVertex reference) (coefficientLines most s))
-  epsilon-judged any reference s =
-      judged-exactly decimalForm decimal-right most ids (farVertex reference) (Alike near (0, 1) any reference)
-      (Differs near (0, 1) any reference)
+  pub epsilon-judged : (any : Decimal) (reference : List Fraction) → length reference ≡ length ids → (s : List ℕ)
+      → Judges decimalOf any most ids (Alike near (0, 1) any reference) (Differs near (0, 1) any reference) s
+      (judgedBy (placeIn ids) (length ids) any (farVertex reference) (coefficientLines most s))
+  epsilon-judged any reference long s =
+      judged-exactly decimalForm decimal-right any most ids rises (farVertex reference) (first-within ids near reference long)
+      (Alike near (0, 1) any reference) (Differs near (0, 1) any reference)
       (λ vs. line-exactly near (0, 1) any reference vs) (λ vs i. first-least near (0, 1) any reference vs i) s

@@ -186,7 +186,7 @@ module _ (place : ℤ → Found) where
     every-same p q (suc m) e = ap₂ _&&_ (every-same p q m (λ v l. e v (omega arith))) (e m (omega arith))
 
     pub recorded-end : endLine lines n k stray ≡ incompleteLine place n named
-    unfolding endLine incompleteLine
+    unfolding endLine isRecorded incompleteLine
     recorded-end =
         ap₂ orElse (h .strays)
         (ap₂ (λ (t : Bool) (j : ℕ). cond t 0 (j + 1))

@@ -232,9 +232,6 @@ module _ (most : ℕ) (ids : List ℤ) (nums dens s : List ℕ) where
     wide : length before ≡ length lines
     wide = ap length c ∙ length-replicate (length lines) 0
 
-    pub coefficients-cleared : before ≡ cleared before
-    coefficients-cleared = c ∙ ap (λ (k : ℕ). replicate k 0) (sym wide)
-
     pub coefficients-short : not t ≡ true → (r : Refusal) → r ≡ plain noRoom → told (refuses r) before ≡ coefficientsCall most ids nums dens s lines
     unfolding coefficientsCall
     coefficients-short f r q = let k : roomIn (length ids) (length nums) (length dens) (length lines) ≡ false

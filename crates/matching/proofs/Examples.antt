@@ -4,9 +4,11 @@ use mathlib.Core.Path.{_≡_, refl}
 use mathlib.Core.List.{List, [], _∷_}
 use Prim.Native.Nat.{ℕ}
 use lib.IntN.{pos}
+use Rattle.basis.specs.Area.{column}
 use Rattle.basis.specs.Limits.{mostVertices}
 use Rattle.basis.specs.Refusal.{Said, gives, refuses, atColumn, at}
 use Rattle.basis.specs.Scan.{every, each, mem}
+use Rattle.graph.specs.Find.{placeFrom, placeIn}
 use Rattle.text.specs.Bytes.{bytes}
 use Rattle.text.specs.Word.{within}
 use Rattle.text.specs.Decimal.{digitOf, pastPoint, wholeIsGood, signedPower, powerAt, partsOf, fractionOf, decimalOf}
@@ -15,16 +17,19 @@ use Rattle.text.specs.Line.{lineBy, twoOf, twoStop}
 use Rattle.text.specs.File.{linesFrom, valuesFrom}
 use Rattle.matching.specs.Close.{isClose}
 use Rattle.matching.specs.Claim.{numberLines, coefficientLines}
+use Rattle.matching.specs.Cover.{failingPlace, lineFrom, namesNew, strayLine, incompleteLine, valueOf}
 use Rattle.matching.specs.Verdict.{Verdict, matched, incompleteAt, mismatchAt, Fraction, firstPlace}
 use Rattle.matching.specs.Verdict.{unequalVertex, farVertex, judgedBy}
+use Rattle.matching.specs.Calls.{noDecimal}
 
 -- a claim on one vertex, number 1, of which the coefficient is r
 abbrev coefficientClaim : Fraction → List ℕ → Said Verdict
-coefficientClaim r s = judgedBy (pos 1 ∷ []) (farVertex (r ∷ [])) (coefficientLines mostVertices s)
+coefficientClaim r s = judgedBy (placeIn (pos 1 ∷ [])) 1 noDecimal (farVertex (r ∷ [])) (coefficientLines mostVertices s)
 
 -- a claim of at most so many lines on vertices 1, 2 and 3, of depths 0, 1 and 1
 abbrev depthClaim : ℕ → List ℕ → Said Verdict
-depthClaim most s = judgedBy (pos 1 ∷ pos 2 ∷ pos 3 ∷ []) (unequalVertex (pos 0 ∷ pos 1 ∷ pos 1 ∷ [])) (numberLines most s)
+depthClaim most s =
+    judgedBy (placeIn (pos 1 ∷ pos 2 ∷ pos 3 ∷ [])) 3 (pos 0) (unequalVertex (pos 0 ∷ pos 1 ∷ pos 1 ∷ [])) (numberLines most s)
 
 -- what is said of some claims
 pub record Others : Type 0 where
@@ -33,6 +38,14 @@ pub record Others : Type 0 where
   pub missing : depthClaim 3 (bytes "1 0\n2 2\n") ≡ gives (incompleteAt 3)
   pub surplus : depthClaim 4 (bytes "1 0\n2 1\n3 1\n4 1\n") ≡ gives (incompleteAt 4)
   pub other : depthClaim 3 (bytes "1 5\n4 1\n3 1\n") ≡ gives (incompleteAt 2)
+  -- in another order; the smallest vertex at fault is reported by its line, here the last, and not the first line at fault
+  pub reversed : depthClaim 3 (bytes "3 1\n2 1\n1 0\n") ≡ gives matched
+  pub reported : depthClaim 3 (bytes "3 7\n2 1\n1 7\n") ≡ gives (mismatchAt 3)
+  -- named again, before a fault of value and a missing vertex; missing alone, whatever the order; again and beyond the vertices
+  pub doubled : depthClaim 3 (bytes "3 1\n1 9\n3 1\n") ≡ gives (incompleteAt 3)
+  pub lacking : depthClaim 3 (bytes "3 1\n1 0\n") ≡ gives (incompleteAt 3)
+  pub beyond : depthClaim 4 (bytes "3 1\n1 0\n2 1\n1 0\n") ≡ gives (incompleteAt 4)
+  pub nothing : depthClaim 3 (bytes "") ≡ gives (incompleteAt 1)
   pub tooMany : depthClaim 2 (bytes "1 0\n2 1\nx") ≡ refuses (at 1 3 3)
   pub malformed : depthClaim 3 (bytes "2 0\n2 1\n3 01\n") ≡ refuses (atColumn 2 3 3 4)
   pub outside : depthClaim 3 (bytes "2 0\n2 9223372036854775808\n") ≡ refuses (at 3 3 2)
@@ -50,7 +63,7 @@ pub record Others : Type 0 where
   pub largestDown : coefficientClaim (1, 4294770690) (bytes "1 99999999999999999e-99\n") ≡ gives (mismatchAt 1)
 
 pub others : Others
-unfolding judgedBy firstPlace every each mem linesFrom valuesFrom lineBy twoOf twoStop isClose decimalOf fractionOf partsOf powerAt
+unfolding judgedBy failingPlace lineFrom namesNew strayLine incompleteLine valueOf placeFrom column firstPlace every each mem linesFrom valuesFrom lineBy twoOf twoStop isClose decimalOf fractionOf partsOf powerAt
     signedPower wholeIsGood pastPoint digitOf within isSign digitsStop powerStop partsStop fractionStop decimalStop
 others = record {
   matches = refl;
@@ -58,6 +71,12 @@ others = record {
   missing = refl;
   surplus = refl;
   other = refl;
+  reversed = refl;
+  reported = refl;
+  doubled = refl;
+  lacking = refl;
+  beyond = refl;
+  nothing = refl;
   tooMany = refl;
   malformed = refl;
   outside = refl;

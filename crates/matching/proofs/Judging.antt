@@ -92,6 +92,21 @@ pub fault-inside : (rule : Rule) (a b : List ℤ) (lines : List ℕ) → (length
     → (m : ℕ) → m ≡ mismatchVertex rule a b → m ≤ length lines
 fault-inside rule a b lines h m q = let l = mismatch-bound rule a b (h .0) in omega (arith, h .1)
 
+-- ---- what was read, where there was room in areas of these sizes
+module _ (most : ℕ) (ids reference : List ℤ) (s : List ℕ) (size width : ℕ) {t : Bool}
+    (e : t ≡ roomIn (length ids) (length reference) size width) (f : not t ≡ false) (mid : List ℤ) (record′ : List ℕ) (read : Read)
+    (h : ReadOf most ids s size width mid record′ read) where
+  pub judge-kept : length ids ≤ length mid
+  judge-kept = omega (arith, room-second (length ids) (length reference) size width e f, h .kept)
+
+  pub judge-lengths : length (take (length ids) reference) ≡ length (take (length ids) mid)
+  judge-lengths =
+      length-take-le _ _ (room-first (length ids) (length reference) size width e f) ∙ sym (length-take-le _ _ judge-kept)
+
+  pub judge-wide : length (take (length ids) mid) ≤ length record′
+  judge-wide =
+      omega (arith, length-take-le (length ids) mid judge-kept, h .wide, room-third (length ids) (length reference) size width e f)
+
 -- ---- the whole call, by the test of room t, with the record cleared first
 module _ (rule : Rule) (most : ℕ) (ids reference : List ℤ) (s : List ℕ) (claimed : List ℤ) (lines : List ℕ)
     {before : List ℕ} (c : before ≡ cleared lines)
@@ -107,25 +122,6 @@ module _ (rule : Rule) (most : ℕ) (ids reference : List ℤ) (s : List ℕ) (c
       → outcome (refuses r) left before ≡ numbersCall rule most ids reference s claimed lines
   unfolding numbersCall
   judge-short f r q left g = rw (rooms ∙ failed t _ e f, q, g, c)
-
-  pub judge-cleared : before ≡ cleared before
-  judge-cleared = c ∙ ap (λ (k : ℕ). replicate k 0) (sym wide)
-
-  -- what was read says the same as the definition
-  module _ (f : not t ≡ false) (mid : List ℤ) (record′ : List ℕ) (read : Read)
-      (h : ReadOf most ids s (length claimed) (length before) mid record′ read) where
-    pub judge-kept : length ids ≤ length mid
-    judge-kept = omega (arith, room-second (length ids) (length reference) (length claimed) (length before) e f, h .kept)
-
-    pub judge-lengths : length (take (length ids) reference) ≡ length (take (length ids) mid)
-    judge-lengths =
-        length-take-le _ _ (room-first (length ids) (length reference) (length claimed) (length before) e f)
-        ∙ sym (length-take-le _ _ judge-kept)
-
-    pub judge-wide : length (take (length ids) mid) ≤ length record′
-    judge-wide =
-        omega (arith, length-take-le (length ids) mid judge-kept, h .wide,
-        room-third (length ids) (length reference) (length claimed) (length before) e f)
 
   told-line : (n : ℕ) (named : List ℤ) (record′ : List ℕ) → Maps (bisected ids) n named record′ → (m : ℕ) → m ≤ n
       → reportedIn record′ m ≡ reportedLine (bisected ids) named m
@@ -146,8 +142,9 @@ module _ (rule : Rule) (most : ℕ) (ids reference : List ℤ) (s : List ℕ) (c
           (reportedLine (bisected ids) (idsOf (h .tells .lines))
           (mismatchVertex rule (take (length ids) reference) (inOrder (bisected ids) (pos 0) (length ids) (h .tells .lines))))
       by zero p v =
-          let long = judge-lengths f mid record′ (Lines i) h in
-          let short = length-take-le (length ids) mid (judge-kept f mid record′ (Lines i) h) in
+          let long = judge-lengths most ids reference s (length claimed) (length before) e f mid record′ (Lines i) h in
+          let short = length-take-le (length ids) mid
+          (judge-kept most ids reference s (length claimed) (length before) e f mid record′ (Lines i) h) in
           rw (← p, ← v refl)
           (ap (verdictOf 0) (told-line (length ids) (idsOf (h .tells .lines)) record′ (h .tells .maps)
           (mismatchVertex rule (take (length ids) reference) (take (length ids) mid))

@@ -20,24 +20,38 @@ use Rattle.matching.specs.Steps.{lesserFault}
 use Rattle.matching.specs.Good.{Least, Alike, Differs, other, missing, surplus, Disagrees}
 
 -- ---- a line, counted from k on, that is 0 where no place has P and else is that of the least
-abbrev Finds : (ℕ → Type 0) → ℕ → ℕ → Type 0
+abbrev pub Finds : (ℕ → Type 0) → ℕ → ℕ → Type 0
 Finds P k line = ((line ≡ 0) × ((j : ℕ) → P j → ⊥)) ⊎ ((i : ℕ) × (line ≡ suc (k + i)) × Least P i)
 
-finds-same : {P Q : ℕ → Type 0} {line : ℕ} → ((j : ℕ) → P j → Q j) → ((j : ℕ) → Q j → P j) → Finds P 0 line → Finds Q 0 line
+pub finds-same : {P Q : ℕ → Type 0} {line : ℕ} → ((j : ℕ) → P j → Q j) → ((j : ℕ) → Q j → P j) → Finds P 0 line → Finds Q 0 line
 finds-same f g (inl h) = inl (h .0, λ j q. h .1 j (g j q))
 finds-same f g (inr h) = inr (h .0, h .1, record { here = f (h .0) (h .2 .here); least = λ j q. h .2 .least j (g j q) })
 
 module _ {P : ℕ → Type 0} {line : ℕ} where
-  finds-exactly : Finds P 0 line → (i : ℕ) → (line ≡ suc i) ↔ Least P i
+  pub finds-exactly : Finds P 0 line → (i : ℕ) → (line ≡ suc i) ↔ Least P i
   finds-exactly (inl h) i = (λ e. absurd (omega (arith, h .0)), λ l. absurd (h .1 i (l .here)))
   finds-exactly (inr h) i = (
     λ e. let q : h .0 ≡ i = omega (arith, h .1) in subst (Least P) q (h .2),
     λ l. omega (arith, h .1, h .2 .least i (l .here), l .least (h .0) (h .2 .here)),
   )
 
-  finds-none : Finds P 0 line → (line ≡ 0) ↔ ((j : ℕ) → P j → ⊥)
+  pub finds-none : Finds P 0 line → (line ≡ 0) ↔ ((j : ℕ) → P j → ⊥)
   finds-none (inl h) = (λ e. h .1, λ n. h .0)
   finds-none (inr h) = (λ e. absurd (omega (arith, h .1)), λ n. absurd (n (h .0) (h .2 .here)))
+
+-- of the places behind a first one that has it not
+pub finds-later : {P Q : ℕ → Type 0} (k : ℕ) {line : ℕ} → (Q 0 → ⊥) → ((j : ℕ) → P j → Q (suc j)) → ((j : ℕ) → Q (suc j) → P j)
+    → Finds P (suc k) line → Finds Q k line
+finds-later {P} {Q} k n f g (inl h) = inl (h .0, nowhere)
+  where
+    nowhere : (j : ℕ) → Q j → ⊥
+    nowhere zero q = n q
+    nowhere (suc j) q = h .1 j (g j q)
+finds-later {P} {Q} k n f g (inr h) = inr (suc (h .0), omega (arith, h .1), record { here = f (h .0) (h .2 .here); least = later })
+  where
+    later : (j : ℕ) → Q j → suc (h .0) ≤ j
+    later zero q = absurd (n q)
+    later (suc j) q = let l = h .2 .least j (g j q) in omega arith
 
 finds-one : {P : ℕ → Type 0} {a b : ℕ} → Finds P 0 a → Finds P 0 b → a ≡ b
 finds-one (inl h) (inl g) = h .0 ∙ sym (g .0)
@@ -80,16 +94,9 @@ module _ {A B : Type 0} (alike : A → B → Bool) (x : A) (y : B) where
     where
       by : (t : Bool) → alike a b ≡ t → Finds (At xs ys) (k + 1) (firstPlace alike (k + 1 + 1) xs ys)
           → Finds (At (a ∷ xs) (b ∷ ys)) k (cond t (firstPlace alike (k + 1 + 1) xs ys) (k + 1))
-      by true q (inl h) = inl (h .0, nowhere)
-        where
-          nowhere : (j : ℕ) → At (a ∷ xs) (b ∷ ys) j → ⊥
-          nowhere zero d = at-first q d
-          nowhere (suc j) d = h .1 j (at-tail j d)
-      by true q (inr h) = inr (suc (h .0), omega (arith, h .1), record { here = at-later (h .0) (h .2 .here); least = later })
-        where
-          later : (j : ℕ) → At (a ∷ xs) (b ∷ ys) j → suc (h .0) ≤ j
-          later zero d = absurd (at-first q d)
-          later (suc j) d = let l = h .2 .least j (at-tail j d) in omega arith
+      by true q h =
+          finds-later k (at-first q) at-later at-tail
+          (let e : k + 1 ≡ suc k = omega arith in subst (λ (j : ℕ). Finds (At xs ys) j (firstPlace alike (k + 1 + 1) xs ys)) e h)
       by false q h = inr (0, omega arith, record { here = other (omega arith) (omega arith) q; least = λ j d. omega arith })
 
   module _ (xs : List A) (ys : List B) where
@@ -126,10 +133,10 @@ module _ {A B : Type 0} (alike : A → B → Bool) (x : A) (y : B) where
     line-exactly = let f = finds-none (line-finds 0 xs ys) in (λ e. alike-of (f .0 e), λ h. f .1 (none-differs h))
 
 -- ---- the places from i on that fail a test
-abbrev Fails : (ℕ → Bool) → ℕ → ℕ → ℕ → Type 0
+abbrev pub Fails : (ℕ → Bool) → ℕ → ℕ → ℕ → Type 0
 Fails p n i j = (i ≤ j) × (j < i + n) × (p j ≡ false)
 
-failing-finds : (p : ℕ → Bool) (n i : ℕ) → Finds (Fails p n i) 0 (failingPlace p n i)
+pub failing-finds : (p : ℕ → Bool) (n i : ℕ) → Finds (Fails p n i) 0 (failingPlace p n i)
 unfolding failingPlace
 failing-finds p zero i = inl (refl, λ j h. omega (arith, h .0, h .1))
 failing-finds p (suc n) i = by (p i) refl (failing-finds p n (i + 1))
@@ -190,7 +197,7 @@ module _ (p q : ℕ → Bool) (n v : ℕ) (l : v < n) (e : p v ≡ true) (same :
   failing-now f = finds-one (failing-finds q n 0) (fails-now f (failing-finds p n 0))
 
 -- ---- vertices that disagree in kind with a smaller one
-every-some : (p : ℕ → Bool) (n : ℕ) → every n p ≡ false → (i : ℕ) × (i < n) × (p i ≡ false)
+pub every-some : (p : ℕ → Bool) (n : ℕ) → every n p ≡ false → (i : ℕ) × (i < n) × (p i ≡ false)
 unfolding every
 every-some p zero e = clash refl e
 every-some p (suc n) e = by (every n p) refl e (every-some p n)

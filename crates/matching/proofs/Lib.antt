@@ -9,6 +9,7 @@ pub mod Records
 pub mod NumberLines
 pub mod DecimalLines
 pub mod Judging
+pub mod Covers
 pub mod Meaning
 pub mod Claims
 pub mod Listing

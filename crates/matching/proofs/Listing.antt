@@ -1,15 +1,17 @@
 -- A claim that is written out reads back, and one that lists the reference output is accepted. Assumes nothing.
-use mathlib.Core.Path.{_≡_, refl, sym, ap, _∙_}
-use mathlib.Core.Bool.{false}
+use mathlib.Core.Path.{_≡_, refl, sym, ap, _∙_, subst}
+use mathlib.Core.Bool.{true, false}
 use mathlib.Core.List.{List, [], _∷_, _++_, map, append-assoc}
 use Prim.Native.Nat.{ℕ, suc, _≤_}
 use native.Mathlib.Omega.{arith}
-use lib.IntN.{ℤ}
+use lib.IntN.{ℤ, pos}
 use lib.ListN.{length}
 use mir.Syntax.{w64}
 use mir.Val.{SFits}
 use Rattle.basis.specs.Refusal.{gives, claimFile}
+use Rattle.basis.specs.Order.{risingZ}
 use Rattle.basis.specs.Scan.{mem}
+use Rattle.graph.specs.Find.{placeIn}
 use Rattle.text.specs.Word.{Word, value, within, identOf}
 use Rattle.text.specs.Decimal.{decimalOf}
 use Rattle.text.specs.Bytes.{lf, space}
@@ -24,8 +26,10 @@ use Rattle.write.proofs.Texts.{signed-without}
 use Rattle.write.proofs.Back.{ident-back}
 use Rattle.matching.specs.Claim.{claimLines, numberLines, coefficientLines, idsOf, claimedOf}
 use Rattle.matching.specs.Verdict.{Fraction, near, unequalVertex, unlikeVertex, farVertex, judgedBy}
-use Rattle.matching.specs.Good.{Alike}
-use Rattle.matching.proofs.Meaning.{accepted, exact-match, epsilon-match, equivalence-match, renamed}
+use Rattle.matching.specs.Cover.{inOrder}
+use Rattle.matching.specs.Good.{Alike, TwoWay, Covers}
+use Rattle.matching.proofs.Meaning.{accepted, covers-own, values-own, exact-match, epsilon-match}
+use Rattle.matching.proofs.Meaning.{equivalence-match, renamed}
 
 -- a line to be written: its identifier, its value and the value's bytes
 pub record WrittenLine (A : Type 0) : Type 0 where
@@ -153,28 +157,37 @@ listed-length [] values = omega arith
 listed-length (i ∷ ids) [] = omega arith
 listed-length (i ∷ ids) (v ∷ values) = let h = listed-length ids values in omega arith
 
-module _ (most : ℕ) (ids : List ℤ) (few : length ids ≤ most) (fits : AllFit ids) where
+module _ (most : ℕ) (ids : List ℤ) (rises : risingZ ids ≡ true) (few : length ids ≤ most) (fits : AllFit ids) where
   module _ (values : List ℤ) (long : length ids ≡ length values) (fit : AllFit values) where
     lines : numberLines most (claimText (listed ids values)) ≡ gives (pairsOf (listed ids values))
     lines = numbers-back most (listed ids values) (listed-spelled ids values fits fit) (let h = listed-length ids values in omega arith)
 
+    own : Covers ids (idsOf (pairsOf (listed ids values)))
+    own = covers-own ids rises (pos 0) (pairsOf (listed ids values)) (listed-ids ids values long)
+
+    are : inOrder (placeIn ids) (pos 0) (length ids) (pairsOf (listed ids values)) ≡ values
+    are = values-own ids rises (pos 0) (pairsOf (listed ids values)) (listed-ids ids values long) ∙ listed-values ids values long
+
     -- "the vertex values of the system's output" are the reference output
-    pub exact-own : judgedBy ids (unequalVertex values) (numberLines most (claimText (listed ids values))) ≡ accepted
-    exact-own =
-        rw lines (exact-match ids values (pairsOf (listed ids values)) (listed-ids ids values long) .1 (listed-values ids values long))
+    pub exact-own : judgedBy (placeIn ids) (length ids) (pos 0) (unequalVertex values) (numberLines most (claimText (listed ids values)))
+        ≡ accepted
+    exact-own = rw lines (exact-match ids values rises (sym long) (pairsOf (listed ids values)) own .1 are)
 
     -- they are a reference output renamed
     pub equivalence-own : (f : ℤ → ℤ) → ((x y : ℤ) → f x ≡ f y → x ≡ y) → (reference : List ℤ) → length reference ≡ length ids
         → values ≡ map f reference
-        → judgedBy ids (unlikeVertex reference) (numberLines most (claimText (listed ids values))) ≡ accepted
+        → judgedBy (placeIn ids) (length ids) (pos 0) (unlikeVertex reference) (numberLines most (claimText (listed ids values))) ≡ accepted
     equivalence-own f apart reference n e =
         rw lines
-        (equivalence-match ids reference (pairsOf (listed ids values)) n (listed-ids ids values long) .1
-        (rw (listed-values ids values long, e) (renamed f apart reference)))
+        (equivalence-match ids reference rises n (pairsOf (listed ids values)) own .1
+        (subst (TwoWay reference) (sym (are ∙ e)) (renamed f apart reference)))
 
   -- they are decimals, in any spelling, each close to its fraction
-  pub epsilon-own : (any : Decimal) (reference : List Fraction) (l : List (WrittenLine Decimal)) → AllSpelled decimalOf l → length l ≤ most
-      → idsOf (pairsOf l) ≡ ids
+  pub epsilon-own : (any : Decimal) (reference : List Fraction) → length reference ≡ length ids → (l : List (WrittenLine Decimal))
+      → AllSpelled decimalOf l → length l ≤ most → idsOf (pairsOf l) ≡ ids
       → Alike near (0, 1) any reference (claimedOf (pairsOf l))
-      → judgedBy ids (farVertex reference) (coefficientLines most (claimText l)) ≡ accepted
-  epsilon-own any reference l h f e a = rw (coefficients-back most l h f) (epsilon-match any ids reference (pairsOf l) e .1 a)
+      → judgedBy (placeIn ids) (length ids) any (farVertex reference) (coefficientLines most (claimText l)) ≡ accepted
+  epsilon-own any reference n l h f e a =
+      rw (coefficients-back most l h f)
+      (epsilon-match any ids reference rises n (pairsOf l) (covers-own ids rises any (pairsOf l) e) .1
+      (subst (Alike near (0, 1) any reference) (sym (values-own ids rises any (pairsOf l) e)) a))

@@ -13,7 +13,11 @@ use lib.IntN.{ℤ, pos}
 use lib.ListN.{length, getD}
 use lib.Seq.{ext-getD}
 use Rattle.basis.specs.Refusal.{Said, gives}
-use Rattle.basis.specs.Order.{sameZ}
+use Rattle.basis.specs.Order.{sameZ, risingZ}
+use Rattle.basis.proofs.Areas.{column-length}
+use Rattle.graph.specs.declared.find.Found.the-variants.{At}
+use Rattle.graph.specs.Find.{placeIn}
+use Rattle.graph.proofs.Finds.{place-at}
 use Rattle.basis.proofs.Tests.{clash, bool-cases, same-test}
 use Rattle.basis.proofs.Saids.{given-one}
 use Rattle.basis.proofs.Orders.{signed-order}
@@ -21,11 +25,14 @@ use Rattle.text.specs.declared.decimal.Decimal.{Decimal}
 use Rattle.matching.specs.Close.{distance, isClose}
 use Rattle.matching.specs.Claim.{idsOf, claimedOf}
 use Rattle.matching.specs.Verdict.{Verdict, matched, incompleteAt, mismatchAt, Fraction, near, firstPlace}
-use Rattle.matching.specs.Verdict.{incompleteLine, unequalVertex, sameKind, unlikeVertex, farVertex, verdictOf, judgedBy}
-use Rattle.matching.specs.Good.{Least, Alike, Differs, EqualWhere, TwoWay}
+use Rattle.matching.specs.Verdict.{unequalVertex, sameKind, agrees, unlikeVertex, farVertex, verdictOf, judgedBy}
+use Rattle.matching.specs.Cover.{incompleteLine, valueOf, inOrder, reportedLine}
+use Rattle.matching.specs.Good.{Least, Alike, Differs, EqualWhere, TwoWay, LineOf, Covers, Lacks, lineByLine}
 use Rattle.matching.proofs.Closeness.{cancel, window, ten-pos, zero-only}
+use Rattle.matching.proofs.FirstPlaces.{first-bound, failing-bound}
 use Rattle.matching.proofs.Leasts.{first-least, line-exactly, unlike-none}
 use Rattle.matching.proofs.Readings.{ids-length, claimed-length}
+use Rattle.matching.proofs.Covers.{incomplete-least, complete-exactly, covered-line, line-covered, values-one}
 
 -- ---- "10,000 times |r-s| at most r": what matches the fraction a / b
 module _ (a b : ℕ) (s : Decimal) where
@@ -105,51 +112,140 @@ mismatch-of zero zero i e = absurd (let f = numbered e in omega arith)
 mismatch-of zero (suc m) i e = (refl, numbered e .1)
 mismatch-of (suc n) m i e = absurd (let f = numbered e in omega arith)
 
--- ---- the verdict on a claim's lines
-module _ {A : Type 0} (ids : List ℤ) (mismatch : List A → ℕ) (l : List (ℤ × A)) where
-  -- every line names the graph's identifier at its place, and none is missing or surplus
-  pub complete-exactly : (incompleteLine ids (idsOf l) ≡ 0) ↔ (idsOf l ≡ ids)
-  complete-exactly = same-list ids (idsOf l)
+-- ---- a method names one of the vertices, or none, beside a reference output of one value for each
+module _ (ids : List ℤ) where
+  -- the first place at which two lists differ is that of a vertex
+  pub first-within : {A B : Type 0} (alike : A → B → Bool) (reference : List A) → length reference ≡ length ids
+      → (vs : List B) → length vs ≡ length ids → firstPlace alike 1 reference vs ≤ length ids
+  first-within alike reference long vs e = let h = first-bound alike 0 reference vs (long ∙ sym e) in omega arith
 
-  pub accepted-exactly : (judgedBy ids mismatch (gives l) ≡ accepted) ↔ ((idsOf l ≡ ids) × (mismatch (claimedOf l) ≡ 0))
+  pub unlike-within : (labels : List ℤ) → length labels ≡ length ids → (vs : List ℤ) → length vs ≡ length ids
+      → unlikeVertex labels vs ≤ length ids
+  unfolding unlikeVertex
+  unlike-within labels long vs e = let h = failing-bound (agrees labels vs) (length labels) 0 in omega arith
+
+-- ---- the verdict on a claim's lines, by identifiers that rise and a method that names one of the vertices, or none
+module _ {A : Type 0} (ids : List ℤ) (r : risingZ ids ≡ true) (z : A) (mismatch : List A → ℕ)
+    (within : (vs : List A) → length vs ≡ length ids → mismatch vs ≤ length ids) (l : List (ℤ × A)) where
+  abbrev values : List A
+  values = inOrder (placeIn ids) z (length ids) l
+
+  abbrev judged : Said Verdict
+  judged = judgedBy (placeIn ids) (length ids) z mismatch (gives l)
+
+  fault-within : mismatch values ≤ length ids
+  fault-within = within values (column-length (valueOf (placeIn ids) z l) 0 (length ids))
+
+  -- a vertex at fault is reported by a line
+  reported-none : Covers ids (idsOf l) → (m : ℕ) → m ≤ length ids → reportedLine (placeIn ids) (idsOf l) m ≡ 0 → m ≡ 0
+  reported-none c zero b e = refl
+  reported-none c (suc v) b e = let h = line-covered ids r (idsOf l) c v b in absurd (omega (arith, h .1))
+
+  reported-some : Covers ids (idsOf l) → (m i : ℕ) → m ≤ length ids → reportedLine (placeIn ids) (idsOf l) m ≡ suc i
+      → (v : ℕ) × (m ≡ suc v) × LineOf ids (idsOf l) v i
+  reported-some c zero i b e = absurd (omega arith)
+  reported-some c (suc v) i b e =
+      let h = line-covered ids r (idsOf l) c v b in
+      let q : h .0 ≡ i = omega (arith, h .1) in
+      (v, refl, subst (LineOf ids (idsOf l) v) q (h .2))
+
+  pub accepted-exactly : (judged ≡ accepted) ↔ (Covers ids (idsOf l) × (mismatch values ≡ 0))
   unfolding judgedBy
   accepted-exactly = (
-    λ e. let z = match-of (incompleteLine ids (idsOf l)) (mismatch (claimedOf l)) e in (complete-exactly .0 (z .0), z .1),
-    λ h. rw (complete-exactly .1 (h .0), h .1),
+    λ e.
+        let w = match-of (incompleteLine (placeIn ids) (length ids) (idsOf l)) (reportedLine (placeIn ids) (idsOf l) (mismatch values)) e in
+        let c = complete-exactly ids r (idsOf l) .0 (w .0) in
+        (c, reported-none c (mismatch values) fault-within (w .1)),
+    λ h. rw (complete-exactly ids r (idsOf l) .1 (h .0), h .1),
   )
 
-  -- "the first line whose identifier isn't the graph's at that place, or the first missing or surplus line":
-  -- the least such place, counted from 1
-  pub incomplete-exactly : (i : ℕ) → (judgedBy ids mismatch (gives l) ≡ gives (incompleteAt (suc i)))
-      ↔ Least (Differs sameZ (pos 0) (pos 0) ids (idsOf l)) i
+  -- "Incomplete is now: the first line naming an unknown or already named vertex, or, if none, the line after the last"
+  pub incomplete-exactly : (i : ℕ) → (judged ≡ gives (incompleteAt (suc i))) ↔ Least (Lacks ids (idsOf l)) i
   unfolding judgedBy
   incomplete-exactly i =
-      let f = first-least sameZ (pos 0) (pos 0) ids (idsOf l) i in (
-        λ e. f .0 (incomplete-of (incompleteLine ids (idsOf l)) (mismatch (claimedOf l)) i e),
+      let f = incomplete-least ids r (idsOf l) i in (
+        λ e. f .0 (incomplete-of (incompleteLine (placeIn ids) (length ids) (idsOf l))
+            (reportedLine (placeIn ids) (idsOf l) (mismatch values)) i e),
         λ h. rw (f .1 h),
       )
 
-  -- "Verdict 21, only for a complete claim, is a mismatch at its first line."
-  pub mismatch-exactly : (i : ℕ) → (judgedBy ids mismatch (gives l) ≡ gives (mismatchAt (suc i)))
-      ↔ ((idsOf l ≡ ids) × (mismatch (claimedOf l) ≡ suc i))
+  -- "A mismatch is the smallest vertex at fault, reported by its claim line"
+  pub mismatch-exactly : (i : ℕ) → (judged ≡ gives (mismatchAt (suc i)))
+      ↔ (Covers ids (idsOf l) × ((v : ℕ) × (mismatch values ≡ suc v) × LineOf ids (idsOf l) v i))
   unfolding judgedBy
   mismatch-exactly i = (
-    λ e. let z = mismatch-of (incompleteLine ids (idsOf l)) (mismatch (claimedOf l)) i e in (complete-exactly .0 (z .0), z .1),
-    λ h. rw (complete-exactly .1 (h .0), h .1),
+    λ e.
+        let w = mismatch-of (incompleteLine (placeIn ids) (length ids) (idsOf l))
+        (reportedLine (placeIn ids) (idsOf l) (mismatch values)) i e in
+        let c = complete-exactly ids r (idsOf l) .0 (w .0) in
+        (c, reported-some c (mismatch values) i fault-within (w .1)),
+    λ h. rw (complete-exactly ids r (idsOf l) .1 (h .0), h .1 .1, covered-line ids r (idsOf l) (h .0) (h .1 .0) i (h .1 .2)),
   )
 
-  by-match : {M : Type 0} → ((mismatch (claimedOf l) ≡ 0) ↔ M) → idsOf l ≡ ids → (judgedBy ids mismatch (gives l) ≡ accepted) ↔ M
+  by-match : {M : Type 0} → ((mismatch values ≡ 0) ↔ M) → Covers ids (idsOf l) → (judged ≡ accepted) ↔ M
   by-match x c = (λ e. x .0 (accepted-exactly .0 e .1), λ m. accepted-exactly .1 (c, x .1 m))
 
--- ---- "Exact match": "the vertex values of the system's output should be identical to the reference output"
-pub exact-match : (ids reference : List ℤ) (l : List (ℤ × ℤ)) → idsOf l ≡ ids
-    → (judgedBy ids (unequalVertex reference) (gives l) ≡ accepted) ↔ (claimedOf l ≡ reference)
-exact-match ids reference l = by-match ids (unequalVertex reference) l (same-list reference (claimedOf l))
+-- ---- a claim whose lines name the vertices in vertex order
+module _ {A : Type 0} (ids : List ℤ) (r : risingZ ids ≡ true) (z : A) (l : List (ℤ × A)) (e : idsOf l ≡ ids) where
+  own-line : (v i : ℕ) → LineOf ids (idsOf l) v i → i ≡ v
+  own-line v i h =
+      let m : i < length ids = rw e at (h .line) in
+      let p = place-at ids (getD ids v (pos 0)) r in
+      let q : getD ids i (pos 0) ≡ getD ids v (pos 0) = ap (λ (k : List ℤ). getD k i (pos 0)) (sym e) ∙ h .names in
+      let t : At i ≡ At v = sym (p i .1 (m, q)) ∙ p v .1 (h .vertex, refl) in
+      cc
 
--- ---- "Epsilon match": every decimal is close to the fraction of its vertex
-pub epsilon-match : (any : Decimal) (ids : List ℤ) (reference : List Fraction) (l : List (ℤ × Decimal)) → idsOf l ≡ ids
-    → (judgedBy ids (farVertex reference) (gives l) ≡ accepted) ↔ (Alike near (0, 1) any reference (claimedOf l))
-epsilon-match any ids reference l = by-match ids (farVertex reference) l (line-exactly near (0, 1) any reference (claimedOf l))
+  line-own : (v : ℕ) → v < length ids → LineOf ids (idsOf l) v v
+  line-own v m = record { vertex = m; line = rw e m; names = rw e }
+
+  pub covers-own : Covers ids (idsOf l)
+  covers-own =
+      record {
+        known = λ i m. (i, line-own i (rw e at m));
+        once = λ v i j h g. own-line v i h ∙ sym (own-line v j g);
+        all = λ v m. (v, line-own v m);
+      }
+
+  pub values-own : inOrder (placeIn ids) z (length ids) l ≡ claimedOf l
+  values-own =
+      sym (values-one ids r z l covers-own (claimedOf l)
+      (record {
+        long = claimed-length l ∙ sym (ids-length l) ∙ ap length e;
+        from = λ v i h. ap (λ (k : ℕ). getD (claimedOf l) k z) (sym (own-line v i h));
+      }))
+
+  -- gets the verdict that it got line by line
+  pub own-verdict : (mismatch : List A → ℕ) → ((vs : List A) → length vs ≡ length ids → mismatch vs ≤ length ids)
+      → judgedBy (placeIn ids) (length ids) z mismatch (gives l) ≡ lineByLine ids mismatch (gives l)
+  unfolding judgedBy
+  own-verdict mismatch within =
+      ap gives
+      (ap₂ verdictOf
+      (complete-exactly ids r (idsOf l) .1 covers-own ∙ sym (same-list ids (idsOf l) .1 e))
+      (ap (λ (vs : List A). reportedLine (placeIn ids) (idsOf l) (mismatch vs)) values-own
+      ∙ by (mismatch (claimedOf l)) (within (claimedOf l) (claimed-length l ∙ sym (ids-length l) ∙ ap length e))))
+    where
+      by : (m : ℕ) → m ≤ length ids → reportedLine (placeIn ids) (idsOf l) m ≡ m
+      by zero b = refl
+      by (suc v) b = covered-line ids r (idsOf l) covers-own v v (line-own v b)
+
+-- ---- the three methods on the lines of a complete claim
+-- "Exact match": "the vertex values of the system's output should be identical to the reference output"
+pub exact-match : (ids reference : List ℤ) → risingZ ids ≡ true → length reference ≡ length ids → (l : List (ℤ × ℤ)) → Covers ids (idsOf l)
+    → (judgedBy (placeIn ids) (length ids) (pos 0) (unequalVertex reference) (gives l) ≡ accepted)
+    ↔ (inOrder (placeIn ids) (pos 0) (length ids) l ≡ reference)
+exact-match ids reference r long l =
+    by-match ids r (pos 0) (unequalVertex reference) (first-within ids sameZ reference long) l
+    (same-list reference (inOrder (placeIn ids) (pos 0) (length ids) l))
+
+-- "Epsilon match": every decimal is close to the fraction of its vertex
+pub epsilon-match : (any : Decimal) (ids : List ℤ) (reference : List Fraction) → risingZ ids ≡ true → length reference ≡ length ids
+    → (l : List (ℤ × Decimal)) → Covers ids (idsOf l)
+    → (judgedBy (placeIn ids) (length ids) any (farVertex reference) (gives l) ≡ accepted)
+    ↔ Alike near (0, 1) any reference (inOrder (placeIn ids) any (length ids) l)
+epsilon-match any ids reference r long l =
+    by-match ids r any (farVertex reference) (first-within ids near reference long) l
+    (line-exactly near (0, 1) any reference (inOrder (placeIn ids) any (length ids) l))
 
 -- ---- "Equivalence match"
 -- what stands beside the first z in a list of keys
@@ -211,14 +307,14 @@ module _ (a b : List ℤ) where
           sym
           (beq-eq _ _
           (bool-cases (sameKind a b i j) (sameKind a b i j ≡ true) (λ t. t)
-          (λ t. absurd (unlike-none a b .0 h i (record { inside = k; earlier = j; isEarlier = f; unlike = t })))))
+          (λ t. absurd (unlike-none a b .0 h i (record { inside = k; smaller = j; isSmaller = f; unlike = t })))))
 
   kinds-all : Kinds → unlikeVertex a b ≡ 0
   unfolding sameKind
   kinds-all h =
       unlike-none a b .1
-      (λ i d. clash (rw (h i (d .earlier) (d .inside) (omega (arith, d .isEarlier, d .inside)))
-      (beq-refl (sameZ (getD b i (pos 0)) (getD b (d .earlier) (pos 0))))) (d .unlike))
+      (λ i d. clash (rw (h i (d .smaller) (d .inside) (omega (arith, d .isSmaller, d .inside)))
+      (beq-refl (sameZ (getD b i (pos 0)) (getD b (d .smaller) (pos 0))))) (d .unlike))
 
   -- "equal claims exactly where components are equal", for labels that are equal where places belong together
   pub equal-exactly : (n : ℕ) → length a ≡ n → (Together : ℕ → ℕ → Type 0) → EqualWhere n Together a
@@ -264,11 +360,14 @@ module _ (a b : List ℤ) where
     pub unlike-exactly : (unlikeVertex a b ≡ 0) ↔ (TwoWay a b)
     unlike-exactly = (λ h. two-way (kinds-of h), λ w. kinds-all (one-way w))
 
-pub equivalence-match : (ids reference : List ℤ) (l : List (ℤ × ℤ)) → length reference ≡ length ids → idsOf l ≡ ids
-    → (judgedBy ids (unlikeVertex reference) (gives l) ≡ accepted) ↔ (TwoWay reference (claimedOf l))
-equivalence-match ids reference l n c =
-    by-match ids (unlikeVertex reference) l (unlike-exactly reference (claimedOf l)
-    (n ∙ ap length (sym c) ∙ ids-length l ∙ sym (claimed-length l))) c
+pub equivalence-match : (ids reference : List ℤ) → risingZ ids ≡ true → length reference ≡ length ids → (l : List (ℤ × ℤ))
+    → Covers ids (idsOf l)
+    → (judgedBy (placeIn ids) (length ids) (pos 0) (unlikeVertex reference) (gives l) ≡ accepted)
+    ↔ TwoWay reference (inOrder (placeIn ids) (pos 0) (length ids) l)
+equivalence-match ids reference r long l =
+    by-match ids r (pos 0) (unlikeVertex reference) (unlike-within ids reference long) l
+    (unlike-exactly reference (inOrder (placeIn ids) (pos 0) (length ids) l)
+    (long ∙ sym (column-length (valueOf (placeIn ids) (pos 0) l) 0 (length ids))))
 
 -- a reference output under a renaming that keeps labels apart
 map-at : (f : ℤ → ℤ) (l : List ℤ) (i : ℕ) → i < length l → getD (map f l) i (pos 0) ≡ f (getD l i (pos 0))

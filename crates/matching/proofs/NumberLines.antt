@@ -66,7 +66,7 @@ named-within ids id lines e m l =
 
 -- what follows where an end finds nothing incomplete
 pub end-zero : (lines : List ℕ) (n k stray : ℕ) → endLine lines n k stray ≡ 0 → (v : ℕ) → v < n → getD lines v 0 ≡ 0 → ⊥
-unfolding endLine
+unfolding endLine isRecorded
 end-zero lines n k zero e v l z =
     bool-cases (every n (isRecorded lines)) ⊥
     (λ t. clash (every-at (isRecorded lines) n v l t) (ap not (eq-eqb (getD lines v 0) 0 z)))

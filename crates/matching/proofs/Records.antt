@@ -6,7 +6,8 @@ use Prim.Native.Nat.{ℕ, zero, suc, _+_, _-_, _≤_, _<_, min}
 use native.Mathlib.Omega.{arith}
 use lib.Dec.{eqb}
 use lib.IntN.{ℤ}
-use lib.ListN.{length, getD, set}
+use lib.ListN.{length, getD, set, replicate, length-replicate}
+use Rattle.basis.specs.Area.{cleared}
 use borrow.Author.Tests.{eq-eqb, ne-eqb}
 use Rattle.basis.specs.Scan.{every, orElse}
 use Rattle.basis.proofs.Scans.{every-more, every-fail, every-end}
@@ -18,6 +19,10 @@ use Rattle.graph.proofs.Finds.{searched-is, bisected-below}
 use Rattle.matching.specs.Calls.{nearWithin, fractionIn}
 use Rattle.matching.specs.Steps.{newIn, setAt, Within, strayStep, lesserFault, farStep, isRecorded, endLine, reportedIn}
 use Rattle.matching.proofs.FirstPlaces.{or-kept}
+
+-- ---- an area that was cleared is clear
+pub cleared-again : (l : List ℕ) {m : List ℕ} → m ≡ cleared l → m ≡ cleared m
+cleared-again l e = e ∙ ap (λ (k : ℕ). replicate k 0) (sym (ap length e ∙ length-replicate (length l) 0))
 
 -- ---- a line's vertex, by what a search has found
 module _ (ids : List ℤ) (lines : List ℕ) (id : ℤ) {sought : ℤ} (q : sought ≡ id) {f : Found} (e : Searched ids sought f) where
@@ -52,6 +57,7 @@ module _ (vertex : Found) (k stray : ℕ) where
 -- ---- the end of a claim
 pub end-later : (lines : List ℕ) (v : ℕ) → every v (isRecorded lines) ≡ true → {x : ℕ} → x ≡ getD lines v 0 → (x ≡ 0 → ⊥)
     → every (v + 1) (isRecorded lines) ≡ true
+unfolding isRecorded
 end-later lines v h p e = every-more (isRecorded lines) v h (ap not (ne-eqb (getD lines v 0) 0 (λ q. e (p ∙ q))))
 
 module _ (lines : List ℕ) (n k stray : ℕ) where
@@ -61,7 +67,7 @@ module _ (lines : List ℕ) (n k stray : ℕ) where
 
   module _ (z : stray ≡ 0) (v : ℕ) where
     pub end-missing : v < n → {x : ℕ} → x ≡ getD lines v 0 → x ≡ 0 → k + 1 ≡ endLine lines n k stray
-    unfolding endLine
+    unfolding endLine isRecorded
     end-missing l p e = rw (z, every-fail (isRecorded lines) n v l (ap not (eq-eqb (getD lines v 0) 0 (sym p ∙ e))))
 
     pub end-whole : every v (isRecorded lines) ≡ true → n ≤ v → v ≤ n → 0 ≡ endLine lines n k stray

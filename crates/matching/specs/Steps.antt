@@ -69,7 +69,7 @@ farStep nums dens (At v) s far = cond (nearWithin (fractionIn nums dens v) s) fa
 farStep nums dens Missing s far = far
 
 -- the record has a line for vertex v
-abbrev pub isRecorded : List ℕ → ℕ → Bool
+unfoldable pub isRecorded : List ℕ → ℕ → Bool
 isRecorded lines v = not (eqb (getD lines v 0) 0)
 
 -- the first incomplete line of a claim that ends after k lines: a stray one, or the line after its last where one of n vertices has none

@@ -1,5 +1,6 @@
+use Rattle.matching.proofs.Records.{cleared-again}
 use Rattle.matching.proofs.FirstPlaces.{room-first, room-second, room-third}
-use Rattle.matching.proofs.DecimalLines.{coefficients-short, coefficients-cleared, coefficients-done}
+use Rattle.matching.proofs.DecimalLines.{coefficients-short, coefficients-done}
 use borrow.Author.Needs.{needs}
 use Rattle.matching.proofs.coefficients.judge_coefficients.Statement.{statement}
 use Rattle.matching.proofs.coefficients.judge_coefficients.Tie as tie
@@ -30,7 +31,7 @@ read-coefficients-requires c κs =
     let e = c .before .before .has-room .ensures in
     let f = c .before .if1 .left in
     ((room-first _ _ _ _ e f, room-second _ _ _ _ e f),
-    (room-third _ _ _ _ e f, coefficients-cleared _ _ _ _ _ _ (c .before .before .before .before .before .clear .ensures) e))
+    (room-third _ _ _ _ e f, search cleared-again))
 
 clear-requires-2 : tie.Need-clear-requires-2
 clear-requires-2 c κs = search needs

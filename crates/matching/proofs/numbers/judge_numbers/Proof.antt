@@ -1,7 +1,8 @@
+use Rattle.matching.proofs.Records.{cleared-again}
 use Rattle.matching.proofs.FirstPlaces.{room-first, room-second, room-third}
 use lib.Seq.{length-take-le}
 use mathlib.Core.Path.{sym}
-use Rattle.matching.proofs.Judging.{judge-short, judge-cleared, judge-kept, judge-lengths, judge-wide, judge-done}
+use Rattle.matching.proofs.Judging.{judge-short, judge-kept, judge-lengths, judge-wide, judge-done}
 use borrow.Author.Needs.{needs}
 use Rattle.matching.proofs.numbers.judge_numbers.Statement.{statement}
 use Rattle.matching.proofs.numbers.judge_numbers.Tie as tie
@@ -36,7 +37,7 @@ returns : tie.Need-returns
 returns c = search judge-short
 
 read-numbers-requires : tie.Need-read-numbers-requires
-read-numbers-requires c κs = ((search room-second, search room-third), search judge-cleared)
+read-numbers-requires c κs = ((search room-second, search room-third), search cleared-again)
 
 slice-aggregate-judged-on : tie.Need-slice-aggregate-judged-on
 slice-aggregate-judged-on c =
@@ -50,11 +51,11 @@ slice-aggregate-judged-on-2 c = sym (length-take-le _ _ (search judge-kept))
 
 judged-on-requires : tie.Need-judged-on-requires
 judged-on-requires c κs =
-    let k = c .before .before .before .before .before .before .before .before .before .before .before .before .before .clear .ensures in
+    let a = c .before .before .before .before .before .before .before .before .before .before .before .before .before .before .before .before .before .args .reference .now in
     let e = c .before .before .before .before .before .before .before .before .before .before .has-room .ensures in
     let f = c .before .before .before .before .before .before .before .before .before .if1 .left in
     let h = c .before .before .before .before .before .before .read-numbers .ensures in
-    (judge-lengths _ _ _ _ _ _ _ k e f _ _ _ h, judge-wide _ _ _ _ _ _ _ k e f _ _ _ h)
+    (judge-lengths _ _ a _ _ _ e f _ _ _ h, judge-wide _ _ a _ _ _ e f _ _ _ h)
 
 clear-signed-requires-2 : tie.Need-clear-signed-requires-2
 clear-signed-requires-2 c κs = search needs
