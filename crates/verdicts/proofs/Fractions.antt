@@ -13,20 +13,24 @@ use Rattle.basis.specs.Refusal.{Said, gives, refuses, noRoom, check}
 use Rattle.basis.specs.Area.{column, cleared, leaves}
 use Rattle.basis.proofs.Tests.{and-first, and-second, and-both}
 use Rattle.basis.proofs.Areas.{column-at, column-is, column-length}
-use Rattle.graph.specs.Sound.{Graph, outward, inward, soundGraph}
+use Rattle.graph.specs.declared.find.Found.{Found}
+use Rattle.graph.specs.Find.{placeIn, bisected}
+use Rattle.graph.specs.Sound.{Graph, outward, inward, names, soundGraph}
 use Rattle.graph.proofs.Sounds.{sound-of}
 use Rattle.kernels.specs.Answer.{kernelSays}
 use Rattle.lcc.specs.Lcc.{numerator, denominator, numerators, denominators}
 use Rattle.lcc.specs.Call as lcc
 use Rattle.lcc.proofs.Meaning.{coefficient-meaning}
 use Rattle.text.specs.declared.decimal.Decimal.{Decimal}
-use Rattle.matching.specs.Claim.{coefficientLines, claimedOf, idsOf}
-use Rattle.matching.specs.Verdict.{Verdict, Fraction, firstPlace, near, farVertex, incompleteLine, verdictOf, judgedBy}
-use Rattle.matching.specs.Calls.{nearWithin, farWithin, fractionIn, fractions}
+use Rattle.matching.specs.Claim.{coefficientLines, idsOf}
+use Rattle.matching.specs.Cover.{incompleteLine, inOrder, reportedLine}
+use Rattle.matching.specs.Verdict.{Verdict, Fraction, firstPlace, near, farVertex, verdictOf, judgedBy}
+use Rattle.matching.specs.Calls.{nearWithin, farWithin, fractionIn, fractions, noDecimal}
+use Rattle.matching.proofs.Covers.{same-places}
 use Rattle.verdicts.specs.Reference.{coefficientAt, coefficients, lccReference}
 use Rattle.verdicts.specs.Call.{verdictSays}
 use Rattle.verdicts.specs.Steps.{Known, Roomy, Terms, termsSays, termsOn, termsVerdict}
-use Rattle.verdicts.proofs.Settling.{both-terms}
+use Rattle.verdicts.proofs.Settling.{all-terms}
 use Rattle.verdicts.proofs.Running.{Ran, ran-fine, ran-known, ran-roomy, ran-front, ran-leaves, then-same, says-rooms}
 
 -- ---- two tests that agree on one list's members find the same line
@@ -39,11 +43,12 @@ first-same p q z k (x ∷ xs) [] h = refl
 first-same p q z k (x ∷ xs) (y ∷ ys) h =
     ap₂ (λ (t : Bool) (l : ℕ). cond t l k) (h 0 (omega arith) y) (first-same p q z (k + 1) xs ys (λ i l. h (suc i) (omega arith)))
 
-judged-same : {A : Type 0} (ids : List ℤ) (f g : List A → ℕ) (x : Said (List (ℤ × A))) → ((l : List A) → f l ≡ g l)
-    → judgedBy ids f x ≡ judgedBy ids g x
+judged-same : {A : Type 0} (place : ℤ → Found) (n : ℕ) (z : A) (f g : List A → ℕ) (x : Said (List (ℤ × A))) → ((l : List A) → f l ≡ g l)
+    → judgedBy place n z f x ≡ judgedBy place n z g x
 unfolding judgedBy
-judged-same ids f g (gives l) h = ap (λ (m : ℕ). gives (verdictOf (incompleteLine ids (idsOf l)) m)) (h (claimedOf l))
-judged-same ids f g (refuses r) h = refl
+judged-same place n z f g (gives l) h =
+    ap (λ (m : ℕ). gives (verdictOf (incompleteLine place n (idsOf l)) (reportedLine place (idsOf l) m))) (h (inOrder place z n l))
+judged-same place n z f g (refuses r) h = refl
 
 -- ---- a sound graph's coefficients have terms of 32 bits
 module _ (g : Graph) (sound : soundGraph g ≡ true) where
@@ -120,25 +125,26 @@ module _ (g : Graph) (F S W : List ℕ) {a : Said (Unit {0})} {F′ S′ W′ : 
   lcc-cleared = ap (λ (o : lcc.Outcome). o .work) e
 
   module _ {room : Bool} (f : Roomy room (g .vertices) (length F)) (h : Roomy room (g .vertices) (length S))
-      (i : Roomy room (g .vertices) (length W)) (most : ℕ) (s : List ℕ) where
+      (i : Roomy room (g .vertices) (length W)) (most : ℕ) (s : List ℕ) (L : List ℕ) where
     says-same : termsSays a room most (g .vertices) (g .ids) s F′ S′ ≡ verdictSays (lccReference most g s) (soundGraph g) room
     unfolding termsSays verdictSays lcc.roomFor
     says-same =
         then-same a
         (λ d. ap (λ (x : Said Verdict). check room noRoom x)
-        (ap (λ (l : List Fraction). judgedBy (take (g .vertices) (g .ids)) (farWithin l) (coefficientLines most s))
+        (ap₂ (λ (l : List Fraction) (f : ℤ → Found). judgedBy f (length (names g)) noDecimal (farWithin l) (coefficientLines most s))
         (fractions-are g F′ S′ (ran-front upper-ran d) (ran-front lower-ran d))
-        ∙ judged-same (take (g .vertices) (g .ids)) (farWithin (coefficients g)) (farVertex (coefficients g)) (coefficientLines most s)
-        (far-coefficients g (ran-fine upper-ran d .isSound))))
+        (same-places (names g) (sound-of g (ran-fine upper-ran d .isSound) .idsRise))
+        ∙ judged-same (placeIn (names g)) (length (names g)) noDecimal (farWithin (coefficients g)) (farVertex (coefficients g))
+        (coefficientLines most s) (far-coefficients g (ran-fine upper-ran d .isSound))))
         ∙ rw (upper-ran .said)
         (says-rooms (soundGraph g) true 0 (lcc.roomFor (g .vertices) F S W) room (lccReference most g s .judged)
         (λ t. and-both (and-both (le-leb (g .vertices) (length F) (f t)) (le-leb (g .vertices) (length S) (h t)))
         (le-leb (g .vertices) (length W) (i t))))
 
-    pub lcc-verdict : {x : Terms} → x ≡ termsOn a room most (g .vertices) (g .ids) s F′ S′
-        → x ≡ termsVerdict (lccReference most g s) (soundGraph g) room F S
+    pub lcc-verdict : {x : Terms} → x ≡ termsOn a room most (g .vertices) (g .ids) s F′ S′ L
+        → x ≡ termsVerdict (lccReference most g s) (soundGraph g) room F S L
     unfolding termsOn termsVerdict termsSays
     lcc-verdict p =
-        let x = check room noRoom (judgedBy (take (g .vertices) (g .ids)) (farWithin (fractions (g .vertices) F′ S′))
+        let x = check room noRoom (judgedBy (bisected (names g)) (length (names g)) noDecimal (farWithin (fractions (g .vertices) F′ S′))
         (coefficientLines most s)) in
-        p ∙ both-terms says-same (ran-leaves upper-ran x says-same) (ran-leaves lower-ran x says-same)
+        p ∙ all-terms says-same (ran-leaves upper-ran x says-same) (ran-leaves lower-ran x says-same) refl

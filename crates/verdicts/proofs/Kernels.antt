@@ -61,11 +61,11 @@ module _ (g : Graph) (root : ℤ) {root′ : ℤ} (p : root′ ≡ root) (R : Li
   bfs-cleared = ap (λ (o : bfs.Outcome). o .queue) e
 
   pub bfs-verdict : {room : Bool} → Roomy room (g .vertices) (length R) → Roomy room (g .vertices) (length F)
-      → (most : ℕ) (s : List ℕ) (C : List ℤ) {x : Numbers} → x ≡ numbersOn a room Exact most (g .vertices) (g .ids) s R′ C
-      → x ≡ numbersVerdict (bfsReference most g s root) (soundGraph g) room R C
+      → (most : ℕ) (s : List ℕ) (C : List ℤ) (L : List ℕ) {x : Numbers} → x ≡ numbersOn a room Exact most (g .vertices) (g .ids) s R′ C L
+      → x ≡ numbersVerdict (bfsReference most g s root) (soundGraph g) room R C L
   unfolding bfs.roomFor
   bfs-verdict f h most s =
-      numbers-verdict (bfsReference most g s root) (g .ids) R bfs-ran
+      numbers-verdict (bfsReference most g s root) (g .ids) R bfs-ran (λ t. sound-of g t .idsRise)
       (λ t. and-both (le-leb (g .vertices) (length R) (f t)) (le-leb (g .vertices) (length F) (h t)))
       Exact most s refl
 
@@ -95,11 +95,11 @@ module _ (g : Graph) (R : List ℤ) (F : List ℕ) {a : Said (Unit {0})} {R′ :
   wcc-cleared = ap (λ (o : wcc.Outcome). o .heads) e
 
   pub wcc-verdict : {room : Bool} → Roomy room (g .vertices) (length R) → Roomy room (g .vertices) (length F)
-      → (most : ℕ) (s : List ℕ) (C : List ℤ) {x : Numbers} → x ≡ numbersOn a room Equivalence most (g .vertices) (g .ids) s R′ C
-      → x ≡ numbersVerdict (wccReference most g s) (soundGraph g) room R C
+      → (most : ℕ) (s : List ℕ) (C : List ℤ) (L : List ℕ) {x : Numbers} → x ≡ numbersOn a room Equivalence most (g .vertices) (g .ids) s R′ C L
+      → x ≡ numbersVerdict (wccReference most g s) (soundGraph g) room R C L
   unfolding wcc.roomFor
   wcc-verdict f h most s =
-      numbers-verdict (wccReference most g s) (g .ids) R wcc-ran
+      numbers-verdict (wccReference most g s) (g .ids) R wcc-ran (λ t. sound-of g t .idsRise)
       (λ t. and-both (le-leb (g .vertices) (length R) (f t)) (le-leb (g .vertices) (length F) (h t)))
       Equivalence most s refl
 
@@ -134,11 +134,11 @@ module _ (g : Graph) (z : ℤ) {z′ : ℤ} (p : z′ ≡ z) (R : List ℤ) (L N
 
   pub cdlp-verdict : {room : Bool} → Roomy room (g .vertices) (length R)
       → Roomy room (g .vertices) (length L) × Roomy room (g .vertices) (length N) × Roomy room (g .vertices) (length C)
-      → (most : ℕ) (s : List ℕ) (D : List ℤ) {x : Numbers} → x ≡ numbersOn a room Exact most (g .vertices) (g .ids) s R′ D
-      → x ≡ numbersVerdict (cdlpReference most g s z) (soundGraph g) room R D
+      → (most : ℕ) (s : List ℕ) (D : List ℤ) (W : List ℕ) {x : Numbers} → x ≡ numbersOn a room Exact most (g .vertices) (g .ids) s R′ D W
+      → x ≡ numbersVerdict (cdlpReference most g s z) (soundGraph g) room R D W
   unfolding cdlp.roomFor
   cdlp-verdict f h most s =
-      numbers-verdict (cdlpReference most g s z) (g .ids) R cdlp-ran
+      numbers-verdict (cdlpReference most g s z) (g .ids) R cdlp-ran (λ t. sound-of g t .idsRise)
       (λ t. and-both
       (and-both (and-both (le-leb (g .vertices) (length R) (f t)) (le-leb (g .vertices) (length L) (h .0 t)))
       (le-leb (g .vertices) (length N) (h .1 t)))

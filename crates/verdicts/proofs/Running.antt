@@ -1,5 +1,5 @@
 -- What a kernel's run leaves for the verdict, for any kernel; and that the verdict then is the definition's. Assumes nothing.
-use mathlib.Core.Path.{_≡_, refl, sym, ap, _∙_}
+use mathlib.Core.Path.{_≡_, refl, sym, ap, ap₂, _∙_}
 use mathlib.Core.Bool.{Bool, true, false}
 use mathlib.Core.List.{List}
 use Prim.Native.Nat.{ℕ, _-_, _≤_}
@@ -11,14 +11,18 @@ use Rattle.basis.specs.Area.{leaves}
 use Rattle.basis.proofs.Tests.{clash}
 use Rattle.basis.proofs.Areas.{pad-length}
 use Rattle.basis.proofs.Saids.{refused-given}
+use Rattle.basis.specs.Order.{risingZ}
+use Rattle.graph.specs.declared.find.Found.{Found}
+use Rattle.graph.specs.Find.{placeIn, bisected}
 use Rattle.kernels.specs.Answer.{kernelSays}
 use Rattle.matching.specs.declared.numbers.Rule.{Rule}
 use Rattle.matching.specs.Claim.{numberLines}
 use Rattle.matching.specs.Verdict.{Verdict, mismatchVertex, judgedBy}
+use Rattle.matching.proofs.Covers.{same-places}
 use Rattle.verdicts.specs.Reference.{Reference}
 use Rattle.verdicts.specs.Call.{thenSays, verdictSays}
 use Rattle.verdicts.specs.Steps.{unlessRefused, Known, Roomy, Numbers, numbersSays, numbersOn, numbersVerdict}
-use Rattle.verdicts.proofs.Settling.{both-numbers}
+use Rattle.verdicts.proofs.Settling.{all-numbers}
 
 -- ---- what a kernel says
 pub record Fine (sound given room : Bool) : Type 0 where
@@ -104,20 +108,26 @@ module _ {A : Type 0} {z : A} {given : Bool} {number : ℕ} {values : List A} {n
       ap (unlessRefused (thenSays answer x) z) (h .leaving) ∙ area-leaves z size values answer x fits
       ∙ ap (λ (w : Said Verdict). leaves w z size values) e
 
--- ---- the verdict on numbers
+-- ---- the verdict on numbers, by identifiers that rise
 module _ (k : Reference) {n : ℕ} (ids : List ℤ) {sound own : Bool} (R : List ℤ) {answer : Said (Unit {0})} {R′ : List ℤ}
     (h : Ran (pos 0) (k .given) (k .number) (k .values) n (length ids) sound own (length R) answer R′)
+    (rises : sound ≡ true → risingZ (take n ids) ≡ true)
     {room : Bool} (r : room ≡ true → own ≡ true) (rule : Rule) (most : ℕ) (s : List ℕ)
-    (q : k .judged ≡ judgedBy (take n ids) (mismatchVertex rule (k .values)) (numberLines most s)) where
+    (q : k .judged ≡ judgedBy (placeIn (take n ids)) (length (take n ids)) (pos 0) (mismatchVertex rule (k .values)) (numberLines most s)) where
   says-same : numbersSays answer room rule most (take n ids) (take n R′) s ≡ verdictSays k sound room
   unfolding numbersSays verdictSays
   says-same =
       then-same answer
-      (λ e. ap (λ (l : List ℤ). check room noRoom (judgedBy (take n ids) (mismatchVertex rule l) (numberLines most s))) (ran-front h e))
+      (λ e. ap₂ (λ (l : List ℤ) (f : ℤ → Found). check room noRoom
+      (judgedBy f (length (take n ids)) (pos 0) (mismatchVertex rule l) (numberLines most s)))
+      (ran-front h e) (same-places (take n ids) (rises (ran-fine h e .isSound))))
       ∙ rw (h .said, ← q) (says-rooms sound (k .given) (k .number) own room (k .judged) r)
 
-  pub numbers-verdict : (C : List ℤ) {x : Numbers} → x ≡ numbersOn answer room rule most n ids s R′ C → x ≡ numbersVerdict k sound room R C
+  pub numbers-verdict : (C : List ℤ) (L : List ℕ) {x : Numbers} → x ≡ numbersOn answer room rule most n ids s R′ C L
+      → x ≡ numbersVerdict k sound room R C L
   unfolding numbersOn numbersVerdict numbersSays
-  numbers-verdict C p =
-      p ∙ both-numbers says-same
-      (ran-leaves h (check room noRoom (judgedBy (take n ids) (mismatchVertex rule (take n R′)) (numberLines most s))) says-same) refl
+  numbers-verdict C L p =
+      p ∙ all-numbers says-same
+      (ran-leaves h (check room noRoom
+      (judgedBy (bisected (take n ids)) (length (take n ids)) (pos 0) (mismatchVertex rule (take n R′)) (numberLines most s))) says-same)
+      refl refl

@@ -1,4 +1,4 @@
--- What a verdict answers, and what it leaves in the five areas lent for writing.
+-- What a verdict answers, and what it leaves in the six areas lent for writing.
 use Prim.Native.Nat.{ℕ}
 use mathlib.Core.Bool.{Bool, cond, _&&_}
 use mathlib.Core.List.{List}
@@ -16,7 +16,8 @@ use Rattle.verdicts.specs.Reference.{Reference, bfsReference, wccReferen
 abbrev pub mostLines : ℕ
 mostLines = 65536
 
--- what was said, and what stands in the areas: results, claimed values and three areas of whole numbers, of which LCC's results take two
+-- what was said, and what stands in the areas: results, claimed values, three areas of whole numbers, of which LCC's results take two, and
+-- the record of claim lines
 pub record Outcome : Type 0 where
   pub said : Said Verdict
   pub result : List ℤ
@@ -24,20 +25,22 @@ pub record Outcome : Type 0 where
   pub first : List ℕ
   pub second : List ℕ
   pub third : List ℕ
+  pub lines : List ℕ
 
 -- the same, by its fields in order
-abbrev pub outcome : Said Verdict → List ℤ → List ℤ → List ℕ → List ℕ → List ℕ → Outcome
-outcome said result claimed first second third =
-    record { said = said; result = result; claimed = claimed; first = first; second = second; third = third }
+abbrev pub outcome : Said Verdict → List ℤ → List ℤ → List ℕ → List ℕ → List ℕ → List ℕ → Outcome
+outcome said result claimed first second third lines =
+    record { said = said; result = result; claimed = claimed; first = first; second = second; third = third; lines = lines }
 
 -- "as its kernel does, then the claim": what is said next where a kernel, which has no values, is not refused
 abbrev pub thenSays : Said (Unit {0}) → Said Verdict → Said Verdict
 thenSays answer next = onward answer (λ done. next)
 
 -- "each result or working area needs n places"
-unfoldable pub roomFor : ℕ → List ℤ → List ℤ → List ℕ → List ℕ → List ℕ → Bool
-roomFor n result claimed first second third =
-    leb n (length result) && (leb n (length claimed) && (leb n (length first) && (leb n (length second) && leb n (length third))))
+unfoldable pub roomFor : ℕ → List ℤ → List ℤ → List ℕ → List ℕ → List ℕ → List ℕ → Bool
+roomFor n result claimed first second third lines =
+    leb n (length result) && (leb n (length claimed) && (leb n (length first) && (leb n (length second)
+    && (leb n (length third) && leb n (length lines)))))
 
 -- "as its kernel does, then the claim", for a graph that is sound or not and areas that have room or not
 unfoldable pub verdictSays : Reference → Bool → Bool → Said Verdict
@@ -45,30 +48,32 @@ verdictSays k sound room = thenSays (kernelSays sound (k .given) (k .number) roo
 
 -- "After success, any verdict included, places beyond the ones used are zero, and working areas are zero throughout"; all are zero after
 -- a refusal
-unfoldable pub leftBy : Reference → Said Verdict → List ℤ → List ℤ → List ℕ → List ℕ → List ℕ → Outcome
-leftBy k said result claimed first second third =
+unfoldable pub leftBy : Reference → Said Verdict → List ℤ → List ℤ → List ℕ → List ℕ → List ℕ → List ℕ → Outcome
+leftBy k said result claimed first second third lines =
     outcome said
     (leaves said (pos 0) (length result) (k .values))
     (clearedZ claimed)
     (leaves said 0 (length first) (k .numerators))
     (leaves said 0 (length second) (k .denominators))
     (cleared third)
+    (cleared lines)
 
 -- the call for a known kernel: what is said of the graph, the areas and the claim, and what that leaves in the areas
-unfoldable pub callOn : Reference → Graph → List ℤ → List ℤ → List ℕ → List ℕ → List ℕ → Outcome
-callOn k g result claimed first second third =
-    leftBy k (verdictSays k (soundGraph g) (roomFor (g .vertices) result claimed first second third)) result claimed first second third
+unfoldable pub callOn : Reference → Graph → List ℤ → List ℤ → List ℕ → List ℕ → List ℕ → List ℕ → Outcome
+callOn k g result claimed first second third lines =
+    leftBy k (verdictSays k (soundGraph g) (roomFor (g .vertices) result claimed first second third lines)) result claimed first second third lines
 
--- "a mode or kernel number is unknown": refusal 12, and zero in all five areas
-unfoldable pub unknownCall : List ℤ → List ℤ → List ℕ → List ℕ → List ℕ → Outcome
-unknownCall result claimed first second third =
+-- "a mode or kernel number is unknown": refusal 12, and zero in all six areas
+unfoldable pub unknownCall : List ℤ → List ℤ → List ℕ → List ℕ → List ℕ → List ℕ → Outcome
+unknownCall result claimed first second third lines =
     outcome (refuses (plain unknownNumber)) (clearedZ result) (clearedZ claimed) (cleared first) (cleared second) (cleared third)
+    (cleared lines)
 
 -- "A verdict checks 12, then as its kernel does, then the claim."
-unfoldable pub verdictCall : ℕ → Graph → ℕ → ℤ → List ℕ → List ℤ → List ℤ → List ℕ → List ℕ → List ℕ → Outcome
-verdictCall most g kernel parameter s result claimed first second third =
-    cond (eqb kernel bfsNumber) (callOn (bfsReference most g s parameter) g result claimed first second third)
-    (cond (eqb kernel wccNumber) (callOn (wccReference most g s) g result claimed first second third)
-    (cond (eqb kernel cdlpNumber) (callOn (cdlpReference most g s parameter) g result claimed first second third)
-    (cond (eqb kernel lccNumber) (callOn (lccReference most g s) g result claimed first second third)
-    (unknownCall result claimed first second third))))
+unfoldable pub verdictCall : ℕ → Graph → ℕ → ℤ → List ℕ → List ℤ → List ℤ → List ℕ → List ℕ → List ℕ → List ℕ → Outcome
+verdictCall most g kernel parameter s result claimed first second third lines =
+    cond (eqb kernel bfsNumber) (callOn (bfsReference most g s parameter) g result claimed first second third lines)
+    (cond (eqb kernel wccNumber) (callOn (wccReference most g s) g result claimed first second third lines)
+    (cond (eqb kernel cdlpNumber) (callOn (cdlpReference most g s parameter) g result claimed first second third lines)
+    (cond (eqb kernel lccNumber) (callOn (lccReference most g s) g result claimed first second third lines)
+    (unknownCall result claimed first second third lines))))

@@ -2,7 +2,8 @@
 use Prim.Native.Nat.{ℕ}
 use mathlib.Core.Bool.{Bool, true}
 use mathlib.Core.List.{List, []}
-use lib.IntN.{ℤ, natAbs}
+use lib.IntN.{ℤ, pos, natAbs}
+use lib.ListN.{length}
 use Rattle.basis.specs.Refusal.{Said, notThere, badRounds}
 use Rattle.basis.specs.Area.{column}
 use Rattle.graph.specs.Find.{placeIn, isThere}
@@ -13,6 +14,7 @@ use Rattle.cdlp.specs.Call.{goodRounds}
 use Rattle.cdlp.specs.Rounds.{cdlpOf}
 use Rattle.lcc.specs.Lcc.{numerator, denominator, numerators, denominators}
 use Rattle.matching.specs.Claim.{numberLines, coefficientLines}
+use Rattle.matching.specs.Calls.{noDecimal}
 use Rattle.matching.specs.Verdict.{Verdict, Fraction, unequalVertex, unlikeVertex, farVertex, judgedBy}
 
 -- whether the parameter is good, else the number of its refusal; the result areas' content; what is said of the claim
@@ -23,6 +25,10 @@ pub record Reference : Type 0 where
   pub numerators : List ℕ
   pub denominators : List ℕ
   pub judged : Said Verdict
+
+-- what is said of a claim's lines on the vertices of a graph: "A lent area maps each vertex to its claim line"
+abbrev pub judgedOn : {A : Type 0} → Graph → A → (List A → ℕ) → Said (List (ℤ × A)) → Said Verdict
+judgedOn g z mismatch read = judgedBy (placeIn (names g)) (length (names g)) z mismatch read
 
 -- the coefficient of a vertex, "in lowest terms"
 abbrev pub coefficientAt : Graph → ℕ → Fraction
@@ -43,7 +49,7 @@ module _ (most : ℕ) (g : Graph) (s : List ℕ) where
         values = depthsFrom g (placeIn (names g) root);
         numerators = [];
         denominators = [];
-        judged = judgedBy (names g) (unequalVertex (depthsFrom g (placeIn (names g) root))) (numberLines most s);
+        judged = judgedOn g (pos 0) (unequalVertex (depthsFrom g (placeIn (names g) root))) (numberLines most s);
       }
 
   -- "WCC: equal claims exactly where components are equal."
@@ -55,7 +61,7 @@ module _ (most : ℕ) (g : Graph) (s : List ℕ) where
         values = wccOf g;
         numerators = [];
         denominators = [];
-        judged = judgedBy (names g) (unlikeVertex (wccOf g)) (numberLines most s);
+        judged = judgedOn g (pos 0) (unlikeVertex (wccOf g)) (numberLines most s);
       }
 
   -- "BFS and CDLP: equal numbers.": the labels after so many iterations
@@ -67,7 +73,7 @@ module _ (most : ℕ) (g : Graph) (s : List ℕ) where
         values = cdlpOf g (natAbs iterations);
         numerators = [];
         denominators = [];
-        judged = judgedBy (names g) (unequalVertex (cdlpOf g (natAbs iterations))) (numberLines most s);
+        judged = judgedOn g (pos 0) (unequalVertex (cdlpOf g (natAbs iterations))) (numberLines most s);
       }
 
   -- "LCC: 10,000 times |r-s| at most r"
@@ -79,5 +85,5 @@ module _ (most : ℕ) (g : Graph) (s : List ℕ) where
         values = [];
         numerators = numerators g;
         denominators = denominators g;
-        judged = judgedBy (names g) (farVertex (coefficients g)) (coefficientLines most s);
+        judged = judgedOn g noDecimal (farVertex (coefficients g)) (coefficientLines most s);
       }

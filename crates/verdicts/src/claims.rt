@@ -12,7 +12,7 @@ ghost use mathlib.Core.Path.{_≡_};
 ghost use lib.ListN.{length};
 ghost use lib.IntN.{pos};
 ghost use Rattle.basis.specs.Refusal.{refuses};
-ghost use Rattle.basis.specs.Area.{clearedZ};
+ghost use Rattle.basis.specs.Area.{cleared, clearedZ};
 ghost use Rattle.kernels.specs.Answer.{says as answers};
 ghost use Rattle.matching.specs.Verdict.{says};
 ghost use Rattle.verdicts.specs.Steps.{isRefused, unlessRefused, numbers, numbersOn, terms, termsOn, Known, Roomy};
@@ -43,10 +43,9 @@ fn settle_numbers(judged: Judged, result: &mut [i64]) -> Judged
 // The same of a coefficient's two areas.
 fn settle_terms(judged: Judged, first: &mut [usize], second: &mut [usize]) -> Judged
     ensures { λ r. ⌜
-        terms (says r) (now (first .exit)) (now (second .exit))
-        ≡ terms (says judged)
-        (unlessRefused (says judged) 0 (now (first .entry)))
-        (unlessRefused (says judged) 0 (now (second .entry))) ⌝ }
+        (r ≡ judged)
+        × (now (first .exit) ≡ unlessRefused (says judged) 0 (now (first .entry)))
+        × (now (second .exit) ≡ unlessRefused (says judged) 0 (now (second .entry))) ⌝ }
 {
     if !is_refused(judged) {
         return judged;
@@ -56,14 +55,27 @@ fn settle_terms(judged: Judged, first: &mut [usize], second: &mut [usize]) -> Ju
     judged
 }
 
-// A refusal before the claim is read: its working area is not cleared yet.
-fn refuse_numbers(r: Refusal, result: &mut [i64], claimed: &mut [i64]) -> Judged
+// A refusal before the claim is read: its working areas are not cleared yet.
+fn refuse_numbers(r: Refusal, result: &mut [i64], claimed: &mut [i64], lines: &mut [usize]) -> Judged
     ensures { λ j. ⌜
-        numbers (says j) (now (result .exit)) (now (claimed .exit))
-        ≡ numbers (refuses r) (clearedZ (now (result .entry))) (clearedZ (now (claimed .entry))) ⌝ }
+        numbers (says j) (now (result .exit)) (now (claimed .exit)) (now (lines .exit))
+        ≡ numbers (refuses r) (clearedZ (now (result .entry))) (clearedZ (now (claimed .entry))) (cleared (now (lines .entry))) ⌝ }
 {
     clear_signed(result);
     clear_signed(claimed);
+    clear(lines);
+    Judged::Refused(r)
+}
+
+// The same of a claim of coefficients.
+fn refuse_terms(r: Refusal, first: &mut [usize], second: &mut [usize], lines: &mut [usize]) -> Judged
+    ensures { λ j. ⌜
+        terms (says j) (now (first .exit)) (now (second .exit)) (now (lines .exit))
+        ≡ terms (refuses r) (cleared (now (first .entry))) (cleared (now (second .entry))) (cleared (now (lines .entry))) ⌝ }
+{
+    clear(first);
+    clear(second);
+    clear(lines);
     Judged::Refused(r)
 }
 
@@ -78,21 +90,25 @@ pub(crate) fn numbers_on(
     claim: &[u8],
     result: &mut [i64],
     claimed: &mut [i64],
+    lines: &mut [usize],
 ) -> Judged
     requires { ⌜ Known (answers answer) n (length (now ids)) ⌝ }
-    requires { ⌜ (Roomy room n (length (now result))) × (Roomy room n (length (now claimed))) ⌝ }
+    requires { ⌜
+        (Roomy room n (length (now result)))
+        × (Roomy room n (length (now claimed)))
+        × (Roomy room n (length (now lines))) ⌝ }
     ensures { λ r. ⌜
-        numbers (says r) (now (result .exit)) (now (claimed .exit))
+        numbers (says r) (now (result .exit)) (now (claimed .exit)) (now (lines .exit))
         ≡ numbersOn (answers answer) room rule most n
-        (now (ids .entry)) (now (claim .entry)) (now (result .entry)) (now (claimed .entry)) ⌝ }
+        (now (ids .entry)) (now (claim .entry)) (now (result .entry)) (now (claimed .entry)) (now (lines .entry)) ⌝ }
 {
     match answer {
-        Answer::Refused(r) => refuse_numbers(r, result, claimed),
+        Answer::Refused(r) => refuse_numbers(r, result, claimed, lines),
         Answer::Done => {
             if !room {
-                return refuse_numbers(Refusal::plain(NO_ROOM), result, claimed);
+                return refuse_numbers(Refusal::plain(NO_ROOM), result, claimed, lines);
             }
-            let judged = judge_numbers(rule, most, &ids[..n], result, claim, claimed);
+            let judged = judge_numbers(rule, most, &ids[..n], result, claim, claimed, lines);
             settle_numbers(judged, result)
         }
     }
@@ -108,22 +124,25 @@ pub(crate) fn terms_on(
     claim: &[u8],
     first: &mut [usize],
     second: &mut [usize],
+    lines: &mut [usize],
 ) -> Judged
     requires { ⌜ Known (answers answer) n (length (now ids)) ⌝ }
-    requires { ⌜ (Roomy room n (length (now first))) × (Roomy room n (length (now second))) ⌝ }
+    requires { ⌜
+        (Roomy room n (length (now first)))
+        × (Roomy room n (length (now second)))
+        × (Roomy room n (length (now lines))) ⌝ }
     ensures { λ r. ⌜
-        terms (says r) (now (first .exit)) (now (second .exit))
+        terms (says r) (now (first .exit)) (now (second .exit)) (now (lines .exit))
         ≡ termsOn (answers answer) room most n
-        (now (ids .entry)) (now (claim .entry)) (now (first .entry)) (now (second .entry)) ⌝ }
+        (now (ids .entry)) (now (claim .entry)) (now (first .entry)) (now (second .entry)) (now (lines .entry)) ⌝ }
 {
     match answer {
-        Answer::Refused(r) => settle_terms(Judged::Refused(r), first, second),
+        Answer::Refused(r) => refuse_terms(r, first, second, lines),
         Answer::Done => {
             if !room {
-                let refused = Judged::Refused(Refusal::plain(NO_ROOM));
-                return settle_terms(refused, first, second);
+                return refuse_terms(Refusal::plain(NO_ROOM), first, second, lines);
             }
-            let judged = judge_coefficients(most, &ids[..n], first, second, claim);
+            let judged = judge_coefficients(most, &ids[..n], first, second, claim, lines);
             settle_terms(judged, first, second)
         }
     }

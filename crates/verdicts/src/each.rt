@@ -30,15 +30,19 @@ pub(crate) fn on_bfs(
     result: &mut [i64],
     claimed: &mut [i64],
     queue: &mut [usize],
+    lines: &mut [usize],
 ) -> Judged
-    requires { ⌜ (Roomy room (size .vertices) (length (now result))) × (Roomy room (size .vertices) (length (now claimed))) ⌝ }
+    requires { ⌜
+        (Roomy room (size .vertices) (length (now result)))
+        × (Roomy room (size .vertices) (length (now claimed)))
+        × (Roomy room (size .vertices) (length (now lines))) ⌝ }
     requires { ⌜ Roomy room (size .vertices) (length (now queue)) ⌝ }
     ensures { λ r. ⌜
-        numbers (says r) (now (result .exit)) (now (claimed .exit))
+        numbers (says r) (now (result .exit)) (now (claimed .exit)) (now (lines .exit))
         ≡ bfsVerdict room most
         (lent size (now (ids .entry)) (now («out_offsets» .entry)) (now («out_targets» .entry))
         (now («in_offsets» .entry)) (now («in_sources» .entry)))
-        root (now (claim .entry)) (now (result .entry)) (now (claimed .entry)) ⌝ }
+        root (now (claim .entry)) (now (result .entry)) (now (claimed .entry)) (now (lines .entry)) ⌝ }
     ensures { λ r. ⌜ now (queue .exit) ≡ cleared (now (queue .entry)) ⌝ }
 {
     let answer = bfs(
@@ -62,6 +66,7 @@ pub(crate) fn on_bfs(
         claim,
         result,
         claimed,
+        lines,
     )
 }
 
@@ -79,15 +84,19 @@ pub(crate) fn on_wcc(
     result: &mut [i64],
     claimed: &mut [i64],
     heads: &mut [usize],
+    lines: &mut [usize],
 ) -> Judged
-    requires { ⌜ (Roomy room (size .vertices) (length (now result))) × (Roomy room (size .vertices) (length (now claimed))) ⌝ }
+    requires { ⌜
+        (Roomy room (size .vertices) (length (now result)))
+        × (Roomy room (size .vertices) (length (now claimed)))
+        × (Roomy room (size .vertices) (length (now lines))) ⌝ }
     requires { ⌜ Roomy room (size .vertices) (length (now heads)) ⌝ }
     ensures { λ r. ⌜
-        numbers (says r) (now (result .exit)) (now (claimed .exit))
+        numbers (says r) (now (result .exit)) (now (claimed .exit)) (now (lines .exit))
         ≡ wccVerdict room most
         (lent size (now (ids .entry)) (now («out_offsets» .entry)) (now («out_targets» .entry))
         (now («in_offsets» .entry)) (now («in_sources» .entry)))
-        (now (claim .entry)) (now (result .entry)) (now (claimed .entry)) ⌝ }
+        (now (claim .entry)) (now (result .entry)) (now (claimed .entry)) (now (lines .entry)) ⌝ }
     ensures { λ r. ⌜ now (heads .exit) ≡ cleared (now (heads .entry)) ⌝ }
 {
     let answer = wcc(
@@ -110,6 +119,7 @@ pub(crate) fn on_wcc(
         claim,
         result,
         claimed,
+        lines,
     )
 }
 
@@ -130,18 +140,22 @@ pub(crate) fn on_cdlp(
     labels: &mut [usize],
     next: &mut [usize],
     counts: &mut [usize],
+    lines: &mut [usize],
 ) -> Judged
-    requires { ⌜ (Roomy room (size .vertices) (length (now result))) × (Roomy room (size .vertices) (length (now claimed))) ⌝ }
+    requires { ⌜
+        (Roomy room (size .vertices) (length (now result)))
+        × (Roomy room (size .vertices) (length (now claimed)))
+        × (Roomy room (size .vertices) (length (now lines))) ⌝ }
     requires { ⌜
         (Roomy room (size .vertices) (length (now labels)))
         × (Roomy room (size .vertices) (length (now next)))
         × (Roomy room (size .vertices) (length (now counts))) ⌝ }
     ensures { λ r. ⌜
-        numbers (says r) (now (result .exit)) (now (claimed .exit))
+        numbers (says r) (now (result .exit)) (now (claimed .exit)) (now (lines .exit))
         ≡ cdlpVerdict room most
         (lent size (now (ids .entry)) (now («out_offsets» .entry)) (now («out_targets» .entry))
         (now («in_offsets» .entry)) (now («in_sources» .entry)))
-        iterations (now (claim .entry)) (now (result .entry)) (now (claimed .entry)) ⌝ }
+        iterations (now (claim .entry)) (now (result .entry)) (now (claimed .entry)) (now (lines .entry)) ⌝ }
     ensures { λ r. ⌜
         (now (labels .exit) ≡ cleared (now (labels .entry)))
         × (now (next .exit) ≡ cleared (now (next .entry)))
@@ -170,6 +184,7 @@ pub(crate) fn on_cdlp(
         claim,
         result,
         claimed,
+        lines,
     )
 }
 
@@ -187,15 +202,19 @@ pub(crate) fn on_lcc(
     numerators: &mut [usize],
     denominators: &mut [usize],
     work: &mut [usize],
+    lines: &mut [usize],
 ) -> Judged
-    requires { ⌜ (Roomy room (size .vertices) (length (now numerators))) × (Roomy room (size .vertices) (length (now denominators))) ⌝ }
+    requires { ⌜
+        (Roomy room (size .vertices) (length (now numerators)))
+        × (Roomy room (size .vertices) (length (now denominators)))
+        × (Roomy room (size .vertices) (length (now lines))) ⌝ }
     requires { ⌜ Roomy room (size .vertices) (length (now work)) ⌝ }
     ensures { λ r. ⌜
-        terms (says r) (now (numerators .exit)) (now (denominators .exit))
+        terms (says r) (now (numerators .exit)) (now (denominators .exit)) (now (lines .exit))
         ≡ lccVerdict room most
         (lent size (now (ids .entry)) (now («out_offsets» .entry)) (now («out_targets» .entry))
         (now («in_offsets» .entry)) (now («in_sources» .entry)))
-        (now (claim .entry)) (now (numerators .entry)) (now (denominators .entry)) ⌝ }
+        (now (claim .entry)) (now (numerators .entry)) (now (denominators .entry)) (now (lines .entry)) ⌝ }
     ensures { λ r. ⌜ now (work .exit) ≡ cleared (now (work .entry)) ⌝ }
 {
     let answer = lcc(
@@ -218,5 +237,6 @@ pub(crate) fn on_lcc(
         claim,
         numerators,
         denominators,
+        lines,
     )
 }

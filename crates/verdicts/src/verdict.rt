@@ -32,10 +32,12 @@ fn has_room(
     first: usize,
     second: usize,
     third: usize,
+    lines: usize,
 ) -> bool
-    ensures { λ r. ⌜ r ≡ (leb n result && (leb n claimed && (leb n first && (leb n second && leb n third)))) ⌝ }
+    ensures { λ r. ⌜
+        r ≡ (leb n result && (leb n claimed && (leb n first && (leb n second && (leb n third && leb n lines))))) ⌝ }
 {
-    let work = lesser(first, lesser(second, third));
+    let work = lesser(first, lesser(second, lesser(third, lines)));
     n <= lesser(result, lesser(claimed, work))
 }
 
@@ -46,23 +48,27 @@ fn refuse_unknown(
     first: &mut [usize],
     second: &mut [usize],
     third: &mut [usize],
+    lines: &mut [usize],
 ) -> Judged
     ensures { λ r. ⌜
         outcome (says r) (now (result .exit)) (now (claimed .exit)) (now (first .exit)) (now (second .exit)) (now (third .exit))
+        (now (lines .exit))
         ≡ unknownCall
-        (now (result .entry)) (now (claimed .entry)) (now (first .entry)) (now (second .entry)) (now (third .entry)) ⌝ }
+        (now (result .entry)) (now (claimed .entry)) (now (first .entry)) (now (second .entry)) (now (third .entry))
+        (now (lines .entry)) ⌝ }
 {
     clear_signed(result);
     clear_signed(claimed);
     clear(first);
     clear(second);
     clear(third);
+    clear(lines);
     Judged::Refused(Refusal::plain(UNKNOWN_NUMBER))
 }
 
 // The verdict on a claim of at most so many lines. Each area serves its kernel: BFS, WCC and CDLP leave their values in `result`, which
 // holds WCC's book before, and read the claim's into `claimed`; `first` is BFS's queue and WCC's heads, the three together CDLP's labels,
-// next labels and counts; LCC leaves its fractions in `first` and `second` and works in `third`.
+// next labels and counts; LCC leaves its fractions in `first` and `second` and works in `third`. `lines` maps each vertex to its claim line.
 pub fn verdict_within(
     most: usize,
     size: Size,
@@ -79,14 +85,17 @@ pub fn verdict_within(
     first: &mut [usize],
     second: &mut [usize],
     third: &mut [usize],
+    lines: &mut [usize],
 ) -> Judged
     ensures { λ r. ⌜
         outcome (says r) (now (result .exit)) (now (claimed .exit)) (now (first .exit)) (now (second .exit)) (now (third .exit))
+        (now (lines .exit))
         ≡ verdictCall most
         (lent size (now (ids .entry)) (now («out_offsets» .entry)) (now («out_targets» .entry))
         (now («in_offsets» .entry)) (now («in_sources» .entry)))
         kernel parameter (now (claim .entry))
-        (now (result .entry)) (now (claimed .entry)) (now (first .entry)) (now (second .entry)) (now (third .entry)) ⌝ }
+        (now (result .entry)) (now (claimed .entry)) (now (first .entry)) (now (second .entry)) (now (third .entry))
+        (now (lines .entry)) ⌝ }
 {
     let room = has_room(
         size.vertices,
@@ -95,6 +104,7 @@ pub fn verdict_within(
         first.len(),
         second.len(),
         third.len(),
+        lines.len(),
     );
     if kernel == BFS {
         clear(second);
@@ -113,6 +123,7 @@ pub fn verdict_within(
             result,
             claimed,
             first,
+            lines,
         );
     }
     if kernel == WCC {
@@ -131,6 +142,7 @@ pub fn verdict_within(
             result,
             claimed,
             first,
+            lines,
         );
     }
     if kernel == CDLP {
@@ -150,6 +162,7 @@ pub fn verdict_within(
             first,
             second,
             third,
+            lines,
         );
     }
     if kernel == LCC {
@@ -168,9 +181,10 @@ pub fn verdict_within(
             first,
             second,
             third,
+            lines,
         );
     }
-    refuse_unknown(result, claimed, first, second, third)
+    refuse_unknown(result, claimed, first, second, third, lines)
 }
 
 // The verdict at the library's limit of lines.
@@ -189,14 +203,17 @@ pub fn verdict(
     first: &mut [usize],
     second: &mut [usize],
     third: &mut [usize],
+    lines: &mut [usize],
 ) -> Judged
     ensures { λ r. ⌜
         outcome (says r) (now (result .exit)) (now (claimed .exit)) (now (first .exit)) (now (second .exit)) (now (third .exit))
+        (now (lines .exit))
         ≡ verdictCall mostLines
         (lent size (now (ids .entry)) (now («out_offsets» .entry)) (now («out_targets» .entry))
         (now («in_offsets» .entry)) (now («in_sources» .entry)))
         kernel parameter (now (claim .entry))
-        (now (result .entry)) (now (claimed .entry)) (now (first .entry)) (now (second .entry)) (now (third .entry)) ⌝ }
+        (now (result .entry)) (now (claimed .entry)) (now (first .entry)) (now (second .entry)) (now (third .entry))
+        (now (lines .entry)) ⌝ }
 {
     verdict_within(
         MOST_LINES,
@@ -214,5 +231,6 @@ pub fn verdict(
         first,
         second,
         third,
+        lines,
     )
 }

@@ -4,6 +4,12 @@ use lib.Seq.{length-take-le}
 use borrow.Author.Needs.{needs}
 use Rattle.verdicts.proofs.claims.numbers_on.Statement.{statement}
 use Rattle.verdicts.proofs.claims.numbers_on.Tie as tie
+use Rattle.verdicts.proofs.claims.numbers_on.Reads as reads
+use Rattle.verdicts.proofs.claims.numbers_on.Lts as lts
+use Rattle.basis.proofs.refusal.Refusal.plain.Reads as plain-reads
+use Rattle.matching.proofs.numbers.judge_numbers.Reads as judge-numbers-reads
+use Rattle.verdicts.proofs.claims.refuse_numbers.Reads as refuse-numbers-reads
+use Rattle.verdicts.proofs.claims.settle_numbers.Reads as settle-numbers-reads
 
 enum-known-answer : tie.Need-enum-known-answer
 enum-known-answer c = search needs
@@ -26,6 +32,9 @@ same-length c = search needs
 same-length-2 : tie.Need-same-length-2
 same-length-2 c = search needs
 
+same-length-3 : tie.Need-same-length-3
+same-length-3 c = search needs
+
 returns : tie.Need-returns
 returns c = search numbers-short
 
@@ -38,20 +47,26 @@ judge-numbers-requires c κs = search needs
 settle-numbers-requires : tie.Need-settle-numbers-requires
 settle-numbers-requires c κs = search needs
 
-same-length-3 : tie.Need-same-length-3
-same-length-3 c = search needs
-
 same-length-4 : tie.Need-same-length-4
 same-length-4 c = search needs
-
-returns-2 : tie.Need-returns-2
-returns-2 c = search numbers-refused
 
 same-length-5 : tie.Need-same-length-5
 same-length-5 c = search needs
 
 same-length-6 : tie.Need-same-length-6
 same-length-6 c = search needs
+
+returns-2 : tie.Need-returns-2
+returns-2 c = search numbers-refused
+
+same-length-7 : tie.Need-same-length-7
+same-length-7 c = search needs
+
+same-length-8 : tie.Need-same-length-8
+same-length-8 c = search needs
+
+same-length-9 : tie.Need-same-length-9
+same-length-9 c = search needs
 
 returns-3 : tie.Need-returns-3
 returns-3 c = search numbers-done
@@ -67,13 +82,16 @@ numbers-on-spec =
     refuse-numbers-requires-2
     same-length
     same-length-2
+    same-length-3
     returns
     slice-aggregate-judge-numbers
     judge-numbers-requires
     settle-numbers-requires
-    same-length-3
     same-length-4
-    returns-2
     same-length-5
     same-length-6
+    returns-2
+    same-length-7
+    same-length-8
+    same-length-9
     returns-3)

@@ -1,13 +1,18 @@
-use Rattle.verdicts.proofs.Settling.{both-terms, area-stays, area-goes}
+use Rattle.verdicts.proofs.Settling.{area-stays, area-goes}
+use mathlib.Core.Path.{refl}
 use borrow.Author.Needs.{needs}
 use Rattle.verdicts.proofs.claims.settle_terms.Statement.{statement}
 use Rattle.verdicts.proofs.claims.settle_terms.Tie as tie
+use Rattle.verdicts.proofs.claims.settle_terms.Reads as reads
+use Rattle.verdicts.proofs.claims.settle_terms.Lts as lts
+use Rattle.basis.proofs.area.clear.Reads as clear-reads
+use Rattle.verdicts.proofs.claims.is_refused.Reads as is-refused-reads
 
 is-refused-requires : tie.Need-is-refused-requires
 is-refused-requires c κs = search needs
 
 returns : tie.Need-returns
-returns c = search (both-terms, area-stays)
+returns c = (refl, search area-stays, search area-stays)
 
 clear-requires : tie.Need-clear-requires
 clear-requires c κs = search needs
@@ -22,7 +27,7 @@ same-length-2 : tie.Need-same-length-2
 same-length-2 c = search needs
 
 returns-2 : tie.Need-returns-2
-returns-2 c = search (both-terms, area-goes)
+returns-2 c = (refl, search area-goes, search area-goes)
 
 pub settle-terms-spec : {M : Type 1} → statement M
 settle-terms-spec =

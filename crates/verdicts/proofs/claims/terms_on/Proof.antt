@@ -4,12 +4,18 @@ use lib.Seq.{length-take-le}
 use borrow.Author.Needs.{needs}
 use Rattle.verdicts.proofs.claims.terms_on.Statement.{statement}
 use Rattle.verdicts.proofs.claims.terms_on.Tie as tie
+use Rattle.verdicts.proofs.claims.terms_on.Reads as reads
+use Rattle.verdicts.proofs.claims.terms_on.Lts as lts
+use Rattle.basis.proofs.refusal.Refusal.plain.Reads as plain-reads
+use Rattle.matching.proofs.coefficients.judge_coefficients.Reads as judge-coefficients-reads
+use Rattle.verdicts.proofs.claims.refuse_terms.Reads as refuse-terms-reads
+use Rattle.verdicts.proofs.claims.settle_terms.Reads as settle-terms-reads
 
 enum-known-answer : tie.Need-enum-known-answer
 enum-known-answer c = search needs
 
-settle-terms-requires : tie.Need-settle-terms-requires
-settle-terms-requires c κs = search needs
+refuse-terms-requires : tie.Need-refuse-terms-requires
+refuse-terms-requires c κs = search needs
 
 enum-told : tie.Need-enum-told
 enum-told c = search needs
@@ -17,14 +23,17 @@ enum-told c = search needs
 plain-requires : tie.Need-plain-requires
 plain-requires c κs = search needs
 
-settle-terms-requires-2 : tie.Need-settle-terms-requires-2
-settle-terms-requires-2 c κs = search needs
+refuse-terms-requires-2 : tie.Need-refuse-terms-requires-2
+refuse-terms-requires-2 c κs = search needs
 
 same-length : tie.Need-same-length
 same-length c = search needs
 
 same-length-2 : tie.Need-same-length-2
 same-length-2 c = search needs
+
+same-length-3 : tie.Need-same-length-3
+same-length-3 c = search needs
 
 returns : tie.Need-returns
 returns c = search terms-short
@@ -35,23 +44,29 @@ slice-aggregate-judge-coefficients c = sym (length-take-le _ _ (search known-ids
 judge-coefficients-requires : tie.Need-judge-coefficients-requires
 judge-coefficients-requires c κs = search needs
 
-settle-terms-requires-3 : tie.Need-settle-terms-requires-3
-settle-terms-requires-3 c κs = search needs
-
-same-length-3 : tie.Need-same-length-3
-same-length-3 c = search needs
+settle-terms-requires : tie.Need-settle-terms-requires
+settle-terms-requires c κs = search needs
 
 same-length-4 : tie.Need-same-length-4
 same-length-4 c = search needs
-
-returns-2 : tie.Need-returns-2
-returns-2 c = search terms-refused
 
 same-length-5 : tie.Need-same-length-5
 same-length-5 c = search needs
 
 same-length-6 : tie.Need-same-length-6
 same-length-6 c = search needs
+
+returns-2 : tie.Need-returns-2
+returns-2 c = search terms-refused
+
+same-length-7 : tie.Need-same-length-7
+same-length-7 c = search needs
+
+same-length-8 : tie.Need-same-length-8
+same-length-8 c = search needs
+
+same-length-9 : tie.Need-same-length-9
+same-length-9 c = search needs
 
 returns-3 : tie.Need-returns-3
 returns-3 c = search terms-done
@@ -61,19 +76,22 @@ terms-on-spec =
     tie.close
     (tie.spec
     enum-known-answer
-    settle-terms-requires
+    refuse-terms-requires
     enum-told
     plain-requires
-    settle-terms-requires-2
+    refuse-terms-requires-2
     same-length
     same-length-2
+    same-length-3
     returns
     slice-aggregate-judge-coefficients
     judge-coefficients-requires
-    settle-terms-requires-3
-    same-length-3
+    settle-terms-requires
     same-length-4
-    returns-2
     same-length-5
     same-length-6
+    returns-2
+    same-length-7
+    same-length-8
+    same-length-9
     returns-3)

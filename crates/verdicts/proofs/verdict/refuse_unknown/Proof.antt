@@ -2,6 +2,11 @@ use Rattle.verdicts.proofs.Calls.{unknown-all}
 use borrow.Author.Needs.{needs}
 use Rattle.verdicts.proofs.verdict.refuse_unknown.Statement.{statement}
 use Rattle.verdicts.proofs.verdict.refuse_unknown.Tie as tie
+use Rattle.verdicts.proofs.verdict.refuse_unknown.Reads as reads
+use Rattle.verdicts.proofs.verdict.refuse_unknown.Lts as lts
+use Rattle.basis.proofs.area.clear.Reads as clear-reads
+use Rattle.basis.proofs.area.clear_signed.Reads as clear-signed-reads
+use Rattle.basis.proofs.refusal.Refusal.plain.Reads as plain-reads
 
 clear-signed-requires : tie.Need-clear-signed-requires
 clear-signed-requires c κs = search needs
@@ -17,6 +22,9 @@ clear-requires-2 c κs = search needs
 
 clear-requires-3 : tie.Need-clear-requires-3
 clear-requires-3 c κs = search needs
+
+clear-requires-4 : tie.Need-clear-requires-4
+clear-requires-4 c κs = search needs
 
 plain-requires : tie.Need-plain-requires
 plain-requires c κs = search needs
@@ -36,6 +44,9 @@ same-length-4 c = search needs
 same-length-5 : tie.Need-same-length-5
 same-length-5 c = search needs
 
+same-length-6 : tie.Need-same-length-6
+same-length-6 c = search needs
+
 returns : tie.Need-returns
 returns c = search unknown-all
 
@@ -48,10 +59,12 @@ refuse-unknown-spec =
     clear-requires
     clear-requires-2
     clear-requires-3
+    clear-requires-4
     plain-requires
     same-length
     same-length-2
     same-length-3
     same-length-4
     same-length-5
+    same-length-6
     returns)

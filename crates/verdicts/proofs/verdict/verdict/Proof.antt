@@ -2,6 +2,9 @@ use mir.Facts.{toZ-ofZ}
 use borrow.Author.Needs.{needs}
 use Rattle.verdicts.proofs.verdict.verdict.Statement.{statement}
 use Rattle.verdicts.proofs.verdict.verdict.Tie as tie
+use Rattle.verdicts.proofs.verdict.verdict.Reads as reads
+use Rattle.verdicts.proofs.verdict.verdict.Lts as lts
+use Rattle.verdicts.proofs.verdict.verdict_within.Reads as verdict-within-reads
 
 verdict-within-requires : tie.Need-verdict-within-requires
 verdict-within-requires c κs = search needs
@@ -21,11 +24,13 @@ same-length-4 c = search needs
 same-length-5 : tie.Need-same-length-5
 same-length-5 c = search needs
 
+same-length-6 : tie.Need-same-length-6
+same-length-6 c = search needs
+
 returns : tie.Need-returns
 returns c =
-    let a = c .before .before .before .before .before .before .before .before .before .before .before .before .before .before .before
-    .before .before .before .before .before .before .before in
-    rw (toZ-ofZ (a .fits .parameter)) at (c .before .before .before .before .before .before .before .before .verdict-within .ensures)
+    let w = c .before .before .before .before .before .before .before .before .before .before in
+    rw (toZ-ofZ (w .before .before .before .before .before .before .before .before .before .before .before .before .before .before .before .before .fits .parameter)) at (w .verdict-within .ensures)
 
 pub verdict-spec : {M : Type 1} → statement M
 verdict-spec =
@@ -37,4 +42,5 @@ verdict-spec =
     same-length-3
     same-length-4
     same-length-5
+    same-length-6
     returns)
