@@ -162,7 +162,7 @@ module _ (vertices edges claim : List ℕ) (mode kernel : ℕ) (parameter : ℤ)
     stands-so = rw h
 
     roomy : Call.roomFor (length (g .ids)) (replicate deskVertices (pos 0)) (replicate deskVertices (pos 0))
-        (replicate deskVertices 0) (replicate deskVertices 0) (replicate deskVertices 0)
+        (replicate deskVertices 0) (replicate deskVertices 0) (replicate deskVertices 0) (replicate deskVertices 0)
         ≡ true
     unfolding Call.roomFor
     roomy =
@@ -171,12 +171,12 @@ module _ (vertices edges claim : List ℕ) (mode kernel : ℕ) (parameter : ℤ)
         ≡ true = rw (length-replicate deskVertices (pos 0)) (le-leb n deskVertices (ok .goodVertices .few)) in
         let o : leb n (length (replicate {A = ℕ} deskVertices 0))
         ≡ true = rw (length-replicate {A = ℕ} deskVertices 0) (le-leb n deskVertices (ok .goodVertices .few)) in
-        and-both z (and-both z (and-both o (and-both o o)))
+        and-both z (and-both z (and-both o (and-both o (and-both o o))))
 
     judged-so : deskJudged stands kernel parameter claim ≡ judgedAs (referenceFor deskLines (graphOf g) claim kernel parameter)
     unfolding deskJudged graphOf
     judged-so =
-        call-judged deskLines stands kernel parameter claim _ _ _ _ _ known-kernel (load-sound desk mode deskRoom vertices edges g h) roomy
+        call-judged deskLines stands kernel parameter claim _ _ _ _ _ _ known-kernel (load-sound desk mode deskRoom vertices edges g h) roomy
         ∙ ap judgedAs (ap (λ x. referenceFor deskLines x claim kernel parameter) stands-so
         ∙ reference-same deskLines (areaGraph deskRoom g) (graphOf g) claim parameter refl
         (same-names desk mode deskRoom vertices edges g ok) (same-outward desk mode deskRoom vertices edges g ok)
@@ -242,7 +242,7 @@ module _ (vertices edges claim : List ℕ) (mode kernel : ℕ) (parameter : ℤ)
           → Small narrow (asRefusal (hostSays vertices edges claim mode kernel parameter))
       by-load known (gives g) e =
           rw (host-given vertices edges claim mode kernel parameter known g e)
-          (call-small deskLines (graphLeft (sizeOf g) (loadCall desk mode deskRoom vertices edges)) kernel parameter claim _ _ _ _ _ narrow
+          (call-small deskLines (graphLeft (sizeOf g) (loadCall desk mode deskRoom vertices edges)) kernel parameter claim _ _ _ _ _ _ narrow
           (omega arith) (omega arith))
       by-load known (refuses r) e =
           rw (says-known vertices edges claim mode kernel parameter known, e)

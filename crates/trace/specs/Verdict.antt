@@ -13,7 +13,7 @@ abbrev pub asRefusal : Said Verdict → Refusal
 asRefusal (gives v) = at (v .number) (v .file) (v .line)
 asRefusal (refuses r) = r
 
--- the answer, and what stands in the five areas
+-- the answer, and what stands in the six areas
 pub record JudgeTold : Type 0 where
   pub answer : ℕ
   pub result : List ℤ
@@ -21,12 +21,13 @@ pub record JudgeTold : Type 0 where
   pub first : List ℕ
   pub second : List ℕ
   pub third : List ℕ
+  pub lines : List ℕ
 
 -- the same, by its fields in order
-abbrev pub judgeTold : ℕ → List ℤ → List ℤ → List ℕ → List ℕ → List ℕ → JudgeTold
-judgeTold answer result claimed first second third =
-    record { answer = answer; result = result; claimed = claimed; first = first; second = second; third = third }
+abbrev pub judgeTold : ℕ → List ℤ → List ℤ → List ℕ → List ℕ → List ℕ → List ℕ → JudgeTold
+judgeTold answer result claimed first second third lines =
+    record { answer = answer; result = result; claimed = claimed; first = first; second = second; third = third; lines = lines }
 
 -- what a verdict tells by its outcome: its three numbers, or a refusal's, as one, and the areas as they stand
 unfoldable pub judgeTells : Outcome → JudgeTold
-judgeTells o = judgeTold (placed (asRefusal (o .said))) (o .result) (o .claimed) (o .first) (o .second) (o .third)
+judgeTells o = judgeTold (placed (asRefusal (o .said))) (o .result) (o .claimed) (o .first) (o .second) (o .third) (o .lines)

@@ -42,14 +42,17 @@ pub extern "C" fn trace_judge(
     first: &mut [usize],
     second: &mut [usize],
     third: &mut [usize],
+    lines: &mut [usize],
 ) -> u64
     ensures { λ r. ⌜
         judgeTold r (now (result .exit)) (now (claimed .exit)) (now (first .exit)) (now (second .exit)) (now (third .exit))
+        (now (lines .exit))
         ≡ judgeTells (verdictCall mostLines
         (lent (statedSize vertices arcs) (now (ids .entry)) (now («out_offsets» .entry)) (now («out_targets» .entry))
         (now («in_offsets» .entry)) (now («in_sources» .entry)))
         kernel parameter (now (claim .entry))
-        (now (result .entry)) (now (claimed .entry)) (now (first .entry)) (now (second .entry)) (now (third .entry))) ⌝ }
+        (now (result .entry)) (now (claimed .entry)) (now (first .entry)) (now (second .entry)) (now (third .entry))
+        (now (lines .entry))) ⌝ }
 {
     let size = Size { vertices, arcs };
     let judged = verdict(
@@ -67,6 +70,7 @@ pub extern "C" fn trace_judge(
         first,
         second,
         third,
+        lines,
     );
     refusal_code(as_refusal(judged))
 }
@@ -108,6 +112,7 @@ fn judge_loaded(
     let mut first = [0usize; DESK_VERTICES];
     let mut second = [0usize; DESK_VERTICES];
     let mut third = [0usize; DESK_VERTICES];
+    let mut lines = [0usize; DESK_VERTICES];
     let judged = verdict_within(
         DESK_LINES,
         size,
@@ -124,6 +129,7 @@ fn judge_loaded(
         &mut first,
         &mut second,
         &mut third,
+        &mut lines,
     );
     host_code(as_refusal(judged))
 }

@@ -19,6 +19,9 @@ slice-aggregate-verdict-within-4 c = search needs
 slice-aggregate-verdict-within-5 : tie.Need-slice-aggregate-verdict-within-5
 slice-aggregate-verdict-within-5 c = search needs
 
+slice-aggregate-verdict-within-6 : tie.Need-slice-aggregate-verdict-within-6
+slice-aggregate-verdict-within-6 c = search needs
+
 verdict-within-requires : tie.Need-verdict-within-requires
 verdict-within-requires c κs = search needs
 
@@ -40,6 +43,7 @@ judge-loaded-spec =
     slice-aggregate-verdict-within-3
     slice-aggregate-verdict-within-4
     slice-aggregate-verdict-within-5
+    slice-aggregate-verdict-within-6
     verdict-within-requires
     as-refusal-requires
     host-code-requires
