@@ -6,7 +6,7 @@ use Rattle.text.specs.Word.{within}
 use Rattle.text.specs.Decimal.{digitOf, pastPoint, wholeIsGood, signedPower, powerAt, partsOf, fractionOf, decimalOf}
 use Rattle.text.specs.Line.{lineBy, twoOf}
 use Rattle.text.specs.File.{linesFrom, valuesFrom}
-use Rattle.graph.specs.Find.{placeFrom}
+use Rattle.graph.specs.Find.{placeFrom, bisect}
 use Rattle.graph.specs.Part.{targetsBetween, partOf}
 use Rattle.graph.specs.Sound.{soundIds, soundOffsets, soundSide, mirrored, soundSides, soundGraph}
 use Rattle.kernels.specs.Answer.{kernelSays}
@@ -24,8 +24,9 @@ use Rattle.lcc.specs.Call.{roomFor as lcc-roomFor, leftBy as lcc-leftBy, lccCal
 use Rattle.lists.specs.Files.{edgeTest}
 use Rattle.load.specs.Load.{arcsRead, listsRead, loaded, outcomeOf, loadCall}
 use Rattle.matching.specs.Close.{isClose}
-use Rattle.matching.specs.Verdict.{firstPlace, sameKind, agrees, failingPlace, unlikeVertex, judgedBy}
-use Rattle.matching.specs.Calls.{numbersCall, nearWithin, coefficientsSays}
+use Rattle.matching.specs.Cover.{failingPlace, lineFrom, namesNew, strayLine, incompleteLine, valueOf}
+use Rattle.matching.specs.Verdict.{firstPlace, sameKind, agrees, unlikeVertex, judgedBy}
+use Rattle.matching.specs.Calls.{numbersCall, nearWithin, coefficientsCall}
 use Rattle.book.specs.Rules.{walk, walkFrom, above, mergeable, mergeHeads, linkHeads, headsOf}
 use Rattle.book.specs.Rules.{decide, openBook, writeBook, joinBook, groupCount, tally}
 use Rattle.book.specs.One.{nextHere, sizeHere, one}
@@ -41,7 +42,8 @@ unfolding column every each mem within digitOf pastPoint wholeIsGood signedPower
     wccCall times mostTimes standing mostCommon smallest smallestOr nextLabel around labelsAt nextAt oneRound rounds cdlpOf goodRounds
     cdlp-roomFor cdlp-leftBy cdlpCall commonCount euclid gcdOf lowest those neighbours arcsFrom coefficientAmong numerator denominator
     lcc-roomFor
-    lcc-leftBy lccCall isClose firstPlace sameKind agrees failingPlace unlikeVertex judgedBy numbersCall nearWithin coefficientsSays walk
+    lcc-leftBy lccCall isClose bisect lineFrom namesNew strayLine incompleteLine valueOf firstPlace sameKind agrees failingPlace unlikeVertex
+    judgedBy numbersCall nearWithin coefficientsCall walk
     walkFrom
     above mergeable mergeHeads linkHeads headsOf decide openBook writeBook joinBook groupCount tally nextHere sizeHere one after run
 checked = refl

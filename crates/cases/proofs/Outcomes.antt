@@ -557,7 +557,7 @@ matching-judge_numbers-one = record {
   told = refl;
   one = λ _ _ z z′ _ _ p q. (
     says-apart z z′ (ap (λ o. o .said) (meet p q)),
-    ap (λ o. tt & tt & tt & tt & tt & o .claimed & tt) (meet p q),
+    ap (λ o. tt & tt & tt & tt & tt & o .claimed & o .lines & tt) (meet p q),
   );
 }
 
@@ -565,7 +565,10 @@ pub matching-judge_coefficients-one : One matching-judge_coefficients.ended (λ 
 matching-judge_coefficients-one = record {
   promise = matching-judge_coefficients.Reads.Learnt;
   told = refl;
-  one = λ _ _ z z′ _ _ p q. (says-apart z z′ (meet p q), refl);
+  one = λ _ _ z z′ _ _ p q. (
+    says-apart z z′ (ap (λ o. o .said) (meet p q)),
+    ap (λ o. tt & tt & tt & tt & tt & o .lines & tt) (meet p q),
+  );
 }
 
 -- ---- verdicts
@@ -575,7 +578,9 @@ verdicts-verdict_within-one = record {
   told = refl;
   one = λ _ _ z z′ _ _ p q. (
     says-apart z z′ (ap (λ o. o .said) (meet p q)),
-    ap (λ o. tt & tt & tt & tt & tt & tt & tt & tt & tt & tt & o .result & o .claimed & o .first & o .second & o .third & tt) (meet p q),
+    ap
+        (λ o. tt & tt & tt & tt & tt & tt & tt & tt & tt & tt & o .result & o .claimed & o .first & o .second & o .third & o .lines & tt)
+        (meet p q),
   );
 }
 
@@ -585,7 +590,9 @@ verdicts-verdict-one = record {
   told = refl;
   one = λ _ _ z z′ _ _ p q. (
     says-apart z z′ (ap (λ o. o .said) (meet p q)),
-    ap (λ o. tt & tt & tt & tt & tt & tt & tt & tt & tt & o .result & o .claimed & o .first & o .second & o .third & tt) (meet p q),
+    ap
+        (λ o. tt & tt & tt & tt & tt & tt & tt & tt & tt & o .result & o .claimed & o .first & o .second & o .third & o .lines & tt)
+        (meet p q),
   );
 }
 
@@ -836,7 +843,9 @@ trace-trace_judge-one = record {
   told = refl;
   one = λ _ _ _ _ _ _ p q. (
     ap (λ o. o .answer) (meet p q),
-    ap (λ o. tt & tt & tt & tt & tt & tt & tt & tt & tt & tt & o .result & o .claimed & o .first & o .second & o .third & tt) (meet p q),
+    ap
+        (λ o. tt & tt & tt & tt & tt & tt & tt & tt & tt & tt & o .result & o .claimed & o .first & o .second & o .third & o .lines & tt)
+        (meet p q),
   );
 }
 

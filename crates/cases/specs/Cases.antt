@@ -17,7 +17,7 @@ use Rattle.cdlp.specs.Call as C
 use Rattle.lcc.specs.Call as L
 use Rattle.matching.specs.declared.numbers.Rule.the-variants.{Equivalence}
 use Rattle.matching.specs.Verdict.{Verdict, matched, mismatchAt}
-use Rattle.matching.specs.Calls.{numbersCall, coefficientsSays}
+use Rattle.matching.specs.Calls.{numbersCall, coefficientsCall}
 use Rattle.verdicts.specs.Call.{mostLines}
 use Rattle.cases.specs.SheetGraph.{sheetGraph}
 
@@ -66,12 +66,14 @@ lccFractions = let o = L.lccCall sheetGraph lentN lentN lentN in fractions (o .s
 
 -- the verdict on a claim on vertex 1, whose coefficient is a / b
 abbrev coefficientClaim : ℕ → ℕ → List ℕ → Value
-coefficientClaim a b claim = judges (coefficientsSays mostLines (pos 1 ∷ []) (a ∷ []) (b ∷ []) claim)
+coefficientClaim a b claim = judges (coefficientsCall mostLines (pos 1 ∷ []) (a ∷ []) (b ∷ []) claim (0 ∷ []) .said)
 
 -- the verdict on a claim on vertices 1, 2 and 3, of components a, a and b: their smallest identifiers are 1, 1 and 3
 abbrev componentClaim : List ℕ → Value
 componentClaim claim =
-    judges (numbersCall Equivalence mostLines (pos 1 ∷ pos 2 ∷ pos 3 ∷ []) (pos 1 ∷ pos 1 ∷ pos 3 ∷ []) claim (replicate 3 (pos 0)) .said)
+    judges
+    (numbersCall Equivalence mostLines (pos 1 ∷ pos 2 ∷ pos 3 ∷ []) (pos 1 ∷ pos 1 ∷ pos 3 ∷ []) claim (replicate 3 (pos 0)) (replicate 3 0)
+    .said)
 
 -- a book of four vertices after a series of calls, its area holding anything before
 abbrev bookAfter : List Call → Value
