@@ -211,13 +211,13 @@ bisect-below l id (suc turns) low high i h e =
   where
     by : (a b c : Bool) → ltb low high ≡ a
         → elim a [
-            | true ↦
-                elim b [
-                  | true ↦ bisect ltZ (pos 0) l id turns (low + (high - low) / 2 + 1) high
-                  | false ↦ elim c [ true ↦ bisect ltZ (pos 0) l id turns low (low + (high - low) / 2) | false ↦ At (low + (high - low) / 2) ]
-                ]
-            | false ↦ Missing
-          ] ≡ At i
+          | true ↦
+              elim b [
+                | true ↦ bisect ltZ (pos 0) l id turns (low + (high - low) / 2 + 1) high
+                | false ↦ elim c [ true ↦ bisect ltZ (pos 0) l id turns low (low + (high - low) / 2) | false ↦ At (low + (high - low) / 2) ]
+              ]
+          | false ↦ Missing
+        ] ≡ At i
         → (bisect ltZ (pos 0) l id turns (low + (high - low) / 2 + 1) high ≡ At i → i < length l)
         → (low + (high - low) / 2 ≤ length l → bisect ltZ (pos 0) l id turns low (low + (high - low) / 2) ≡ At i → i < length l)
         → i < length l

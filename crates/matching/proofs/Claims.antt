@@ -102,9 +102,11 @@ module _ {A : Type 0} (form : Form A) (R : RightStop form) (z : A) (most : ℕ) 
               },
           λ g.
               read-as (g .file)
-              (accepted-exactly ids rises z mismatch within (g .lines) .1
-              (g .complete, match (inOrder (placeIn ids) z (length ids) (g .lines)) .1
-              (subst Matches (values-one ids rises z (g .lines) (g .complete) (g .values) (g .are)) (g .matches)))),
+              (accepted-exactly ids rises z mismatch within (g .lines) .1 (
+                g .complete,
+                match (inOrder (placeIn ids) z (length ids) (g .lines)) .1
+                    (subst Matches (values-one ids rises z (g .lines) (g .complete) (g .values) (g .are)) (g .matches)),
+              )),
         );
         incomplete = λ i. (
           λ e.
@@ -132,10 +134,16 @@ module _ {A : Type 0} (form : Form A) (R : RightStop form) (z : A) (most : ℕ) 
               },
           λ g.
               read-as (g .file)
-              (mismatch-exactly ids rises z mismatch within (g .lines) i .1
-              (g .complete, (g .vertex, wrong (inOrder (placeIn ids) z (length ids) (g .lines)) (g .vertex) .1
-              (subst (λ (vs : List A). Least (Wrong vs) (g .vertex))
-              (values-one ids rises z (g .lines) (g .complete) (g .values) (g .are)) (g .first)), g .reported))),
+              (mismatch-exactly ids rises z mismatch within (g .lines) i .1 (
+                g .complete,
+                (
+                  g .vertex,
+                  wrong (inOrder (placeIn ids) z (length ids) (g .lines)) (g .vertex) .1
+                      (subst (λ (vs : List A). Least (Wrong vs) (g .vertex))
+                      (values-one ids rises z (g .lines) (g .complete) (g .values) (g .are)) (g .first)),
+                  g .reported,
+                ),
+              )),
         );
         refused = λ r. (
           λ e. claim-refused form R most s r .0 (on-fault (placeIn ids) (length ids) z mismatch read r .0 e),

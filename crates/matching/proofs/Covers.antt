@@ -109,10 +109,13 @@ module _ (ids : List ℤ) (r : risingZ ids ≡ true) where
     unfolding namesNew
     lacks-stray i (unknown l n) = inl (omega arith, omega arith, new-not i l (placeIn ids (getD named i (pos 0))) refl n)
     lacks-stray i (again v j m h g) =
-        inl (omega arith, omega (arith, g .line),
-        rw (named-place g)
-        (ne-eqb (lineOf (placeIn ids) (take i named) v) 0
-        (λ z. line-none (take i named) v .0 z j (to-front (omega (arith, g .line)) m h))))
+        inl (
+          omega arith,
+          omega (arith, g .line),
+          rw (named-place g)
+              (ne-eqb (lineOf (placeIn ids) (take i named) v) 0
+              (λ z. line-none (take i named) v .0 z j (to-front (omega (arith, g .line)) m h))),
+        )
     lacks-stray i (missing e v l n) = inr e
 
     missing-line : (i : ℕ) → Lacks ids named i → i ≡ length named → (v : ℕ) × (v < length ids) × (lineOf (placeIn ids) named v ≡ 0)
@@ -132,10 +135,14 @@ module _ (ids : List ℤ) (r : risingZ ids ≡ true) where
             → Finds (Lacks ids named) 0 (orElse stray (cond (every (length ids) (hasLine (placeIn ids) named)) 0 (length named + 1)))
         by (inr h) =
             rw (h .1)
-            (inr (h .0, omega arith, record {
-              here = stray-lacks (h .0) (h .2 .here);
-              least = λ j d. first j (lacks-stray j d);
-            }))
+            (inr (
+              h .0,
+              omega arith,
+              record {
+                here = stray-lacks (h .0) (h .2 .here);
+                least = λ j d. first j (lacks-stray j d);
+              },
+            ))
           where
             first : (j : ℕ) → Fails (namesNew (placeIn ids) named) (length named) 0 j ⊎ (j ≡ length named) → h .0 ≤ j
             first j (inl f) = h .2 .least j f
@@ -199,7 +206,7 @@ module _ (ids : List ℤ) (r : risingZ ids ≡ true) where
         line v l (inl f) = absurd (n (length named) (missing refl v l (f .1)))
         line v l (inr f) = (f .0, f .2 .here)
 
-    none-lacks : Covers ids named → (i : ℕ) → Lacks ids named i → ⊥
+    pub none-lacks : Covers ids named → (i : ℕ) → Lacks ids named i → ⊥
     none-lacks c i (unknown l n) = n (c .known i l .0) (c .known i l .1)
     none-lacks c i (again v j m h g) = omega (arith, c .once v j i h g)
     none-lacks c i (missing e v l n) = n (c .all v l .0) (c .all v l .1)

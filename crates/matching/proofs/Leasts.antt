@@ -158,14 +158,18 @@ module _ (p q : ℕ → Bool) (n v : ℕ) (l : v < n) (e : p v ≡ true) (same :
   fails-now : q v ≡ false → Finds (Fails p n 0) 0 (failingPlace p n 0) → Finds (Fails q n 0) 0 (lesserFault (failingPlace p n 0) (v + 1))
   fails-now f (inl h) =
       rw (h .0)
-      (inr (v, omega arith, record {
-        here = (omega arith, omega arith, f);
-        least = λ j g.
-            elim (ℕ-discrete j v) as (λ _. v ≤ j) [
-              | yes d ↦ omega arith
-              | no d ↦ absurd (h .1 j (g .0, g .1, sym (same j (omega (arith, g .1)) d) ∙ g .2))
-            ];
-      }))
+      (inr (
+        v,
+        omega arith,
+        record {
+          here = (omega arith, omega arith, f);
+          least = λ j g.
+              elim (ℕ-discrete j v) as (λ _. v ≤ j) [
+                | yes d ↦ omega arith
+                | no d ↦ absurd (h .1 j (g .0, g .1, sym (same j (omega (arith, g .1)) d) ∙ g .2))
+              ];
+        },
+      ))
   fails-now f (inr h) =
       let i = h .0 in
       let line : failingPlace p n 0 ≡ suc i = omega (arith, h .1) in
@@ -173,24 +177,32 @@ module _ (p q : ℕ → Bool) (n v : ℕ) (l : v < n) (e : p v ≡ true) (same :
       elim (decLt i v) as (λ _. Finds (Fails q n 0) 0 (lesserFault (failingPlace p n 0) (v + 1))) [
         | yes k ↦
             rw (line, min-eq-left (let m : suc i ≤ v + 1 = omega arith in m))
-            (inr (i, omega arith, record {
-              here = (omega arith, at .1, same i (omega (arith, at .1)) (λ d. omega arith) ∙ at .2);
-              least = λ j g.
-                  elim (ℕ-discrete j v) as (λ _. i ≤ j) [
-                    | yes d ↦ omega arith
-                    | no d ↦ h .2 .least j (g .0, g .1, sym (same j (omega (arith, g .1)) d) ∙ g .2)
-                  ];
-            }))
+            (inr (
+              i,
+              omega arith,
+              record {
+                here = (omega arith, at .1, same i (omega (arith, at .1)) (λ d. omega arith) ∙ at .2);
+                least = λ j g.
+                    elim (ℕ-discrete j v) as (λ _. i ≤ j) [
+                      | yes d ↦ omega arith
+                      | no d ↦ h .2 .least j (g .0, g .1, sym (same j (omega (arith, g .1)) d) ∙ g .2)
+                    ];
+              },
+            ))
         | no k ↦
             rw (line, min-eq-right (let m : v + 1 ≤ suc i = omega arith in m))
-            (inr (v, omega arith, record {
-              here = (omega arith, omega arith, f);
-              least = λ j g.
-                  elim (ℕ-discrete j v) as (λ _. v ≤ j) [
-                    | yes d ↦ omega arith
-                    | no d ↦ let m = h .2 .least j (g .0, g .1, sym (same j (omega (arith, g .1)) d) ∙ g .2) in omega arith
-                  ];
-            }))
+            (inr (
+              v,
+              omega arith,
+              record {
+                here = (omega arith, omega arith, f);
+                least = λ j g.
+                    elim (ℕ-discrete j v) as (λ _. v ≤ j) [
+                      | yes d ↦ omega arith
+                      | no d ↦ let m = h .2 .least j (g .0, g .1, sym (same j (omega (arith, g .1)) d) ∙ g .2) in omega arith
+                    ];
+              },
+            ))
       ]
 
   pub failing-now : q v ≡ false → failingPlace q n 0 ≡ lesserFault (failingPlace p n 0) (v + 1)

@@ -12,5 +12,6 @@ pub mod Judging
 pub mod Covers
 pub mod Meaning
 pub mod Claims
+pub mod Orders
 pub mod Listing
 pub mod Examples

@@ -73,7 +73,9 @@ fn judged_on(rule: Rule, read: Read, reference: &[i64], claimed: &[i64], lines: 
             if incomplete != 0 {
                 return Judged::Incomplete(incomplete);
             }
-            verdict_of(0, reported(lines, mismatch(rule, reference, claimed)))
+            let fault = mismatch(rule, reference, claimed);
+            let line = reported(lines, fault);
+            verdict_of(0, line)
         }
     }
 }

@@ -6,3 +6,4 @@ pub mod Fractions
 pub mod Calls
 pub mod Ranges
 pub mod Meaning
+pub mod Orders

@@ -35,7 +35,7 @@ use Rattle.verdicts.proofs.Kernels.{bfs-length}
 use Rattle.verdicts.proofs.Ranges.{bfs-fits, cdlp-fits}
 
 -- a graph that is sound, a parameter that is good and room enough: what is said is the claim's verdict
-says-judged : (k : Reference) → k .given ≡ true → verdictSays k true true ≡ k .judged
+pub says-judged : (k : Reference) → k .given ≡ true → verdictSays k true true ≡ k .judged
 unfolding verdictSays kernelSays
 says-judged k e = rw e
 
@@ -80,7 +80,7 @@ module _ (most : ℕ) (g : Graph) (parameter : ℤ) (s : List ℕ) (R C : List �
       s
       (verdictCall most g 3 parameter s R C F S T L .said)
   cdlp-judged e =
-      rw (cdlp-says, says-judged (cdlpReference most g s parameter) e) 
+      rw (cdlp-says, says-judged (cdlpReference most g s parameter) e)
       (exact-judged most (names g) rises (cdlpOf g (natAbs parameter)) (cdlp-length g (sound-of g sound) (natAbs parameter) ∙ sym many) s)
 
   -- "WCC: equal claims exactly where components are equal."

@@ -56,7 +56,12 @@ fn settle_terms(judged: Judged, first: &mut [usize], second: &mut [usize]) -> Ju
 }
 
 // A refusal before the claim is read: its working areas are not cleared yet.
-fn refuse_numbers(r: Refusal, result: &mut [i64], claimed: &mut [i64], lines: &mut [usize]) -> Judged
+fn refuse_numbers(
+    r: Refusal,
+    result: &mut [i64],
+    claimed: &mut [i64],
+    lines: &mut [usize],
+) -> Judged
     ensures { λ j. ⌜
         numbers (says j) (now (result .exit)) (now (claimed .exit)) (now (lines .exit))
         ≡ numbers (refuses r) (clearedZ (now (result .entry))) (clearedZ (now (claimed .entry))) (cleared (now (lines .entry))) ⌝ }
@@ -68,7 +73,12 @@ fn refuse_numbers(r: Refusal, result: &mut [i64], claimed: &mut [i64], lines: &m
 }
 
 // The same of a claim of coefficients.
-fn refuse_terms(r: Refusal, first: &mut [usize], second: &mut [usize], lines: &mut [usize]) -> Judged
+fn refuse_terms(
+    r: Refusal,
+    first: &mut [usize],
+    second: &mut [usize],
+    lines: &mut [usize],
+) -> Judged
     ensures { λ j. ⌜
         terms (says j) (now (first .exit)) (now (second .exit)) (now (lines .exit))
         ≡ terms (refuses r) (cleared (now (first .entry))) (cleared (now (second .entry))) (cleared (now (lines .entry))) ⌝ }

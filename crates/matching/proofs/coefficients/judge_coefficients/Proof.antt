@@ -29,9 +29,10 @@ returns c = search coefficients-short
 read-coefficients-requires : tie.Need-read-coefficients-requires
 read-coefficients-requires c κs =
     let e = c .before .before .has-room .ensures in
-    let f = c .before .if1 .left in
-    ((room-first _ _ _ _ e f, room-second _ _ _ _ e f),
-    (room-third _ _ _ _ e f, search cleared-again))
+    let f = c .before .if1 .left in (
+      (room-first _ _ _ _ e f, room-second _ _ _ _ e f),
+      (room-third _ _ _ _ e f, search cleared-again),
+    )
 
 clear-requires-2 : tie.Need-clear-requires-2
 clear-requires-2 c κs = search needs

@@ -18,7 +18,7 @@ use Rattle.matching.proofs.reading.strayed.Reads as strayed-reads
 use Rattle.text.proofs.line.Cursor.coefficient_claim.Reads as coefficient-claim-reads
 
 abbrev Inv-loop : tie.InvT-loop
-Inv-loop most ids numerators denominators claim lines₀ n cursor₀ k₀ stray₀ far₀ lines cursor k stray far = 
+Inv-loop most ids numerators denominators claim lines₀ n cursor₀ k₀ stray₀ far₀ lines cursor k stray far =
     Decimals most ids numerators denominators claim (length lines₀) lines (cursor .at) k stray far
 
 abbrev μ-loop : tie.MeasureT-loop

@@ -16,7 +16,7 @@ use Rattle.matching.proofs.reading.strayed.Reads as strayed-reads
 use Rattle.text.proofs.line.Cursor.claim.Reads as claim-reads
 
 abbrev Inv-loop : tie.InvT-loop
-Inv-loop most ids claim claimed₀ lines₀ n cursor₀ k₀ stray₀ claimed lines cursor k stray = 
+Inv-loop most ids claim claimed₀ lines₀ n cursor₀ k₀ stray₀ claimed lines cursor k stray =
     Numbers most ids claim (length claimed₀) (length lines₀) claimed lines (cursor .at) k stray
 
 abbrev μ-loop : tie.MeasureT-loop
@@ -70,8 +70,11 @@ recorded-requires c κs = search needs
 keep-requires : tie.Need-keep-requires Inv-loop μ-loop
 keep-requires c κs =
     named-within _ _ _ (c .before .before .before .recorded .ensures .0) _
-    (omega (arith, c .before .before .before .before .before .before .before .before .before .before .loop .inv .kept,
-    c .before .before .before .before .before .before .before .before .before .before .before .before .before .pre .0 .0))
+    (omega (
+      arith,
+      c .before .before .before .before .before .before .before .before .before .before .loop .inv .kept,
+      c .before .before .before .before .before .before .before .before .before .before .before .before .before .pre .0 .0,
+    ))
 
 strayed-requires : tie.Need-strayed-requires Inv-loop μ-loop
 strayed-requires c κs = search needs

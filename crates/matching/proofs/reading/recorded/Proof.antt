@@ -25,9 +25,11 @@ slice-read-if1 c = search (found-below, toZ-ofZ)
 
 returns : tie.Need-returns
 returns c =
-    let a = c .before .before .before .before .before .before .before in
-    (names-again _ _ _ (toZ-ofZ (a .fits .id)) (c .before .before .before .before .before .find .ensures)
-    (c .before .before .before .found .given .1) refl (c .if1 .taken), refl)
+    let a = c .before .before .before .before .before .before .before in (
+      names-again _ _ _ (toZ-ofZ (a .fits .id)) (c .before .before .before .before .before .find .ensures)
+          (c .before .before .before .found .given .1) refl (c .if1 .taken),
+      refl,
+    )
 
 add-lines : tie.Need-add-lines
 add-lines c = search needs
