@@ -126,7 +126,8 @@ impl Asked<'_> {
         let mut six = Six::of(dice, places, at_end);
         let said = six.judge(&Held::of(self.g, at_end).lent(), self, &Fenced::of(claim, at_end));
         let (right, results) = self.right(claim, places.iter().all(|&k| k >= self.g.ids.len()));
-        let story = || format!("kernel {} {} on {:?}\n{}", self.kernel, self.parameter, self.g.ids, String::from_utf8_lossy(claim));
+        let (ids, text) = (&self.g.ids[..self.g.ids.len().min(90)], String::from_utf8_lossy(&claim[..claim.len().min(4_000)]));
+        let story = || format!("kernel {} {} on {:?}\n{}", self.kernel, self.parameter, ids, text);
         assert_eq!(said, coded(right, 1_000_000_000_000_000), "{}", story());
         assert!(six.hold(&results), "{}", story());
         right
