@@ -60,8 +60,9 @@ static int by_value(const void *a, const void *b) {
     return (x > y) - (x < y);
 }
 
-/* Hubs: one end is drawn towards low numbers. Vats: edges begin at one of 64. A star: the middle vertex and each other one; m is n - 1. */
-enum shape { UNIFORM, HUBS, VATS, STAR };
+/* Hubs: one end is drawn towards low numbers. Vats: edges begin at one of 64. A star: the middle vertex and each other one; m is n - 1.
+   A ring: each vertex and the two behind it; m is 2n. */
+enum shape { UNIFORM, HUBS, VATS, STAR, RING };
 
 /* Identifiers are 1,000,003 times the vertex number, less 10^9: some below zero. */
 static struct lists make(const char *name, int directed, enum shape shape, size_t n, size_t m) {
@@ -73,6 +74,7 @@ static struct lists make(const char *name, int directed, enum shape shape, size_
         if (shape == HUBS) u = u * (dice() % n) / n * (dice() % n) / n;
         if (shape == VATS) u = u % 64 * (n / 64);
         if (shape == STAR) u = n / 2, v = i < u ? i : i + 1;
+        if (shape == RING) u = i / 2, v = (u + 1 + i % 2) % n;
         if (u == v) v = (v + 1) % n;
         if (!directed && u > v) {
             uint64_t t = u;
@@ -136,6 +138,39 @@ static struct text claim_of(const struct graph *g, const int64_t *result) {
     return t;
 }
 
+/* The lines of a claim: in vertex order, from the last to the first, or in any order. */
+enum order { IN_ORDER, REVERSED, SHUFFLED, ORDERS };
+static const char *const orders[] = {"in order", "reversed", "shuffled"};
+
+/* A claim that is in vertex order, put in another. */
+static struct text put(struct text t, size_t lines, enum order order) {
+    struct text to = {room(t.length, 1), 0};
+    size_t *starts = room(lines + 1, 8), *which = room(lines, 8);
+    for (size_t i = 0, line = 0; i < t.length; i++)
+        if (t.bytes[i] == '\n') starts[++line] = i + 1;
+    for (size_t i = 0; i < lines; i++) {
+        size_t j = order == SHUFFLED ? dice() % (i + 1) : i;
+        which[i] = which[j];
+        which[j] = order == REVERSED ? lines - 1 - i : i;
+    }
+    for (size_t i = 0; i < lines; i++) {
+        size_t length = starts[which[i] + 1] - starts[which[i]];
+        memcpy(to.bytes + to.length, t.bytes + starts[which[i]], length);
+        to.length += length;
+    }
+    free(starts);
+    free(which);
+    return to;
+}
+
+/* Another number at the end of every hundredth line, from the middle on. */
+static void put_wrong(struct text t, size_t lines) {
+    for (size_t i = 0, line = 0; i < t.length; i++) {
+        if (t.bytes[i] != '\n') continue;
+        if (++line > lines / 2 && line % 100 == 0) t.bytes[i - 1] = t.bytes[i - 1] == '0' ? '1' : (uint8_t)(t.bytes[i - 1] - 1);
+    }
+}
+
 /* The first vertex, from the middle on, from which a tenth of the graph is reached. */
 static size_t far_reaching(const struct graph *g, int64_t *depth, size_t *queue) {
     for (size_t v = g->vertices / 2; v < g->vertices; v++) {
@@ -151,7 +186,7 @@ static void measure(struct lists l, int with_lcc, int with_groups, int times) {
     size_t n = l.vertices, m = l.directed ? l.edges : 2 * l.edges;
     struct graph g = areas(n, m), p = areas(n, m);
     int64_t *result = room(n, 8), *right = room(n, 8), *claimed = room(n, 8);
-    size_t *a = room(n, 8), *b = room(n, 8), *c = room(n, 8), *x = room(n, 8), *y = room(n, 8);
+    size_t *a = room(n, 8), *b = room(n, 8), *c = room(n, 8), *x = room(n, 8), *y = room(n, 8), *lines = room(n, 8);
     double engine = 0, plain = 0, sound = 0, check = 0, bfs = 0;
     uint64_t said = 0;
 
@@ -223,7 +258,20 @@ static void measure(struct lists l, int with_lcc, int with_groups, int times) {
     struct text labels = claim_of(&p, right);
 
 #define JUDGE(kernel, parameter, claim) \
-    trace_judge(GRAPH(g, n, m), kernel, parameter, (claim).bytes, (claim).length, result, n, claimed, n, a, n, b, n, c, n)
+    trace_judge(GRAPH(g, n, m), kernel, parameter, (claim).bytes, (claim).length, result, n, claimed, n, a, n, b, n, c, n, lines, n)
+    /* the same claim in each order, `t`, beside a plain engine that takes any */
+#define IN_EACH_ORDER(kind, claim, kernel, parameter, ...)                    \
+    for (enum order order = IN_ORDER; order < ORDERS; order++) {              \
+        char stage[32];                                                       \
+        struct text t = put(claim, n, order);                                 \
+        TURNS {                                                               \
+            BEST(engine, TIMES(verdict |= JUDGE(kernel, parameter, t)));      \
+            BEST(plain, TIMES({ __VA_ARGS__; }));                             \
+        }                                                                     \
+        snprintf(stage, sizeof stage, "verdict " kind ", %s", orders[order]); \
+        row(l.name, stage, engine, plain);                                    \
+        free(t.bytes);                                                        \
+    }
     uint64_t verdict = 0;
     TURNS {
         BEST(engine, TIMES(verdict |= JUDGE(1, g.ids[root], depths)));
@@ -233,6 +281,8 @@ static void measure(struct lists l, int with_lcc, int with_groups, int times) {
              }));
     }
     row(l.name, "verdict bfs", engine, plain);
+    IN_EACH_ORDER("bfs", depths, 1, g.ids[root], CHECKED(plain_bfs(&p, root, result, a));
+                  verdict |= plain_judge_any(&p, result, t.bytes, t.length, lines))
     TURNS {
         BEST(engine, TIMES(verdict |= JUDGE(3, 10, labels)));
         BEST(plain, TIMES({
@@ -250,6 +300,8 @@ static void measure(struct lists l, int with_lcc, int with_groups, int times) {
                  }));
         }
         row(l.name, "verdict wcc", engine, plain);
+        IN_EACH_ORDER("wcc", groups, 2, 0, CHECKED(plain_wcc(&p, result, a));
+                      verdict |= plain_judge_groups_any(&p, result, t.bytes, t.length, claimed, lines))
     }
     if (with_lcc) {
         TURNS {
@@ -274,6 +326,8 @@ static void measure(struct lists l, int with_lcc, int with_groups, int times) {
                  }));
         }
         row(l.name, "verdict lcc", engine, plain);
+        IN_EACH_ORDER("lcc", fractions, 4, 0, CHECKED(plain_lcc(&p, a, b, c));
+                      verdict |= plain_judge_coefficients_any(&p, a, b, t.bytes, t.length, lines))
         free(fractions.bytes);
     }
     /* a match is number 0, file 3, line 0 */
@@ -281,8 +335,18 @@ static void measure(struct lists l, int with_lcc, int with_groups, int times) {
         printf("a verdict is not a match: %" PRIu64 "\n", verdict);
         exit(1);
     }
+    /* of a claim that is wrong in many lines both report the same one */
+    struct text wrong = put(depths, n, SHUFFLED);
+    put_wrong(wrong, n);
+    plain_bfs(&p, root, result, a);
+    size_t line = plain_judge_any(&p, result, wrong.bytes, wrong.length, lines);
+    said = JUDGE(1, g.ids[root], wrong);
+    if (TRACE_NUMBER(said) != TRACE_MISMATCH || TRACE_LINE(said) != line) {
+        printf("the engines differ: a mismatch at line %" PRIu64 " or %zu\n", TRACE_LINE(said), line);
+        exit(1);
+    }
     void *all[] = {l.vertex_file.bytes, l.edge_file.bytes, g.ids, g.out_offsets, g.out_targets, g.in_offsets, g.in_sources, result, right,
-                   claimed, a, b, c, x, y, depths.bytes, groups.bytes, labels.bytes};
+                   claimed, a, b, c, x, y, lines, depths.bytes, groups.bytes, labels.bytes, wrong.bytes};
     for (size_t i = 0; i < sizeof all / sizeof *all; i++) free(all[i]);
 }
 
@@ -431,6 +495,7 @@ int main(int argc, char **argv) {
     measure(make("(d) desk size, 1,000 times", 1, UNIFORM, 1024, 2048), 1, 0, quick ? 100 : 1000);
     measure(make("4,096 vertices, 16,384 edges", 1, UNIFORM, 4096, 16384), 1, 0, 10);
     measure(make("16,384 vertices, undirected", 0, UNIFORM, 16384, 20000), 0, 1, 1);
+    measure(make("ring of 65,536", 0, RING, 65536, 131072), 1, 0, 1);
     measure_book(65536, 1000000);
     measure_desk(argv[1], argv[2]);
     return 0;

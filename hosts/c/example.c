@@ -29,6 +29,15 @@ int main(void) {
         else printf("%" PRId64 ": %" PRId64 " transfers from vat 102\n", ids[v], depth[v]);
     }
 
+    const char *backwards = "303 1\n302 1\n301 1\n203 1\n202 1\n201 1\n103 1\n102 1\n101 1\n";
+    int64_t result[PLACES], claimed[PLACES];
+    size_t first[PLACES], second[PLACES], third[PLACES], lines[PLACES];
+    uint64_t judged = trace_judge(vertices, arcs, ids, PLACES, out_offsets, PLACES + 1, out_targets, PLACES, in_offsets, PLACES + 1,
+                                  in_sources, PLACES, TRACE_WCC, 0, bytes(backwards), strlen(backwards), result, PLACES, claimed, PLACES,
+                                  first, PLACES, second, PLACES, third, PLACES, lines, PLACES);
+    printf("the claim, written backwards, that all hang together: %" PRIu64 " at line %" PRIu64 "\n", TRACE_NUMBER(judged),
+           TRACE_LINE(judged));
+
     const char *larger_first = "101 201\n202 102\n";
     uint64_t refused = trace_load(TRACE_UNDIRECTED, bytes(LOTS), strlen(LOTS), bytes(larger_first), strlen(larger_first), ids, PLACES,
                                   out_offsets, PLACES + 1, out_targets, PLACES, in_offsets, PLACES + 1, in_sources, PLACES);

@@ -1,6 +1,6 @@
 /* judge [--explain] MODE KERNEL PARAMETER VERTICES EDGES CLAIM: the verdict on a claim, in words. MODE is undirected or directed, KERNEL
-   bfs, wcc, cdlp or lcc, PARAMETER the root, the number of rounds, or anything where the kernel has none; the other three are files.
-   --explain adds to a refusal what is wrong, and the line. */
+   bfs, wcc, cdlp or lcc, PARAMETER the root, the number of rounds, or anything where the kernel has none; the other three are files. The
+   claim's lines come in any order. --explain adds what is wrong, and the line. */
 #include "trace.h"
 
 #include <inttypes.h>
@@ -76,10 +76,8 @@ static const char *reason(uint64_t number, uint64_t file, uint64_t kernel) {
     return number == 2 ? form(file, kernel) : reasons[number];
 }
 
-/* What is wrong, and the line: bytes that do not print as in C or as a question mark. */
-static void explain(uint64_t number, uint64_t file, uint64_t kernel, struct line l) {
-    printf("  (%s)\n", number == 2 && !l.ended ? "the line has no line end" : reason(number, file, kernel));
-    if (file == 0) return;
+/* A line as it reads: bytes that do not print as in C or as a question mark. */
+static void print_line(struct line l) {
     printf("  (it reads: ");
     for (; l.from < l.to; l.from++) {
         if (*l.from == '\t') printf("\\t");
@@ -87,6 +85,40 @@ static void explain(uint64_t number, uint64_t file, uint64_t kernel, struct line
         else putchar(*l.from < ' ' || *l.from > '~' ? '?' : *l.from);
     }
     printf(")\n");
+}
+
+/* What is wrong, and the line. */
+static void explain(uint64_t number, uint64_t file, uint64_t kernel, struct line l) {
+    printf("  (%s)\n", number == 2 && !l.ended ? "the line has no line end" : reason(number, file, kernel));
+    if (file != 0) print_line(l);
+}
+
+/* The first line of a well-formed claim that names a vertex, 0 where there is none; a number is written in one way only. */
+static uint64_t naming(struct file claim, const uint8_t *id, size_t length) {
+    uint64_t line = 1;
+    for (const uint8_t *at = claim.bytes, *end = at + claim.length; at < end; line++) {
+        const uint8_t *to = memchr(at, '\n', (size_t)(end - at));
+        if ((size_t)(to - at) > length && at[length] == ' ' && memcmp(at, id, length) == 0) return line;
+        at = to + 1;
+    }
+    return 0;
+}
+
+/* A line of an incomplete claim that names a vertex which an earlier line names, or which is not there. */
+static void explain_line(struct file claim, uint64_t line, struct line l) {
+    const uint8_t *space = memchr(l.from, ' ', (size_t)(l.to - l.from));
+    uint64_t first = naming(claim, l.from, (size_t)(space - l.from));
+    if (first < line) printf("  (line %" PRIu64 " names the same vertex)\n", first);
+    else printf("  (the vertex is not in the vertex file)\n");
+    print_line(l);
+}
+
+/* The first vertex that no line of a claim names. */
+static void explain_missing(struct file vertices, struct file claim) {
+    uint64_t line = 1;
+    struct line l = line_of(vertices, line);
+    while (naming(claim, l.from, (size_t)(l.to - l.from))) l = line_of(vertices, ++line);
+    printf("  (vertex %.*s has no line)\n", (int)(l.to - l.from), (const char *)l.from);
 }
 
 int main(int argc, char **argv) {
@@ -108,7 +140,11 @@ int main(int argc, char **argv) {
     else if (number == TRACE_MISMATCH) printf("the claim is wrong at line %" PRIu64 "\n", line);
     else if (line == 0) printf("refused %" PRIu64 "\n", number);
     else printf("refused %" PRIu64 " at line %" PRIu64 "%s\n", number, line, files[file]);
-    if (explained && TRACE_VERDICT_REFUSED(said))
-        explain(number, file, kernel, line_of(file == 1 ? v : file == 2 ? e : c, line));
+    if (!explained || number == TRACE_MATCH) return 0;
+    struct line at = line_of(file == 1 ? v : file == 2 ? e : c, line);
+    if (TRACE_VERDICT_REFUSED(said)) explain(number, file, kernel, at);
+    else if (number == TRACE_MISMATCH) printf("  (of the vertices at fault this is the smallest)\n"), print_line(at);
+    else if (at.ended) explain_line(c, line, at);
+    else explain_missing(v, c);
     return 0;
 }

@@ -20,8 +20,9 @@
  *   12  a mode or kernel number is unknown
  * Verdict numbers
  *    0  the claim matches (line 0)
- *   20  the claim is incomplete: its first line whose identifier isn't the graph's at that place, or the first missing or surplus line
- *   21  the claim is complete and does not match: its first mismatch
+ *   20  the claim is incomplete: its first line that names an unknown vertex or one that an earlier line names; where there is none and a
+ *       vertex has no line, the line after the last
+ *   21  the claim is complete and does not match: the line of the smallest vertex at fault, which need not be the first line at fault
  * Files: 1 vertex, 2 edge, 3 claim, 0 none. Lines count from 1; 0 where no line applies. Verdicts carry file 3. The column at which a line
  * of the wrong form (2) breaks off, which the desk program prints, is not in the coded numbers.
  * A verdict is no refusal: TRACE_REFUSED and TRACE_VERDICT_REFUSED hold of the numbers 1 to 12 alone.
@@ -58,11 +59,13 @@ extern "C" {
 #define TRACE_UNREACHABLE INT64_MAX
 
 /*
- * A claim has one line per vertex, in vertex order, each ended by LF: identifier, one space, value. For BFS, WCC and CDLP the value is in
+ * A claim has one line per vertex, in any order, each ended by LF: identifier, one space, value. For BFS, WCC and CDLP the value is in
  * identifier form. For LCC it is a plain or scientific decimal: 0 or digits without a leading zero, optionally . and at least one digit,
  * optionally e, a sign and two digits; no minus before it, and at most 17 digits before any e, a leading 0 included. So what "%.16e"
  * prints of a coefficient is one. A line of another form is refused 2. A decimal matches where it is within one part in ten thousand of the
- * exact coefficient, both taken as they are and reckoned without rounding.
+ * exact coefficient, both taken as they are and reckoned without rounding. For WCC the claimed numbers have to be equal exactly where the
+ * components are: a vertex is at fault where it and a smaller one are alike in one of the two and not in the other.
+ * Another order of the lines of a complete claim changes neither whether it matches nor which vertex is reported, only the line it is on.
  */
 
 /* ---- the verdict on three files, at desk limits */
@@ -71,7 +74,7 @@ extern "C" {
  * Loads the graph of the vertex and edge files, runs the kernel, and judges the claim.
  * Limits: 1,024 vertex lines, 2,048 edge lines, 1,024 claim lines. `parameter` is the root's identifier for BFS, the
  * iterations for CDLP, and ignored for WCC and LCC. The order of checks: 12, the load's, 10 or 11, the claim's.
- * It needs no area: its own take about 131,000 bytes of the stack.
+ * It needs no area: its own take about 139,000 bytes of the stack.
  * The answer is number * 1,000,000 + file * 100,000 + line.
  */
 uint64_t trace_verdict(const uint8_t *vertices, size_t vertices_length,
@@ -171,18 +174,19 @@ uint64_t trace_lcc(size_t vertices, size_t arcs,
                    size_t *work, size_t work_length);
 
 /*
- * The verdict on a claim about a lent graph. Each of the five areas needs `vertices` places, whatever the kernel. After a verdict
+ * The verdict on a claim about a lent graph. Each of the six areas needs `vertices` places, whatever the kernel. After a verdict
  * the kernel's result stands in `result` (BFS, WCC, CDLP), or in `first` over `second` (LCC, numerators over denominators); the other areas
- * are zero. Refusals: 12; 9; 10 (BFS) or 11 (CDLP); 8; 1, 2, 3 of the claim. After a refusal all five are zero.
+ * are zero. Refusals: 12; 9; 10 (BFS) or 11 (CDLP); 8; 1, 2, 3 of the claim. After a refusal all six are zero.
  * Which area serves for what, by the names of the kernels above:
  *   BFS   result: depth; first: queue
  *   WCC   result: the book, then the labels; first: heads
  *   CDLP  result: result; first: labels; second: next; third: counts
  *   LCC   first: numerators; second: denominators; third: work
- * `claimed` takes the claim's numbers (BFS, WCC, CDLP). An area that serves for nothing is only cleared.
+ * `claimed` takes the claim's numbers (BFS, WCC, CDLP). `lines` is the record of the claim's lines: it maps each vertex to its line,
+ * whatever the kernel. An area that serves for nothing is only cleared.
  * The answer is the verdict's or the refusal's: TRACE_NUMBER is TRACE_MATCH, TRACE_INCOMPLETE or TRACE_MISMATCH with TRACE_FILE 3 and the
  * line in TRACE_LINE, or, where TRACE_REFUSED, the number of a refusal.
- * A verdict on components compares each line of a complete claim with every earlier one, up to its first mismatch: at most
+ * A verdict on components compares each vertex of a complete claim with every smaller one, up to the first at fault: at most
  * vertices * (vertices - 1) / 2 pairs.
  */
 uint64_t trace_judge(size_t vertices, size_t arcs,
@@ -197,7 +201,8 @@ uint64_t trace_judge(size_t vertices, size_t arcs,
                      int64_t *claimed, size_t claimed_length,
                      size_t *first, size_t first_length,
                      size_t *second, size_t second_length,
-                     size_t *third, size_t third_length);
+                     size_t *third, size_t third_length,
+                     size_t *lines, size_t lines_length);
 
 /*
  * The group book: groups of the vertices 0 to n - 1, in one area of n entries, at most 65,536 (512 KiB). Each group has a head. A head's

@@ -163,9 +163,10 @@ impl Run {
         let lent = calls::Lent { size, ids: &ids, out_offsets: &oo, out_targets: &ot, in_offsets: &io, in_sources: &is };
         let any = Graph { ids: g.ids.clone(), out: Vec::new(), into: Vec::new() };
         let (kernel, parameter) = inputs::kernel(&mut self.dice, &any);
-        let rooms: Vec<usize> = (0..5).map(|_| self.places(n)).collect();
+        let rooms: Vec<usize> = (0..6).map(|_| self.places(n)).collect();
         let (mut result, mut claimed) = (self.signed(rooms[0]), self.signed(rooms[1]));
         let (mut first, mut second, mut third) = (self.numbers(rooms[2]), self.numbers(rooms[3]), self.numbers(rooms[4]));
+        let mut lines = self.numbers(rooms[5]);
         let judge = self.dice.one_in(2) || !(1..=4).contains(&kernel);
         let claim = match &graph {
             Ok(g) if (1..=4).contains(&kernel) => inputs::claim(&mut self.dice, g, kernel, parameter),
@@ -175,17 +176,23 @@ impl Run {
         if self.dice.one_in(4) {
             inputs::damage(&mut self.dice, &mut claim);
         }
-        // which of the five areas the call is lent, and so has to have room
+        // which of the six areas the call is lent, and so has to have room
         let used: &[usize] = match (judge, kernel) {
-            (true, _) => &[0, 1, 2, 3, 4],
+            (true, _) => &[0, 1, 2, 3, 4, 5],
             (_, 1) => &[0, 2],
             (_, 2) => &[0, 2],
             (_, 3) => &[0, 2, 3, 4],
             _ => &[2, 3, 4],
         };
         let said = if judge {
-            let mut areas =
-                calls::Areas { result: &mut result, claimed: &mut claimed, first: &mut first, second: &mut second, third: &mut third };
+            let mut areas = calls::Areas {
+                result: &mut result,
+                claimed: &mut claimed,
+                first: &mut first,
+                second: &mut second,
+                third: &mut third,
+                lines: &mut lines,
+            };
             calls::judge(&lent, kernel, parameter, &self.lend(&claim), &mut areas)
         } else {
             match kernel {
@@ -214,7 +221,7 @@ impl Run {
         }
         let fractions =
             |k: usize| done.as_ref().filter(|_| kernel == 4).map(|d| if k == 2 { &d.numerators[..] } else { &d.denominators[..] });
-        for (k, area) in [(2, &first), (3, &second), (4, &third)] {
+        for (k, area) in [(2, &first), (3, &second), (4, &third), (5, &lines)] {
             if used.contains(&k) {
                 let list = if k < 4 { fractions(k) } else { None };
                 assert_eq!(&area[..], &shown(list, rooms[k])[..], "{}", story);

@@ -15,7 +15,7 @@
 
 static int64_t ids[LOTS], result[LOTS], claimed[LOTS];
 static size_t out_offsets[LOTS + 1], out_targets[ARCS], in_offsets[LOTS + 1], in_sources[ARCS];
-static size_t numerators[LOTS], denominators[LOTS], first[LOTS], second[LOTS], third[LOTS];
+static size_t numerators[LOTS], denominators[LOTS], first[LOTS], second[LOTS], third[LOTS], lines[LOTS];
 static char vertices[LOTS * 4], edges[ARCS * 8], claim[LOTS * 40];
 
 /* Digits behind the point of the shortest scientific form that reads back as x. */
@@ -38,7 +38,7 @@ static uint64_t judged(size_t n, size_t m, const char *format, int places) {
         strcat(claim, "\n");
     }
     uint64_t wide = trace_judge(n, m, GRAPH, TRACE_LCC, 0, BYTES(claim), AREA(result), AREA(claimed), AREA(first), AREA(second),
-                                AREA(third));
+                                AREA(third), AREA(lines));
     uint64_t narrow = trace_verdict(BYTES(vertices), BYTES(edges), BYTES(claim), TRACE_DIRECTED, TRACE_LCC, 0);
     if (TRACE_NUMBER(wide) != TRACE_VERDICT_NUMBER(narrow) || TRACE_LINE(wide) != TRACE_VERDICT_LINE(narrow)) {
         fprintf(stderr, "doubles: trace_judge says %" PRIu64 " and trace_verdict %" PRIu64 " of\n%s", wide, narrow, claim);

@@ -144,8 +144,8 @@ pub fn kernel(dice: &mut Dice, g: &Graph) -> (u64, i64) {
     (number, parameter)
 }
 
-/// A claim of the kernel's result: right, renamed, nearly right or wrong.
-pub fn claim(dice: &mut Dice, g: &Graph, number: u64, parameter: i64) -> Vec<u8> {
+/// The lines of a claim of the kernel's result, in vertex order: right, renamed, nearly right, or wrong in one or two places.
+pub fn claim_lines(dice: &mut Dice, g: &Graph, number: u64, parameter: i64) -> Vec<String> {
     let mut values: Vec<String> = match number {
         1 => kernels::bfs(g, parameter).unwrap_or_default().iter().map(i64::to_string).collect(),
         2 => {
@@ -155,11 +155,24 @@ pub fn claim(dice: &mut Dice, g: &Graph, number: u64, parameter: i64) -> Vec<u8>
         3 => kernels::cdlp(g, parameter).unwrap_or_default().iter().map(i64::to_string).collect(),
         _ => kernels::lcc(g).into_iter().map(|r| near(dice, r)).collect(),
     };
-    if !values.is_empty() && dice.one_in(3) {
-        let (i, j) = (dice.below(values.len()), dice.below(values.len()));
-        values[i] = if dice.one_in(2) { values[j].clone() } else { dice.below(9).to_string() };
+    for _ in 0..*dice.pick(&[0, 0, 0, 0, 1, 2]) {
+        if !values.is_empty() {
+            let (i, j) = (dice.below(values.len()), dice.below(values.len()));
+            values[i] = if dice.one_in(2) { values[j].clone() } else { dice.below(9).to_string() };
+        }
     }
-    g.ids.iter().zip(values).map(|(id, value)| format!("{} {}\n", id, value)).collect::<String>().into_bytes()
+    g.ids.iter().zip(values).map(|(id, value)| format!("{} {}\n", id, value)).collect()
+}
+
+/// Such a claim, its lines at times from the last to the first or in any order.
+pub fn claim(dice: &mut Dice, g: &Graph, number: u64, parameter: i64) -> Vec<u8> {
+    let mut lines = claim_lines(dice, g, number, parameter);
+    match dice.below(4) {
+        0 => lines.reverse(),
+        1 => dice.shuffle(&mut lines),
+        _ => (),
+    }
+    lines.concat().into_bytes()
 }
 
 /// A sheet of the two lists and some jobs.

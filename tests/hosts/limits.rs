@@ -23,6 +23,11 @@ fn claim(n: usize) -> Vec<u8> {
     (0..n).map(|i| format!("{} {}\n", i, i)).collect::<String>().into_bytes()
 }
 
+/// The lines of a claim from the last to the first.
+fn backwards(claim: &[u8]) -> Vec<u8> {
+    claim.split_inclusive(|&b| b == b'\n').rev().collect::<Vec<_>>().concat()
+}
+
 fn refused(reason: Reason, file: File, line: u64) -> Refusal {
     Refusal { reason, file, line }
 }
@@ -54,6 +59,21 @@ fn main() {
     for kernel in [Kernel::Bfs(0), Kernel::Wcc, Kernel::Cdlp(0), Kernel::Lcc] {
         assert_eq!(alone.judge(kernel, &line_more), Err(refused(Reason::TooMany, File::Claim, 65_537)));
         assert_eq!(alone.judge(kernel, &[&lines[..], b"x"].concat()), Err(refused(Reason::TooMany, File::Claim, 65_537)));
+    }
+
+    // the lines backwards: right, the smallest vertex at fault on the last line but one, and the last line missing, doubled or unknown
+    let turned = backwards(&lines);
+    let all_but_last = &turned[..turned.len() - "0 0\n".len()];
+    let one_label = (0..65_536).rev().map(|v| format!("{} 7\n", v)).collect::<String>();
+    assert_eq!(alone.judge(Kernel::Cdlp(0), &turned), Ok(Verdict::Match));
+    assert_eq!(alone.judge(Kernel::Bfs(0), &turned), Ok(Verdict::Mismatch(65_535)));
+    assert_eq!(alone.judge(Kernel::Lcc, &turned), Ok(Verdict::Mismatch(65_535)));
+    assert_eq!(alone.judge(Kernel::Wcc, one_label.as_bytes()), Ok(Verdict::Mismatch(65_535)));
+    for kernel in [Kernel::Bfs(0), Kernel::Wcc, Kernel::Cdlp(0), Kernel::Lcc] {
+        for last in ["", "65535 65535\n", "1 1\n", "65536 0\n", "-1 0\n"] {
+            assert_eq!(alone.judge(kernel, &[all_but_last, last.as_bytes()].concat()), Ok(Verdict::Incomplete(65_536)));
+        }
+        assert_eq!(alone.judge(kernel, &backwards(&line_more)), Err(refused(Reason::TooMany, File::Claim, 65_537)));
     }
 
     // a mode that is neither 0 nor 1: 12 before anything else, and all five areas are zero
@@ -97,6 +117,11 @@ fn main() {
     assert_eq!(verdict(Mode::Directed, &desk, &edges(1_024, 2_049), Kernel::Wcc, b""), Err(refused(Reason::TooMany, File::Edges, 2_049)));
     assert_eq!(verdict(Mode::Directed, &desk, b"", Kernel::Wcc, &claim(1_025)), Err(refused(Reason::TooMany, File::Claim, 1_025)));
     assert_eq!(verdict(Mode::Directed, &desk, b"", Kernel::Wcc, &claim(1_023)), Ok(Verdict::Incomplete(1_024)));
+    let turned = backwards(&claim(1_024));
+    let doubled = [&turned[.."1023 1023\n".len()], &turned[..turned.len() - "0 0\n".len()]].concat();
+    assert_eq!(verdict(Mode::Directed, &desk, b"", Kernel::Wcc, &turned), Ok(Verdict::Match));
+    assert_eq!(verdict(Mode::Directed, &desk, b"", Kernel::Wcc, &doubled), Ok(Verdict::Incomplete(2)));
+    assert_eq!(verdict(Mode::Directed, &desk, b"", Kernel::Wcc, &backwards(&doubled)), Ok(Verdict::Incomplete(1_024)));
 
     // four vertices, joins 0-1, 2-3, 1-3
     let mut four = Book::open(4).unwrap();

@@ -23,6 +23,8 @@ fn main() -> Result<(), Refusal> {
 
     let claim = b"101 1\n102 1\n103 1\n201 1\n202 1\n203 1\n301 1\n302 1\n303 1\n";
     println!("the claim that all hang together: {:?}", verdict(Mode::Directed, LOTS, TRANSFERS, Kernel::Wcc, claim)?);
+    let backwards = b"303 1\n302 1\n301 1\n203 1\n202 1\n201 1\n103 1\n102 1\n101 1\n";
+    println!("the same claim, written backwards: {:?}", graph.judge(Kernel::Wcc, backwards)?);
 
     let mut book = Book::open(4)?;
     for (u, v) in [(0, 1), (2, 3), (1, 3), (0, 2)] {

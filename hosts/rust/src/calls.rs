@@ -19,13 +19,14 @@ pub struct Lent<'a> {
     pub in_sources: &'a [usize],
 }
 
-/// The result and working areas of a verdict.
+/// The result and working areas of a verdict; `lines` is the record of each vertex's claim line.
 pub struct Areas<'a> {
     pub result: &'a mut [i64],
     pub claimed: &'a mut [i64],
     pub first: &'a mut [usize],
     pub second: &'a mut [usize],
     pub third: &'a mut [usize],
+    pub lines: &'a mut [usize],
 }
 
 #[link(name = "trace", kind = "static")]
@@ -165,6 +166,8 @@ extern "C" {
         second_len: usize,
         third: *mut usize,
         third_len: usize,
+        lines: *mut usize,
+        lines_len: usize,
     ) -> u64;
     fn trace_book_open(entries: *mut i64, entries_len: usize) -> u64;
     fn trace_book_join(entries: *mut i64, entries_len: usize, u: usize, v: usize) -> u64;
@@ -330,6 +333,8 @@ pub fn judge(g: &Lent<'_>, kernel: u64, parameter: i64, claim: &[u8], to: &mut A
             to.second.len(),
             to.third.as_mut_ptr(),
             to.third.len(),
+            to.lines.as_mut_ptr(),
+            to.lines.len(),
         )
     }
 }

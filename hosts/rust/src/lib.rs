@@ -99,7 +99,9 @@ impl fmt::Display for Refusal {
 
 impl std::error::Error for Refusal {}
 
-/// What the engine finds of a claim: it matches, is incomplete at a line, or is wrong at a line.
+/// What the engine finds of a claim: it matches; it is incomplete, at the first line that names an unknown or already named vertex, or,
+/// where only a line is missing, at the line after the last; or it is wrong, at the line of the smallest vertex at fault. Another order of
+/// the lines of a complete claim changes neither whether it matches nor which vertex is reported, only the line it is on.
 #[derive(Clone, Copy, Debug, PartialEq, Eq)]
 pub enum Verdict {
     Match,
@@ -176,7 +178,7 @@ impl Kernel {
     }
 }
 
-/// The verdict on a claim at desk limits, straight from the bytes of the two lists and the claim. A claim has a line per vertex, in vertex
+/// The verdict on a claim at desk limits, straight from the bytes of the two lists and the claim. A claim has a line per vertex, in any
 /// order: identifier, one space, value. For `Kernel::Lcc` the value is a plain or scientific decimal with at most 17 digits before any `e`,
 /// a leading `0` included; behind the `e` stand a sign and two digits.
 pub fn verdict(mode: Mode, vertices: &[u8], edges: &[u8], kernel: Kernel, claim: &[u8]) -> Result<Verdict, Refusal> {
@@ -289,8 +291,8 @@ impl Graph {
         Ok(numerators.into_iter().zip(denominators).collect())
     }
 
-    /// The verdict on a claim of this kernel's result, its lines as for `verdict`. For `Kernel::Wcc` it compares each line of a complete
-    /// claim with every earlier one.
+    /// The verdict on a claim of this kernel's result, its lines as for `verdict`. For `Kernel::Wcc` it compares each vertex of a complete
+    /// claim with every smaller one.
     pub fn judge(&self, kernel: Kernel, claim: &[u8]) -> Result<Verdict, Refusal> {
         let (number, parameter) = kernel.numbers();
         let mut areas = calls::Areas {
@@ -299,6 +301,7 @@ impl Graph {
             first: &mut self.area(),
             second: &mut self.area(),
             third: &mut self.area(),
+            lines: &mut self.area(),
         };
         judged(calls::judge(&self.lent(), number, parameter, claim, &mut areas))
     }

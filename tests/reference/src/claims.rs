@@ -5,6 +5,7 @@ use crate::lists::{self, Graph, Line};
 use crate::places::{self, Form};
 use crate::{kernels, plain, Limits, Refusal};
 use std::cmp::Ordering;
+use std::collections::BTreeMap;
 
 /// A plain or scientific decimal, exactly: digits · 10^up / 10^down.
 #[derive(Clone, Copy, Debug, PartialEq, Eq)]
@@ -93,27 +94,42 @@ fn read(claim: &[u8], coefficients: bool, most: usize) -> Result<Values, Refusal
     Ok(if coefficients { Values::Decimals(decimals) } else { Values::Numbers(numbers) })
 }
 
-/// The first line whose identifier isn't the graph's at that place, or the first missing or surplus line.
-fn incomplete(ids: &[i64], named: &[i64]) -> Option<usize> {
-    let places = ids.len().max(named.len());
-    (0..places).find(|&i| ids.get(i) != named.get(i)).map(|i| i + 1)
+/// The line of each vertex, where each vertex has exactly one; else the first line that names an unknown or already named vertex, or, if
+/// there is none, the line after the last. Lines count from 1.
+pub fn lines_of(ids: &[i64], named: &[i64]) -> Result<Vec<usize>, usize> {
+    let mut lines: BTreeMap<i64, Option<usize>> = ids.iter().map(|&id| (id, None)).collect();
+    for (i, id) in named.iter().enumerate() {
+        match lines.get_mut(id) {
+            Some(place) if place.is_none() => *place = Some(i + 1),
+            _ => return Err(i + 1),
+        }
+    }
+    ids.iter().map(|id| lines[id]).collect::<Option<Vec<usize>>>().ok_or(named.len() + 1)
 }
 
-/// The smallest line that disagrees in kind with some earlier line.
+/// The smallest vertex that disagrees in kind with a smaller one.
 pub fn first_unlike(components: &[i64], claimed: &[i64]) -> Option<usize> {
-    (0..claimed.len()).find(|&i| (0..i).any(|j| (components[i] == components[j]) != (claimed[i] == claimed[j]))).map(|i| i + 1)
+    (0..claimed.len()).find(|&v| (0..v).any(|u| (components[v] == components[u]) != (claimed[v] == claimed[u])))
 }
 
 fn first_other(results: &[i64], claimed: &[i64]) -> Option<usize> {
-    (0..claimed.len()).find(|&i| results[i] != claimed[i]).map(|i| i + 1)
+    (0..claimed.len()).find(|&v| results[v] != claimed[v])
 }
 
-fn settle(ids: &[i64], named: &[i64], mismatch: impl FnOnce() -> Option<usize>) -> Verdict {
-    if let Some(line) = incomplete(ids, named) {
-        return Verdict { number: 20, line };
-    }
-    match mismatch() {
-        Some(line) => Verdict { number: 21, line },
+fn first_far(exact: &[(u64, u64)], claimed: &[Decimal]) -> Option<usize> {
+    (0..claimed.len()).find(|&v| !close(exact[v].0, exact[v].1, claimed[v]))
+}
+
+/// The verdict on the lines of a claim; `at_fault` answers the smallest vertex at fault among the values of all vertices.
+fn settle<V: Copy>(ids: &[i64], claim: &[(i64, V)], at_fault: impl FnOnce(&[V]) -> Option<usize>) -> Verdict {
+    let named: Vec<i64> = claim.iter().map(|&(id, _)| id).collect();
+    let lines = match lines_of(ids, &named) {
+        Ok(lines) => lines,
+        Err(line) => return Verdict { number: 20, line },
+    };
+    let claimed: Vec<V> = lines.iter().map(|&line| claim[line - 1].1).collect();
+    match at_fault(&claimed) {
+        Some(v) => Verdict { number: 21, line: lines[v] },
         None => Verdict { number: 0, line: 0 },
     }
 }
@@ -127,17 +143,11 @@ pub fn verdict(g: &Graph, kernel: u64, parameter: i64, claim: &[u8], limits: Lim
         4 => Vec::new(),
         _ => return Err(plain(12)),
     };
-    match read(claim, kernel == 4, limits.claims)? {
-        Values::Numbers(lines) => {
-            let (named, claimed): (Vec<i64>, Vec<i64>) = lines.into_iter().unzip();
-            Ok(settle(&g.ids, &named, || if kernel == 2 { first_unlike(&results, &claimed) } else { first_other(&results, &claimed) }))
-        }
-        Values::Decimals(lines) => {
-            let (named, claimed): (Vec<i64>, Vec<Decimal>) = lines.into_iter().unzip();
-            let exact = kernels::lcc(g);
-            Ok(settle(&g.ids, &named, || (0..claimed.len()).find(|&i| !close(exact[i].0, exact[i].1, claimed[i])).map(|i| i + 1)))
-        }
-    }
+    Ok(match read(claim, kernel == 4, limits.claims)? {
+        Values::Numbers(lines) if kernel == 2 => settle(&g.ids, &lines, |claimed| first_unlike(&results, claimed)),
+        Values::Numbers(lines) => settle(&g.ids, &lines, |claimed| first_other(&results, claimed)),
+        Values::Decimals(lines) => settle(&g.ids, &lines, |claimed| first_far(&kernels::lcc(g), claimed)),
+    })
 }
 
 /// The host call's number: number × 1,000,000 + file × 100,000 + line, at desk limits.

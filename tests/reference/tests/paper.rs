@@ -3,7 +3,7 @@
 use reference::dice::Dice;
 use reference::groups::groups;
 use reference::places::{self, Form};
-use reference::{book::Book, claims, kernels, lists, plain, sheet, two_areas, Refusal, DESK};
+use reference::{at, book::Book, claims, kernels, lists, plain, sheet, two_areas, Refusal, DESK, LIBRARY};
 
 const SHEET: &str = "directed\n5\n-3\n2\n5\n9\n20\n5\n2 5\n2 9\n5 2\n5 9\n9 20\n4\nbfs 2\nwcc\ncdlp 2\nlcc\n";
 
@@ -55,7 +55,127 @@ fn seventeen_digits_k1() {
 #[test]
 fn labels_p11() {
     assert_eq!(claims::first_unlike(&[1, 1, 2], &[7, 7, 3]), None);
-    assert_eq!(claims::first_unlike(&[1, 1, 2], &[7, 7, 7]), Some(3));
+    assert_eq!(claims::first_unlike(&[1, 1, 2], &[7, 7, 7]), Some(2));
+    let said = |claim: &[u8]| claims::host_verdict(b"1\n2\n3\n", b"1 2\n", claim, 1, 2, 0);
+    assert_eq!((said(b"1 7\n2 7\n3 3\n"), said(b"1 7\n2 7\n3 7\n")), (300_000, 21_300_003));
+}
+
+/// The verdict on a claim about the sheet's graph: its number and its line. A bar stands for each line's end.
+fn judged(kernel: u64, parameter: i64, claim: &str) -> (u64, usize) {
+    let v = claims::verdict(&graph(), kernel, parameter, claim.replace('|', "\n").as_bytes(), DESK).unwrap();
+    (v.number, v.line)
+}
+
+/// Lines in any order, each vertex once.
+#[test]
+fn complete_claims_k7() {
+    let far = "-3 9223372036854775807|";
+    for depths in [format!("{}2 0|5 1|9 1|20 2|", far), format!("20 2|9 1|5 1|2 0|{}", far), format!("9 1|{}20 2|2 0|5 1|", far)] {
+        assert_eq!(judged(1, 2, &depths), (0, 0));
+    }
+    assert_eq!((judged(3, 2, "5 5|20 2|-3 -3|2 2|9 2|"), judged(4, 0, "9 0.3333|20 0|5 0.5|-3 0|2 0.5|")), ((0, 0), (0, 0)));
+    assert_eq!((judged(2, 0, "20 7|-3 8|9 7|5 7|2 7|"), judged(2, 0, "20 2|9 2|5 2|2 2|-3 -3|")), ((0, 0), (0, 0)));
+
+    // of several vertices at fault the smallest, on whatever line it stands
+    assert_eq!(judged(1, 2, "20 3|9 2|5 1|2 0|-3 9223372036854775807|"), (21, 2));
+    assert_eq!(judged(1, 2, "20 2|9 1|5 1|2 1|-3 0|"), (21, 5));
+    assert_eq!(judged(3, 2, "20 1|9 1|-3 1|5 1|2 1|"), (21, 3));
+    assert_eq!(judged(4, 0, "9 0.3332999|20 0|5 0.500051|-3 0|2 0.5|"), (21, 3));
+
+    // components -3 and 2 2 2 2: where 20 is split off, it disagrees with 2; where all are merged, 2 disagrees with -3
+    assert_eq!((judged(2, 0, "20 1|9 7|5 7|2 7|-3 8|"), judged(2, 0, "2 7|5 7|9 7|20 7|-3 7|")), ((21, 1), (21, 1)));
+    // 5 disagrees with 2, whose line comes last
+    assert_eq!(judged(2, 0, "20 1|9 1|5 1|-3 8|2 7|"), (21, 3));
+}
+
+#[test]
+fn incomplete_claims_k7() {
+    // one missing, and all
+    assert_eq!((judged(1, 2, "20 2|9 1|5 1|2 0|"), judged(4, 0, "")), ((20, 5), (20, 1)));
+    // a line twice, at once or at the end; with another line in place of a vertex's
+    assert_eq!((judged(3, 2, "5 5|5 5|20 2|-3 -3|2 2|9 2|"), judged(3, 2, "5 5|20 2|-3 -3|2 2|9 2|5 5|")), ((20, 2), (20, 6)));
+    assert_eq!((judged(3, 2, "5 5|20 2|5 4|2 2|9 2|"), judged(2, 0, "5 5|5 5|5 5|5 5|5 5|")), ((20, 3), (20, 2)));
+    // a vertex that is not there: surplus, or in place of a vertex's line, and before it a line twice or behind it
+    assert_eq!((judged(4, 0, "-3 0|2 0|5 0|9 0|20 0|21 0|"), judged(4, 0, "0 0|-3 0|2 0|5 0|9 0|20 0|")), ((20, 6), (20, 1)));
+    assert_eq!((judged(2, 0, "2 7|2 7|4 7|"), judged(2, 0, "2 7|4 7|2 7|"), judged(2, 0, "-4 1|")), ((20, 2), (20, 2), (20, 1)));
+    // an incomplete claim has no mismatch, and one that is refused is not incomplete
+    assert_eq!(judged(1, 2, "20 9|9 9|5 9|2 9|"), (20, 5));
+    let refusal = claims::verdict(&graph(), 1, 2, b"7 7\n7 7\n1  1\n", DESK).unwrap_err();
+    assert_eq!(refusal, Refusal { number: 2, file: 3, line: 3, column: 3 });
+    // an empty graph has the empty claim alone
+    assert_eq!((claims::host_verdict(b"", b"", b"", 1, 2, 0), claims::host_verdict(b"", b"", b"1 1\n", 1, 2, 0)), (300_000, 20_300_001));
+}
+
+/// The coverage rule, sentence by sentence, on lines that name vertices, some of them twice or unknown.
+#[test]
+fn coverage_k7() {
+    for seed in 0..20_000 {
+        let (mut dice, n) = (Dice::new(seed), seed as usize % 7);
+        let ids: Vec<i64> = (0..n as i64).collect();
+        let mut named = ids.clone();
+        dice.shuffle(&mut named);
+        named.truncate(n - dice.below(3).min(n));
+        for _ in 0..*dice.pick(&[0, 0, 1, 2]) {
+            named.insert(dice.below(named.len() + 1), dice.below(n + 2) as i64 - 1);
+        }
+        let at_fault = (0..named.len()).find(|&i| !ids.contains(&named[i]) || named[..i].contains(&named[i]));
+        let right = match at_fault {
+            Some(i) => Err(i + 1),
+            None if ids.iter().all(|id| named.contains(id)) => Ok(()),
+            None => Err(named.len() + 1),
+        };
+        let lines = claims::lines_of(&ids, &named);
+        assert_eq!(lines.as_ref().map(|_| ()).map_err(|&line| line), right, "{:?}", named);
+        assert!(lines.map_or(true, |lines| lines.iter().zip(&ids).all(|(&line, &id)| named[line - 1] == id)));
+    }
+}
+
+/// Another order of a complete claim: the same verdict, of the same vertex.
+#[test]
+fn another_order_k7() {
+    let g = graph();
+    for seed in 0..8_000 {
+        let (mut dice, kernel) = (Dice::new(seed), 1 + seed % 4);
+        let value =
+            |dice: &mut Dice| if kernel == 4 { *dice.pick(&["0", "0.5", "0.3333"]) } else { *dice.pick(&["-3", "0", "1", "2", "5"]) };
+        let right = [
+            ["9223372036854775807", "0", "1", "1", "2"],
+            ["1", "2", "2", "2", "2"],
+            ["-3", "2", "5", "2", "2"],
+            ["0", "0.5", "0.5", "0.3333", "0"],
+        ];
+        let wrong = *dice.pick(&[0, 1, 2, 5]);
+        let mut values = right[kernel as usize - 1];
+        (0..wrong).for_each(|_| values[dice.below(5)] = value(&mut dice));
+        let mut lines: Vec<String> = g.ids.iter().zip(values).map(|(id, value)| format!("{} {}\n", id, value)).collect();
+        let judged = |lines: &[String]| claims::verdict(&g, kernel, 2, lines.concat().as_bytes(), DESK).unwrap();
+        let before = judged(&lines);
+        let vertex = lines.get(before.line.wrapping_sub(1)).cloned();
+        dice.shuffle(&mut lines);
+        let now = judged(&lines);
+        assert_eq!((now.number, lines.get(now.line.wrapping_sub(1)).cloned()), (before.number, vertex), "{:?}", lines);
+        assert!(now.number != 20 && (now.number == 0) == (now.line == 0));
+    }
+}
+
+/// As many lines as the library takes, backwards: right, with the smallest vertex wrong, with the largest one missing, and one too many.
+#[test]
+fn many_lines_k7() {
+    let vertices = (0..65_536).map(|v| format!("{}\n", v)).collect::<String>();
+    let g = lists::load(1, vertices.as_bytes(), b"", LIBRARY, lists::ROOM_ENOUGH).unwrap();
+    for kernel in [1, 3, 4] {
+        let value = |v: usize| match kernel {
+            1 if v > 0 => kernels::UNREACHABLE,
+            3 => v as i64,
+            _ => 0,
+        };
+        let claim = |to: usize, wrong: usize| -> String {
+            (0..to).rev().map(|v| format!("{} {}\n", v, if v == wrong { 7 } else { value(v) })).collect()
+        };
+        let judged = |claim: String| claims::verdict(&g, kernel, 0, claim.as_bytes(), LIBRARY).map(|v| (v.number, v.line));
+        assert_eq!((judged(claim(65_536, 65_536)), judged(claim(65_536, 0))), (Ok((0, 0)), Ok((21, 65_536))));
+        assert_eq!((judged(claim(65_535, 0)), judged(claim(65_537, 0))), (Ok((20, 65_536)), Err(at(1, 3, 65_537))));
+    }
 }
 
 #[test]
