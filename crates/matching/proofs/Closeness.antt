@@ -1,65 +1,131 @@
--- Laws of closeness: the distance as a window, its powers of ten cancelled, and the long division that compares. Assumes nothing.
-use mathlib.Core.Path.{_≡_, refl, sym, ap, ap₂, _∙_}
+-- Laws of closeness: a product without its last digits, the distance as a window, and its powers of ten cancelled. Assumes nothing.
+use mathlib.Core.Path.{_≡_, refl, sym, ap, ap₂, _∙_, subst}
 use mathlib.Core.Bool.{Bool, true, false, cond, _&&_}
 use Prim.Native.Nat.{ℕ, zero, suc, _+_, _-_, _*_, _/_, _%_, _^_, _≤_, _<_, min}
 use native.Mathlib.Nat.{mul-le-mul-left, mul-le-mul-right, le-of-mul-le-mul-right, pow-succ', pow-le-pow-right, one-le-pow, div-add-mod'}
-use native.Mathlib.Nat.{lt-of-not-le, not-le-of-lt, le-mul-of-pos-right, min-eq-left, min-eq-right, mul-one, mul-pos, pos-of-ne-zero}
+use native.Mathlib.Nat.{mod-lt, lt-of-not-le, not-le-of-lt, le-mul-of-pos-right, min-eq-left, min-eq-right, mul-one, mul-pos, pos-of-ne-zero}
 use native.Mathlib.Numerals.{add-one}
 use native.Mathlib.Omega.{arith}
 use lib.Pow.{pow-add}
-use lib.Dec.{leb, ltb, eqb, eqb·suc-zero}
-use borrow.Author.Tests.{leb-true, leb-false, le-leb, lt-leb, lt-ltb, le-ltb, eq-eqb, ne-eqb, ltb-true, ltb-false}
+use lib.Dec.{leb, eqb, eqb·suc-zero}
+use borrow.Author.Tests.{leb-true, leb-false, le-leb, lt-leb, eqb-true, eqb-false, ne-eqb}
+use Rattle.basis.proofs.Tests.{bool-cases, and-off, and-swap}
 use Rattle.text.specs.Decimal.{decimal}
 use Rattle.text.specs.declared.decimal.Decimal.{Decimal}
-use Rattle.matching.specs.declared.close.Order.{Order}
-use Rattle.matching.specs.declared.close.Order.the-variants.{Less, Equal, Greater}
 use Rattle.matching.specs.Close.{distance, isClose}
-use Rattle.matching.specs.Steps.{orderOf, isLess, isGreater}
 
--- ---- the order of two numbers, from a fact and back
-pub order-less : {x y : ℕ} → x < y → orderOf x y ≡ Less
-unfolding orderOf
-order-less {x} {y} h = rw (lt-ltb x y h)
+-- ---- a product whose last j digits are dropped: rest and part are what is left of it, and `exact` says that they were zeros
+pub record Dropped (n d rest part : ℕ) (exact : Bool) (j : ℕ) : Type 0 where
+  pub dropped : ℕ
+  pub whole : d * n ≡ (rest * n + part) * 10 ^ j + dropped
+  pub small : dropped < 10 ^ j
+  pub told : exact ≡ eqb dropped 0
+  pub below : part < n
 
-pub order-equal : {x y : ℕ} → x ≡ y → orderOf x y ≡ Equal
-unfolding orderOf
-order-equal {x} {y} h = rw (le-ltb x y (omega arith)) (rw (eq-eqb x y h))
+pub dropped-none : (n d : ℕ) → 0 < n → Dropped n d d 0 true 0
+dropped-none n d h = record { dropped = 0; whole = omega arith; small = omega arith; told = refl; below = h }
 
-pub order-greater : {x y : ℕ} → y < x → orderOf x y ≡ Greater
-unfolding orderOf
-order-greater {x} {y} h = rw (le-ltb x y (omega arith)) (rw (ne-eqb x y (λ e. omega arith)))
+pub digit-within : (n rest : ℕ) → rest % 10 * n ≤ 9 * n
+digit-within n rest = let ten : 0 < 10 = omega arith in mul-le-mul-right n (let l = mod-lt rest ten in omega arith)
 
-order-is-less : (x y : ℕ) → isLess (orderOf x y) ≡ ltb x y
-unfolding orderOf
-order-is-less x y = go (ltb x y) (eqb x y)
+pub dropped-next : {n d rest part : ℕ} {exact : Bool} {j : ℕ} → Dropped n d rest part exact j
+    → {e : Bool} → e ≡ (exact && eqb ((part + rest % 10 * n) % 10) 0)
+    → Dropped n d (rest / 10) ((part + rest % 10 * n) / 10) e (j + 1)
+dropped-next {n} {d} {rest} {part} {exact} {j} h {e} q =
+    record {
+      dropped = v * 10 ^ j + h .dropped;
+      whole = rw (add-one, pow-succ' 10 j) (h .whole ∙ ap (λ (x : ℕ). x * 10 ^ j + h .dropped) left ∙ omega arith);
+      small = rw (add-one, pow-succ' 10 j) (let m : v * 10 ^ j ≤ 9 * 10 ^ j = mul-le-mul-right (10 ^ j) (omega (arith, last)) in
+          omega (arith, h .small));
+      told = q ∙ told (eqb v 0) refl;
+      below = omega (arith, digit-within n rest, h .below, div-add-mod' sum 10);
+    }
   where
-    go : (p q : Bool) → isLess (cond p Less (cond q Equal Greater)) ≡ p
-    go true q = refl
-    go false true = refl
-    go false false = refl
+    ten : 0 < 10
+    ten = omega arith
 
-order-is-greater : (x y : ℕ) → isGreater (orderOf x y) ≡ ltb y x
-order-is-greater x y = go (ltb y x) (ltb x y) refl refl
-  where
-    go : (p q : Bool) → ltb y x ≡ p → ltb x y ≡ q → isGreater (orderOf x y) ≡ p
-    go true q e f = ap isGreater (order-greater (ltb-true y x e))
-    go false true e f = ap isGreater (order-less (ltb-true x y f))
-    go false false e f = ap isGreater (order-equal (omega (arith, ltb-false y x e, ltb-false x y f)))
+    sum : ℕ
+    sum = part + rest % 10 * n
 
--- ---- long division: one digit more, what a quotient says, and how it ends
-pub next-digit : (y n q r j : ℕ) → y * 10 ^ j ≡ q * n + r → y * 10 ^ (j + 1) ≡ (q * 10 + r * 10 / n) * n + r * 10 % n
-next-digit y n q r j e = rw (add-one, pow-succ') (omega (arith, div-add-mod' (r * 10) n))
+    v : ℕ
+    v = sum % 10
 
-pub above : (y n d q r j k : ℕ) → 0 < n → y * 10 ^ j ≡ q * n + r → d < q → j ≤ k → orderOf (y * 10 ^ k) (d * n) ≡ Greater
-above y n d q r j k p e h l =
-    let m : suc d * n ≤ q * n = mul-le-mul-right n h in
-    let g : y * 10 ^ j ≤ y * 10 ^ k = mul-le-mul-left y (pow-le-pow-right (omega arith) l) in
-    order-greater (omega arith)
+    last : v < 10
+    last = mod-lt sum ten
 
-pub below : (y n d q r k : ℕ) → r < n → y * 10 ^ k ≡ q * n + r → q < d → orderOf (y * 10 ^ k) (d * n) ≡ Less
-below y n d q r k p e h =
-    let m : suc q * n ≤ d * n = mul-le-mul-right n h in
-    order-less (omega arith)
+    left : rest * n + part ≡ (rest / 10 * n + sum / 10) * 10 + v
+    left =
+        let f : rest * n ≡ (rest / 10 * 10 + rest % 10) * n = ap (λ (x : ℕ). x * n) (sym (div-add-mod' rest 10)) in
+        omega (arith, div-add-mod' sum 10)
+
+    told : (t : Bool) → eqb v 0 ≡ t → (exact && t) ≡ eqb (v * 10 ^ j + h .dropped) 0
+    told true t =
+        let z : v * 10 ^ j + h .dropped ≡ h .dropped = rw (eqb-true v 0 t) (omega arith) in
+        rw z (and-swap exact true ∙ h .told)
+    told false t =
+        let z : 0 < v * 10 ^ j = mul-pos (pos-of-ne-zero (eqb-false v 0 t)) (one-le-pow j 10 (omega arith)) in
+        and-off exact false refl ∙ sym (ne-eqb (v * 10 ^ j + h .dropped) 0 (λ y. omega arith))
+
+-- all of k digits
+pub dropped-all : {n d rest part : ℕ} {exact : Bool} {j k : ℕ} → (j ≤ k) × Dropped n d rest part exact j → k ≤ j → Dropped n d rest part exact k
+dropped-all {n} {d} {rest} {part} {exact} {j} {k} h l =
+    let e : j ≡ k = omega (arith, h .0) in subst (Dropped n d rest part exact) e (h .1)
+
+-- what is left of it goes by the bounds of what the whole product was
+pub left-within : (n rest high : ℕ) → 0 < n → rest ≤ high / n → rest * n ≤ high
+left-within n rest high p l =
+    let m : rest * n ≤ high / n * n = mul-le-mul-right n l in omega (arith, div-add-mod' high n)
+
+-- what is left, x, against a bound, in place of the whole product
+module _ {n d rest part : ℕ} {exact : Bool} {k : ℕ} (h : Dropped n d rest part exact k) (low high : ℕ) where
+  abbrev Enclosed : Bool
+  Enclosed = leb (low * 10 ^ k) (d * n) && leb (d * n) (high * 10 ^ k)
+
+  above : {b : ℕ} → b < rest * n + part → b * 10 ^ k < d * n
+  above {b} l =
+      let m : suc b * 10 ^ k ≤ (rest * n + part) * 10 ^ k = mul-le-mul-right (10 ^ k) l in
+      omega (arith, h .whole, h .small)
+
+  under : {b : ℕ} → rest * n + part < b → d * n < b * 10 ^ k
+  under {b} l =
+      let m : suc (rest * n + part) * 10 ^ k ≤ b * 10 ^ k = mul-le-mul-right (10 ^ k) l in
+      omega (arith, h .whole, h .small)
+
+  from : {b : ℕ} → b ≤ rest * n + part → b * 10 ^ k ≤ d * n
+  from {b} l =
+      let m : b * 10 ^ k ≤ (rest * n + part) * 10 ^ k = mul-le-mul-right (10 ^ k) l in
+      omega (arith, h .whole)
+
+  pub enclosed-high : high < rest * n + part → false ≡ Enclosed
+  enclosed-high l = sym (and-off (leb (low * 10 ^ k) (d * n)) _ (lt-leb (d * n) (high * 10 ^ k) (above l)))
+
+  pub enclosed-over : 0 < n → high / n < rest → false ≡ Enclosed
+  enclosed-over p l =
+      let m : suc (high / n) * n ≤ rest * n = mul-le-mul-right n l in
+      enclosed-high (omega (arith, div-add-mod' high n, mod-lt high p))
+
+  pub enclosed-low : rest * n + part < low → false ≡ Enclosed
+  enclosed-low l = rw (lt-leb (low * 10 ^ k) (d * n) (under l))
+
+  module _ (l : low ≤ rest * n + part) where
+    pub enclosed-inside : rest * n + part < high → true ≡ Enclosed
+    enclosed-inside m = rw (le-leb (low * 10 ^ k) (d * n) (from l), le-leb (d * n) (high * 10 ^ k) (omega (arith, under m)))
+
+    pub enclosed-edge : rest * n + part ≤ high → high ≤ rest * n + part → exact ≡ Enclosed
+    enclosed-edge f g =
+        let e : high ≡ rest * n + part = omega arith in
+        rw (le-leb (low * 10 ^ k) (d * n) (from l))
+        (h .told
+        ∙ bool-cases (eqb (h .dropped) 0) (eqb (h .dropped) 0 ≡ leb (d * n) (high * 10 ^ k))
+        (λ t. t ∙ sym (le-leb (d * n) (high * 10 ^ k) (rw e (omega (arith, h .whole, eqb-true (h .dropped) 0 t)))))
+        (λ t. t ∙ sym (lt-leb (d * n) (high * 10 ^ k) (rw e (omega (arith, h .whole, eqb-false (h .dropped) 0 t))))))
+
+-- ---- one digit dropped
+pub still-not : (exact : Bool) (v : ℕ) → (v ≡ 0 → ⊥) → false ≡ (exact && eqb v 0)
+still-not exact v h = sym (and-off exact _ (ne-eqb v 0 h))
+
+pub still-yes : (exact : Bool) (v : ℕ) → v ≡ 0 → exact ≡ (exact && eqb v 0)
+still-yes exact v h = rw h (and-swap true exact)
 
 -- ---- the distance as a window
 same-test : {a b c d : ℕ} → (a ≤ b → c ≤ d) → (c ≤ d → a ≤ b) → leb a b ≡ leb c d
@@ -177,16 +243,3 @@ cap-next x m e = omega arith
 
 pub ten-more : (d j : ℕ) → d * 10 ^ j * 10 ≡ d * 10 ^ (j + 1)
 ten-more d j = rw (add-one, pow-succ' 10 j) (omega arith)
-
--- ---- from a call's results to the numbers
-pub greater-yes : (x y : ℕ) {o : Order} {r : Bool} → o ≡ orderOf x y → r ≡ isGreater o → r ≡ true → y < x
-greater-yes x y p q e = ltb-true y x (cc (order-is-greater x y))
-
-pub greater-no : (x y : ℕ) {o : Order} {r : Bool} → o ≡ orderOf x y → r ≡ isGreater o → r ≡ false → x ≤ y
-greater-no x y p q e = ltb-false y x (cc (order-is-greater x y))
-
-pub less-yes : (x y : ℕ) {o : Order} {r : Bool} → o ≡ orderOf x y → r ≡ isLess o → r ≡ true → x < y
-less-yes x y p q e = ltb-true x y (cc (order-is-less x y))
-
-pub less-no : (x y : ℕ) {o : Order} {r : Bool} → o ≡ orderOf x y → r ≡ isLess o → r ≡ false → y ≤ x
-less-no x y p q e = ltb-false x y (cc (order-is-less x y))

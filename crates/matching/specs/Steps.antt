@@ -1,18 +1,16 @@
--- What private functions say of their work: the order of two products, the lines of a claim one by one.
+-- What private functions say of their work: the lines of a claim one by one.
 use Prim.Native.Nat.{ℕ, zero, suc, _+_, _<_, min}
 use mathlib.Core.Path.{_≡_}
-use mathlib.Core.Bool.{Bool, true, false, not, cond}
+use mathlib.Core.Bool.{Bool, not, cond}
 use mathlib.Core.List.{List}
 use lib.IntN.{ℤ, pos}
 use lib.ListN.{length, getD, take, set}
-use lib.Dec.{ltb, eqb}
+use lib.Dec.{eqb}
 use Rattle.basis.specs.Refusal.{Said, gives, refuses}
 use Rattle.basis.specs.Scan.{every, orElse}
 use Rattle.graph.specs.declared.find.Found.{Found}
 use Rattle.graph.specs.declared.find.Found.the-variants.{At, Missing}
 use Rattle.graph.specs.Find.{bisected}
-use Rattle.matching.specs.declared.close.Order.{Order}
-use Rattle.matching.specs.declared.close.Order.the-variants.{Less, Equal, Greater}
 use Rattle.matching.specs.declared.reading.Read.{Read}
 use Rattle.matching.specs.declared.reading.Read.the-variants.{Lines, Fault}
 use Rattle.matching.specs.declared.numbers.Rule.{Rule}
@@ -21,22 +19,6 @@ use Rattle.matching.specs.Calls.{nearWithin, fractionIn, coefficientsJud
 use Rattle.matching.specs.Claim.{numberLines, idsOf}
 use Rattle.matching.specs.Cover.{lineOf, incompleteLine, inOrder}
 use Rattle.matching.specs.Verdict.{Verdict, mismatchVertex, verdictOf}
-
--- how x stands to y
-unfoldable pub orderOf : ℕ → ℕ → Order
-orderOf x y = cond (ltb x y) Less (cond (eqb x y) Equal Greater)
-
--- an order is that of a smaller number to a larger
-abbrev pub isLess : Order → Bool
-isLess Less = true
-isLess Equal = false
-isLess Greater = false
-
--- an order is that of a larger number to a smaller
-abbrev pub isGreater : Order → Bool
-isGreater Less = false
-isGreater Equal = false
-isGreater Greater = true
 
 -- what is found is a vertex that the record of claim lines has no line for, or is missing
 abbrev pub newIn : List ℕ → Found → Found

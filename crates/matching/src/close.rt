@@ -1,17 +1,10 @@
-// Whether a decimal is within a ten-thousandth of an exact fraction: long division, no rounding, nothing above 64 bits.
+// Whether a decimal is within a ten-thousandth of an exact fraction: digit by digit, no rounding, nothing above 64 bits.
 use text::decimal::Decimal;
 ghost use mathlib.Core.Path.{_≡_};
 ghost use mathlib.Core.Bool.{_&&_};
 ghost use Prim.Native.Nat.{_*_, _^_, _<_, min};
-ghost use lib.Dec.{leb};
+ghost use lib.Dec.{leb, eqb};
 ghost use Rattle.matching.specs.Close.{isClose};
-ghost use Rattle.matching.specs.Steps.{orderOf, isLess, isGreater};
-
-enum Order {
-    Less,
-    Equal,
-    Greater,
-}
 
 // Above every a * 10001, so that a larger number need not be told apart.
 const CAP: u64 = 1_000_000_000_000_000_000;
@@ -35,71 +28,47 @@ fn scaled_up(d: u64, k: u64) -> u64
     m
 }
 
-// y * 10^k against d * n, by long division of y by n: quo and rem are those of y * 10^j.
-fn order_scaled(y: u64, n: u64, d: u64, k: u64) -> Order
-    requires { ⌜ (0 < n) × (n < 2 ^ 50) ⌝ }
-    ensures { λ r. ⌜ r ≡ orderOf (y * 10 ^ k) (d * n) ⌝ }
+// Nothing but zeros is dropped still, once this digit is.
+fn still_exact(exact: bool, dropped: u64) -> bool
+    ensures { λ r. ⌜ r ≡ (exact && eqb dropped 0) ⌝ }
 {
-    let mut quo = y / n;
-    let mut rem = y % n;
-    let mut j: u64 = 0;
-    while j < k {
-        if d / 10 < quo {
-            return Order::Greater;
-        }
-        let next = quo * 10;
-        let digit = rem * 10 / n;
-        if d - next < digit {
-            return Order::Greater;
-        }
-        quo = next + digit;
-        rem = rem * 10 % n;
-        j += 1;
+    if dropped != 0 {
+        return false;
     }
-    if d < quo {
-        return Order::Greater;
-    }
-    if quo < d {
-        return Order::Less;
-    }
-    if rem == 0 {
-        return Order::Equal;
-    }
-    Order::Greater
+    exact
 }
 
-fn is_less(o: Order) -> bool
-    ensures { λ r. ⌜ r ≡ isLess o ⌝ }
-{
-    match o {
-        Order::Less => true,
-        Order::Equal => false,
-        Order::Greater => false,
-    }
-}
-
-fn is_greater(o: Order) -> bool
-    ensures { λ r. ⌜ r ≡ isGreater o ⌝ }
-{
-    match o {
-        Order::Less => false,
-        Order::Equal => false,
-        Order::Greater => true,
-    }
-}
-
-// Whether d * n is from low * 10^k to high * 10^k.
+// Whether d * n is from low * 10^k to high * 10^k. Its last k digits are dropped one by one: (rest * n + part) * 10^j is d * n without what
+// was dropped.
 fn enclosed(low: u64, high: u64, n: u64, d: u64, k: u64) -> bool
-    requires { ⌜ (0 < n) × (n < 2 ^ 50) ⌝ }
+    requires { ⌜ (0 < n) × (n < 2 ^ 50) × (high < 2 ^ 50) ⌝ }
     ensures { λ r. ⌜ r ≡ (leb (low * 10 ^ k) (d * n) && leb (d * n) (high * 10 ^ k)) ⌝ }
 {
-    if is_greater(order_scaled(low, n, d, k)) {
+    let mut rest = d;
+    let mut part: u64 = 0;
+    let mut exact = true;
+    let mut j: u64 = 0;
+    while j < k {
+        let sum = part + rest % 10 * n;
+        exact = still_exact(exact, sum % 10);
+        part = sum / 10;
+        rest = rest / 10;
+        j += 1;
+    }
+    if high / n < rest {
         return false;
     }
-    if is_less(order_scaled(high, n, d, k)) {
+    let product = rest * n + part;
+    if product < low {
         return false;
     }
-    true
+    if high < product {
+        return false;
+    }
+    if product < high {
+        return true;
+    }
+    exact
 }
 
 // Whether the decimal s is within a ten-thousandth of a / b. A coefficient's terms are below 65,536 squared, so they are u32.

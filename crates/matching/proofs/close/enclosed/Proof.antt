@@ -1,57 +1,94 @@
+use native.Mathlib.Omega.{arith}
 use borrow.Author.Needs.{needs}
-use borrow.Author.Tests.{lt-leb, le-leb}
-use Prim.Native.Nat.{_*_, _^_, _≤_, _<_}
-use Rattle.matching.proofs.Closeness.{greater-yes, greater-no, less-yes, less-no}
+use Prim.Native.Nat.{_-_, _≤_}
+use Rattle.matching.proofs.Closeness.{Dropped, dropped-none, dropped-next, enclosed-high, enclosed-over, enclosed-low}
+use Rattle.matching.proofs.Closeness.{enclosed-inside, enclosed-edge, dropped-all, left-within, digit-within}
 use Rattle.matching.proofs.close.enclosed.Statement.{statement}
 use Rattle.matching.proofs.close.enclosed.Tie as tie
+use Rattle.matching.proofs.close.enclosed.Reads as reads
+use Rattle.matching.proofs.close.enclosed.Lts as lts
+use Rattle.matching.proofs.close.still_exact.Reads as still-exact-reads
 
-order-scaled-requires : tie.Need-order-scaled-requires
-order-scaled-requires c κs = search needs
+abbrev Inv-loop : tie.InvT-loop
+Inv-loop low high n d k rest₀ part₀ exact₀ j₀ rest part exact j =
+    (j ≤ k) × Dropped n d rest part exact j
 
-is-greater-requires : tie.Need-is-greater-requires
-is-greater-requires c κs = search needs
+abbrev μ-loop : tie.MeasureT-loop
+μ-loop low high n d k rest₀ part₀ exact₀ j₀ rest part exact j = k - j
 
-returns : tie.Need-returns
-returns c =
-    let a = c .before .before .before .args in
-    let h : a .d * a .n < a .low * 10 ^ a .k = greater-yes (a .low * 10 ^ a .k) (a .d * a .n) (c .before .before .order-scaled .ensures)
-    (c .before .is-greater .ensures) (c .if1 .taken) in
-    simp (lt-leb _ _ h)
+loop-holds : tie.Need-loop-holds Inv-loop μ-loop
+loop-holds c = (search needs, search dropped-none)
 
-order-scaled-requires-2 : tie.Need-order-scaled-requires-2
-order-scaled-requires-2 c κs = search needs
+mul-sum : tie.Need-mul-sum Inv-loop μ-loop
+mul-sum c = omega (arith, digit-within (c .before .before .args .n) (c .before .loop .rest), c .before .before .pre .1)
 
-is-less-requires : tie.Need-is-less-requires
-is-less-requires c κs = search needs
+add-sum : tie.Need-add-sum Inv-loop μ-loop
+add-sum c = omega (arith, digit-within (c .before .before .args .n) (c .before .loop .rest), c .before .loop .inv .1 .below, c .before .before .pre .1)
 
-returns-2 : tie.Need-returns-2
-returns-2 c =
-    let a = c .before .before .before .before .before .before .args in
-    let g : a .low * 10 ^ a .k ≤ a .d * a .n = greater-no (a .low * 10 ^ a .k) (a .d * a .n)
-    (c .before .before .before .before .before .order-scaled .ensures) (c .before .before .before .before .is-greater .ensures)
-    (c .before .before .before .if1 .left) in
-    let h : a .high * 10 ^ a .k < a .d * a .n = less-yes (a .high * 10 ^ a .k) (a .d * a .n) (c .before .before .order-scaled2 .ensures)
-    (c .before .is-less .ensures) (c .if2 .taken) in
-    simp (le-leb _ _ g, lt-leb _ _ h)
+still-exact-requires : tie.Need-still-exact-requires Inv-loop μ-loop
+still-exact-requires c κs = search needs
 
-returns-3 : tie.Need-returns-3
-returns-3 c =
-    let a = c .before .before .before .before .before .before .args in
-    let g : a .low * 10 ^ a .k ≤ a .d * a .n = greater-no (a .low * 10 ^ a .k) (a .d * a .n)
-    (c .before .before .before .before .before .order-scaled .ensures) (c .before .before .before .before .is-greater .ensures)
-    (c .before .before .before .if1 .left) in
-    let h : a .d * a .n ≤ a .high * 10 ^ a .k = less-no (a .high * 10 ^ a .k) (a .d * a .n) (c .before .before .order-scaled2 .ensures)
-    (c .before .is-less .ensures) (c .if2 .left) in
-    simp (le-leb _ _ g, le-leb _ _ h)
+add-j : tie.Need-add-j Inv-loop μ-loop
+add-j c = search needs
+
+loop-less : tie.Need-loop-less Inv-loop μ-loop
+loop-less c = search needs
+
+loop-again : tie.Need-loop-again Inv-loop μ-loop
+loop-again c = (search needs, search dropped-next)
+
+div-if1 : tie.Need-div-if1 Inv-loop μ-loop
+div-if1 c = search needs
+
+returns : tie.Need-returns Inv-loop μ-loop
+returns c = enclosed-over (dropped-all (c .before .before .loop .inv) (c .before .loop-test .left)) _ _ (c .before .before .before .pre .0) (c .if1 .taken)
+
+mul-product : tie.Need-mul-product Inv-loop μ-loop
+mul-product c =
+    omega (arith, left-within (c .before .before .before .args .n) (c .before .before .loop .rest) (c .before .before .before .args .high) (c .before .before .before .pre .0) (c .if1 .left), c .before .before .before .pre .2)
+
+add-product : tie.Need-add-product Inv-loop μ-loop
+add-product c =
+    omega (
+      arith,
+      left-within (c .before .before .before .args .n) (c .before .before .loop .rest) (c .before .before .before .args .high) (c .before .before .before .pre .0) (c .if1 .left),
+      c .before .before .loop .inv .1 .below,
+      c .before .before .before .pre .1,
+      c .before .before .before .pre .2,
+    )
+
+returns-2 : tie.Need-returns-2 Inv-loop μ-loop
+returns-2 c = enclosed-low (dropped-all (c .before .before .before .loop .inv) (c .before .before .loop-test .left)) _ _ (c .if2 .taken)
+
+returns-3 : tie.Need-returns-3 Inv-loop μ-loop
+returns-3 c = enclosed-high (dropped-all (c .before .before .before .before .loop .inv) (c .before .before .before .loop-test .left)) _ _ (c .if3 .taken)
+
+returns-4 : tie.Need-returns-4 Inv-loop μ-loop
+returns-4 c =
+    enclosed-inside (dropped-all (c .before .before .before .before .before .loop .inv) (c .before .before .before .before .loop-test .left)) _ _ (c .before .before .if2 .left) (c .if4 .taken)
+
+returns-5 : tie.Need-returns-5 Inv-loop μ-loop
+returns-5 c =
+    enclosed-edge (dropped-all (c .before .before .before .before .before .loop .inv) (c .before .before .before .before .loop-test .left)) _ _ (c .before .before .if2 .left) (c .before .if3 .left) (c .if4 .left)
 
 pub enclosed-spec : {M : Type 1} → statement M
 enclosed-spec =
     tie.close
     (tie.spec
-    order-scaled-requires
-    is-greater-requires
+    Inv-loop
+    μ-loop
+    loop-holds
+    mul-sum
+    add-sum
+    still-exact-requires
+    add-j
+    loop-less
+    loop-again
+    div-if1
     returns
-    order-scaled-requires-2
-    is-less-requires
+    mul-product
+    add-product
     returns-2
-    returns-3)
+    returns-3
+    returns-4
+    returns-5)
