@@ -42,7 +42,8 @@ unfolding column every each mem within digitOf pastPoint wholeIsGood signedPower
     wccCall times mostTimes standing mostCommon smallest smallestOr nextLabel around labelsAt nextAt oneRound rounds cdlpOf goodRounds
     cdlp-roomFor cdlp-leftBy cdlpCall commonCount euclid gcdOf lowest those neighbours arcsFrom coefficientAmong numerator denominator
     lcc-roomFor
-    lcc-leftBy lccCall isClose bisect lineFrom namesNew strayLine incompleteLine valueOf firstPlace sameKind agrees failingPlace unlikeVertex
+    lcc-leftBy lccCall isClose bisect lineFrom namesNew strayLine incompleteLine valueOf firstPlace sameKind agrees failingPlace
+    unlikeVertex
     judgedBy numbersCall nearWithin coefficientsCall walk
     walkFrom
     above mergeable mergeHeads linkHeads headsOf decide openBook writeBook joinBook groupCount tally nextHere sizeHere one after run

@@ -3,7 +3,8 @@ use mathlib.Core.Path.{_≡_, refl, sym, ap, ap₂, _∙_, subst}
 use mathlib.Core.Bool.{Bool, true, false, cond, _&&_}
 use Prim.Native.Nat.{ℕ, zero, suc, _+_, _-_, _*_, _/_, _%_, _^_, _≤_, _<_, min}
 use native.Mathlib.Nat.{mul-le-mul-left, mul-le-mul-right, le-of-mul-le-mul-right, pow-succ', pow-le-pow-right, one-le-pow, div-add-mod'}
-use native.Mathlib.Nat.{mod-lt, lt-of-not-le, not-le-of-lt, le-mul-of-pos-right, min-eq-left, min-eq-right, mul-one, mul-pos, pos-of-ne-zero}
+use native.Mathlib.Nat.{mod-lt, lt-of-not-le, not-le-of-lt, le-mul-of-pos-right, min-eq-left, min-eq-right, mul-one, mul-pos}
+use native.Mathlib.Nat.{pos-of-ne-zero}
 use native.Mathlib.Numerals.{add-one}
 use native.Mathlib.Omega.{arith}
 use lib.Pow.{pow-add}
@@ -67,7 +68,8 @@ dropped-next {n} {d} {rest} {part} {exact} {j} h {e} q =
         and-off exact false refl ∙ sym (ne-eqb (v * 10 ^ j + h .dropped) 0 (λ y. omega arith))
 
 -- all of k digits
-pub dropped-all : {n d rest part : ℕ} {exact : Bool} {j k : ℕ} → (j ≤ k) × Dropped n d rest part exact j → k ≤ j → Dropped n d rest part exact k
+pub dropped-all : {n d rest part : ℕ} {exact : Bool} {j k : ℕ} → (j ≤ k) × Dropped n d rest part exact j → k ≤ j
+    → Dropped n d rest part exact k
 dropped-all {n} {d} {rest} {part} {exact} {j} {k} h l =
     let e : j ≡ k = omega (arith, h .0) in subst (Dropped n d rest part exact) e (h .1)
 

@@ -18,7 +18,8 @@ use Rattle.basis.proofs.Tests.{bool-cases}
 use Rattle.graph.specs.declared.find.Found.{Found}
 use Rattle.graph.specs.declared.find.Found.the-variants.{At, Missing}
 use Rattle.matching.specs.Claim.{idsOf, claimedOf}
-use Rattle.matching.specs.Cover.{failingPlace, isVertex, lineFrom, lineOf, hasLine, isNew, namesNew, strayLine, incompleteLine, valueOf}
+use Rattle.matching.specs.Cover.{failingPlace, isVertex, lineFrom, lineOf, hasLine, isNew, namesNew, strayLine, incompleteLine}
+use Rattle.matching.specs.Cover.{valueOf}
 use Rattle.matching.specs.Steps.{newIn, setAt, Within, strayStep, isRecorded, endLine, Maps}
 use Rattle.matching.proofs.FirstPlaces.{failing-more, failing-same, or-kept, or-zero}
 use Rattle.matching.proofs.Readings.{ids-more, values-more, ids-length, claimed-length}
@@ -82,7 +83,8 @@ module _ (place : ℤ → Found) where
     value-old h e =
         let b = line-bound (idsOf done) v in
         rw (e, values-more done x)
-        (List·getD-append (claimedOf done) (x .1 ∷ []) z (lineOf place (idsOf done) v - 1) (omega (arith, ids-length done, claimed-length done)))
+        (List·getD-append (claimedOf done) (x .1 ∷ []) z (lineOf place (idsOf done) v - 1)
+        (omega (arith, ids-length done, claimed-length done)))
 
     pub value-new : lineOf place (idsOf (done ++ (x ∷ []))) v ≡ length done + 1 → valueOf place z (done ++ (x ∷ [])) v ≡ x .1
     unfolding valueOf
@@ -161,7 +163,8 @@ module _ (place : ℤ → Found) where
             wide = length-set lines v (k + 1) ∙ h .wide;
             maps = λ u l.
                 elim (ℕ-discrete u v) as (λ _. getD (set lines v (k + 1)) u 0 ≡ lineOf place (named ++ (id ∷ [])) u) [
-                  | yes q ↦ rw q (getD-set-same lines v (k + 1) 0 (omega (arith, g .inside, h .wide)) ∙ ap (λ (j : ℕ). j + 1) (sym (h .count))
+                  | yes q ↦ rw q (getD-set-same lines v (k + 1) 0 (omega (arith, g .inside, h .wide))
+                      ∙ ap (λ (j : ℕ). j + 1) (sym (h .count))
                       ∙ sym (g .line))
                   | no d ↦ getD-set-other lines v u (k + 1) 0 d ∙ h .maps u l ∙ sym (g .others u d)
                 ];

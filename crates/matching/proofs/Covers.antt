@@ -1,5 +1,5 @@
--- What completeness means, for identifiers that rise: the claim line of a vertex, the least place at which a claim lacks one, and the values
--- in vertex order. Assumes nothing.
+-- What completeness means, for identifiers that rise: the claim line of a vertex, the least place at which a claim lacks a vertex, and
+-- the values in vertex order. Assumes nothing.
 use mathlib.Core.Path.{_≡_, refl, sym, ap, _∙_, subst, fun-ext}
 use mathlib.Core.Bool.{Bool, true, false, not, cond}
 use mathlib.Core.Logic.{_↔_, _⊎_, inl, inr}
@@ -90,7 +90,8 @@ module _ (ids : List ℤ) (r : risingZ ids ≡ true) where
         l = omega (arith, h .1)
 
         before : (v : ℕ) → placeIn ids (getD named i (pos 0)) ≡ At v
-            → Finds (LineOf ids (take i named) v) 0 (lineOf (placeIn ids) (take i named) v) → (lineOf (placeIn ids) (take i named) v ≡ 0 → ⊥)
+            → Finds (LineOf ids (take i named) v) 0 (lineOf (placeIn ids) (take i named) v)
+            → (lineOf (placeIn ids) (take i named) v ≡ 0 → ⊥)
             → Lacks ids named i
         before v e (inl g) n = absurd (n (g .0))
         before v e (inr g) n = let f = in-front {i = i} (omega arith) (g .2 .here) in again v (g .0) (f .0) (f .1) (place-named l e)

@@ -31,7 +31,8 @@ use Rattle.matching.specs.Close.{isClose}
 use Rattle.matching.specs.Claim.{coefficientLines, idsOf}
 use Rattle.matching.specs.Cover.{failingPlace, lineFrom, lineOf, incompleteLine, valueOf, inOrder, reportedLine}
 use Rattle.matching.specs.Verdict.{Verdict, verdictOf, says, judgedBy}
-use Rattle.matching.specs.Calls.{nearWithin, farWithin, fractionIn, fractions, noDecimal, roomIn, coefficientsJudged, told, coefficientsCall}
+use Rattle.matching.specs.Calls.{nearWithin, farWithin, fractionIn, fractions, noDecimal, roomIn, coefficientsJudged, told}
+use Rattle.matching.specs.Calls.{coefficientsCall}
 use Rattle.matching.specs.Steps.{newIn, setAt, strayStep, lesserFault, farStep, endLine, reportedIn, JudgedOf}
 use Rattle.matching.proofs.FirstPlaces.{bits-back, failing-same, failing-bound, first-column}
 use Rattle.matching.proofs.Leasts.{failing-now}
@@ -102,7 +103,8 @@ module _ (most : ℕ) (ids : List ℤ) (nums dens s : List ℕ) where
         whole : endLine lines (length ids) k stray ≡ 0 → (v : ℕ) → v < length ids → lineOf (bisected ids) (idsOf (h .done)) v ≡ 0 → ⊥
         whole z v m g = end-zero lines (length ids) k stray z v m (h .recorded .maps v m ∙ g)
 
-        fault : endLine lines (length ids) k stray ≡ 0 → far ≡ farWithin (fractions (length ids) nums dens) (inOrder (bisected ids) noDecimal (length ids) (h .done))
+        fault : endLine lines (length ids) k stray ≡ 0
+            → far ≡ farWithin (fractions (length ids) nums dens) (inOrder (bisected ids) noDecimal (length ids) (h .done))
         fault z =
             h .fars
             ∙ failing-same (nearYet ids nums dens (h .done))
@@ -116,7 +118,8 @@ module _ (most : ℕ) (ids : List ℤ) (nums dens s : List ℕ) where
 
         by : (i : ℕ) → i ≡ endLine lines (length ids) k stray
             → verdictOf i l ≡ verdictOf (incompleteLine (bisected ids) (length ids) (idsOf (h .done)))
-            (reportedLine (bisected ids) (idsOf (h .done)) (farWithin (fractions (length ids) nums dens) (inOrder (bisected ids) noDecimal (length ids) (h .done))))
+            (reportedLine (bisected ids) (idsOf (h .done))
+            (farWithin (fractions (length ids) nums dens) (inOrder (bisected ids) noDecimal (length ids) (h .done))))
         by zero q =
             let b = failing-bound (nearYet ids nums dens (h .done)) (length ids) 0 in
             rw (covered, ← q, ← fault (sym q)) (ap (verdictOf 0) (p ∙ told-line far (omega (arith, h .fars))))
@@ -191,7 +194,11 @@ module _ (most : ℕ) (ids : List ℤ) (nums dens s : List ℕ) where
         decimals-fault n b c q r p =
             record {
               tells =
-                  rw (passed-fault (pairForm decimalForm) claimFile most noTest s (h .passed) l n b (c .at) (sym e ∙ ap coefficientSays q), p);
+                  rw (
+                    passed-fault (pairForm decimalForm) claimFile most noTest s (h .passed) l n b (c .at)
+                        (sym e ∙ ap coefficientSays q),
+                    p,
+                  );
               wide = h .recorded .wide;
             }
 
@@ -203,7 +210,9 @@ module _ (most : ℕ) (ids : List ℤ) (nums dens s : List ℕ) where
             record {
               done = h .done ++ ((id, d) ∷ []);
               passed = passed-next (pairForm decimalForm) claimFile most noTest s (h .passed) l (id, d) (c .at) here refl;
-              short = let m = line-moves (pairForm decimalForm) s place (line (id, d) (c .at)) (sym here) (id, d) (c .at) refl in omega (arith, h .passed .forward, m .forward, m .inside);
+              short =
+                  let m = line-moves (pairForm decimalForm) s place (line (id, d) (c .at)) (sym here) (id, d) (c .at) refl in
+                  omega (arith, h .passed .forward, m .forward, m .inside);
               recorded = rw (ids-more (h .done) (id, d)) (recorded-next (bisected ids) (h .recorded) id wide (found-within ids id) new t y);
               fars = t′ ∙ far-next id d r (rw new (grown (bisected ids) (h .recorded) id (found-within ids id)));
             }
@@ -232,7 +241,8 @@ module _ (most : ℕ) (ids : List ℤ) (nums dens s : List ℕ) where
     wide : length before ≡ length lines
     wide = ap length c ∙ length-replicate (length lines) 0
 
-    pub coefficients-short : not t ≡ true → (r : Refusal) → r ≡ plain noRoom → told (refuses r) before ≡ coefficientsCall most ids nums dens s lines
+    pub coefficients-short : not t ≡ true → (r : Refusal) → r ≡ plain noRoom
+        → told (refuses r) before ≡ coefficientsCall most ids nums dens s lines
     unfolding coefficientsCall
     coefficients-short f r q = let k : roomIn (length ids) (length nums) (length dens) (length lines) ≡ false
         = ap (roomIn (length ids) (length nums) (length dens)) (sym wide) ∙ failed t _ e f in rw (k, q, c)

@@ -63,7 +63,8 @@ pub record Others : Type 0 where
   pub largestDown : coefficientClaim (1, 4294770690) (bytes "1 99999999999999999e-99\n") ≡ gives (mismatchAt 1)
 
 pub others : Others
-unfolding judgedBy failingPlace lineFrom namesNew strayLine incompleteLine valueOf placeFrom column firstPlace every each mem linesFrom valuesFrom lineBy twoOf twoStop isClose decimalOf fractionOf partsOf powerAt
+unfolding judgedBy failingPlace lineFrom namesNew strayLine incompleteLine valueOf placeFrom column firstPlace every each mem linesFrom
+    valuesFrom lineBy twoOf twoStop isClose decimalOf fractionOf partsOf powerAt
     signedPower wholeIsGood pastPoint digitOf within isSign digitsStop powerStop partsStop fractionStop decimalStop
 others = record {
   matches = refl;

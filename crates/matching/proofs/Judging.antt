@@ -128,7 +128,8 @@ module _ (rule : Rule) (most : ℕ) (ids reference : List ℤ) (s : List ℕ) (c
   told-line n named record′ maps zero l = refl
   told-line n named record′ maps (suc v) l = maps v l
 
-  read-as : not t ≡ false → (mid : List ℤ) (record′ : List ℕ) (read : Read) → ReadOf most ids s (length claimed) (length before) mid record′ read
+  read-as : not t ≡ false → (mid : List ℤ) (record′ : List ℕ) (read : Read)
+      → ReadOf most ids s (length claimed) (length before) mid record′ read
       → readJudged rule (take (length ids) reference) (take (length ids) mid) record′ read
       ≡ judgedBy (bisected ids) (length ids) (pos 0) (mismatchVertex rule (take (length ids) reference)) (numberLines most s)
   unfolding judgedBy

@@ -62,7 +62,9 @@ within-more Missing n m h l = tt
 pub named-within : (ids : List ℤ) (id : ℤ) (lines : List ℕ) {r : Found} → r ≡ newIn lines (bisected ids id) → (m : ℕ) → length ids ≤ m
     → Within r m
 named-within ids id lines e m l =
-    rw e (within-more (newIn lines (bisected ids id)) (length ids) m (new-within lines (bisected ids id) (length ids) (found-within ids id)) l)
+    rw e
+    (within-more (newIn lines (bisected ids id)) (length ids) m
+    (new-within lines (bisected ids id) (length ids) (found-within ids id)) l)
 
 -- what follows where an end finds nothing incomplete
 pub end-zero : (lines : List ℕ) (n k stray : ℕ) → endLine lines n k stray ≡ 0 → (v : ℕ) → v < n → getD lines v 0 ≡ 0 → ⊥
@@ -171,7 +173,9 @@ module _ (most : ℕ) (ids : List ℤ) (s : List ℕ) where
             record {
               done = h .done ++ ((id, v) ∷ []);
               passed = passed-next edgeForm claimFile most noTest s (h .passed) l (id, v) (c .at) here refl;
-              short = let m = line-moves edgeForm s place (line (id, v) (c .at)) (sym here) (id, v) (c .at) refl in omega (arith, h .passed .forward, m .forward, m .inside);
+              short =
+                  let m = line-moves edgeForm s place (line (id, v) (c .at)) (sym here) (id, v) (c .at) refl in
+                  omega (arith, h .passed .forward, m .forward, m .inside);
               recorded = rw (ids-more (h .done) (id, v)) (recorded-next (bisected ids) (h .recorded) id wide (found-within ids id) new t y);
               kept = rw t′ (kept-next r (toZ w64 (ofZ w64 v)));
               stored = rw (ids-more (h .done) (id, v), t′, bits-back v (edge-range s place id v (c .at) here .1))

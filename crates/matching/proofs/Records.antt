@@ -94,7 +94,8 @@ module _ (nums dens : List ℕ) (vertex : Found) (s : Decimal) (far : ℕ) where
   pub far-none : vertex ≡ Missing → far ≡ farStep nums dens vertex s far
   far-none h = rw h
 
-  module _ {v : ℕ} (h : vertex ≡ At v) {a b : ℕ} (p : a ≡ getD nums v 0) (q : b ≡ getD dens v 0) {t : Bool} (e : t ≡ nearWithin (a, b) s) where
+  module _ {v : ℕ} (h : vertex ≡ At v) {a b : ℕ} (p : a ≡ getD nums v 0) (q : b ≡ getD dens v 0)
+      {t : Bool} (e : t ≡ nearWithin (a, b) s) where
     tested : nearWithin (fractionIn nums dens v) s ≡ t
     tested = sym (e ∙ rw (p, q))
 

@@ -209,7 +209,8 @@ module _ (g : Graph) (kernel : ℕ) (parameter : ℤ) (s : List ℕ) (R₀ C₀ 
     (e : Call.outcome x R C F S T L ≡ Call.verdictCall Call.mostLines g kernel parameter s R₀ C₀ F₀ S₀ T₀ L₀) (r : Refusal)
     (f : r ≡ asRefusal x) where
   pub judge-small : Small wide r
-  judge-small = rw (f, ap (λ o. o .said) e) (call-small Call.mostLines g kernel parameter s R₀ C₀ F₀ S₀ T₀ L₀ wide (omega arith) (omega arith))
+  judge-small =
+      rw (f, ap (λ o. o .said) e) (call-small Call.mostLines g kernel parameter s R₀ C₀ F₀ S₀ T₀ L₀ wide (omega arith) (omega arith))
 
   pub judge-told : (k : ℕ) → k ≡ placed r → (z : ℤ) → parameter ≡ z
       → judgeTold k R C F S T L ≡ judgeTells (Call.verdictCall Call.mostLines g kernel z s R₀ C₀ F₀ S₀ T₀ L₀)

@@ -176,7 +176,8 @@ module _ (vertices edges claim : List ℕ) (mode kernel : ℕ) (parameter : ℤ)
     judged-so : deskJudged stands kernel parameter claim ≡ judgedAs (referenceFor deskLines (graphOf g) claim kernel parameter)
     unfolding deskJudged graphOf
     judged-so =
-        call-judged deskLines stands kernel parameter claim _ _ _ _ _ _ known-kernel (load-sound desk mode deskRoom vertices edges g h) roomy
+        call-judged deskLines stands kernel parameter claim _ _ _ _ _ _ known-kernel (load-sound desk mode deskRoom vertices edges g h)
+        roomy
         ∙ ap judgedAs (ap (λ x. referenceFor deskLines x claim kernel parameter) stands-so
         ∙ reference-same deskLines (areaGraph deskRoom g) (graphOf g) claim parameter refl
         (same-names desk mode deskRoom vertices edges g ok) (same-outward desk mode deskRoom vertices edges g ok)
@@ -242,7 +243,8 @@ module _ (vertices edges claim : List ℕ) (mode kernel : ℕ) (parameter : ℤ)
           → Small narrow (asRefusal (hostSays vertices edges claim mode kernel parameter))
       by-load known (gives g) e =
           rw (host-given vertices edges claim mode kernel parameter known g e)
-          (call-small deskLines (graphLeft (sizeOf g) (loadCall desk mode deskRoom vertices edges)) kernel parameter claim _ _ _ _ _ _ narrow
+          (call-small deskLines (graphLeft (sizeOf g) (loadCall desk mode deskRoom vertices edges)) kernel parameter claim _ _ _ _ _ _
+          narrow
           (omega arith) (omega arith))
       by-load known (refuses r) e =
           rw (says-known vertices edges claim mode kernel parameter known, e)

@@ -79,7 +79,8 @@ leaves-none (refuses r) z size = refl
 
 module _ (k : Reference) (g : Graph) (R C : List ℤ) (F S T L : List ℕ) {room : Bool} (p : room ≡ roomFor (g .vertices) R C F S T L)
     {x : Said Verdict} {R′ C′ : List ℤ} {F′ S′ T′ L′ : List ℕ} where
-  numbers-call : k .numerators ≡ [] → k .denominators ≡ [] → numbers x R′ C′ L′ ≡ numbersVerdict k (soundGraph g) room R C L → F′ ≡ cleared F
+  numbers-call : k .numerators ≡ [] → k .denominators ≡ [] → numbers x R′ C′ L′ ≡ numbersVerdict k (soundGraph g) room R C L
+      → F′ ≡ cleared F
       → S′ ≡ cleared S → T′ ≡ cleared T
       → outcome x R′ C′ F′ S′ T′ L′ ≡ callOn k g R C F S T L
   unfolding numbersVerdict callOn leftBy
@@ -90,7 +91,8 @@ module _ (k : Reference) (g : Graph) (R C : List ℤ) (F S T L : List ℕ) {room
       (f ∙ leaves-none y 0 (length F) ∙ ap (leaves y 0 (length F)) (sym u))
       (s ∙ leaves-none y 0 (length S) ∙ ap (leaves y 0 (length S)) (sym w)) t (ap (λ (o : Numbers). o .lines) h))
 
-  terms-call : k .values ≡ [] → terms x F′ S′ L′ ≡ termsVerdict k (soundGraph g) room F S L → R′ ≡ clearedZ R → C′ ≡ clearedZ C → T′ ≡ cleared T
+  terms-call : k .values ≡ [] → terms x F′ S′ L′ ≡ termsVerdict k (soundGraph g) room F S L → R′ ≡ clearedZ R → C′ ≡ clearedZ C
+      → T′ ≡ cleared T
       → outcome x R′ C′ F′ S′ T′ L′ ≡ callOn k g R C F S T L
   unfolding termsVerdict callOn leftBy
   terms-call u h r c t =
@@ -110,7 +112,8 @@ module _ (most : ℕ) (g : Graph) (kernel : ℕ) (parameter : ℤ) (s : List ℕ
   module _ {room : Bool}
       (p : room
       ≡ (leb (g .vertices) (length R) && (leb (g .vertices) (length C)
-      && (leb (g .vertices) (length F) && (leb (g .vertices) (length S) && (leb (g .vertices) (length T) && leb (g .vertices) (length L)))))))
+      && (leb (g .vertices) (length F) && (leb (g .vertices) (length S)
+      && (leb (g .vertices) (length T) && leb (g .vertices) (length L)))))))
       {x : Said Verdict} {R′ C′ : List ℤ} {F′ S′ T′ L′ : List ℕ} where
     pub verdict-bfs : {parameter′ : ℤ} → parameter′ ≡ parameter → kernel ≡ 1
         → numbers x R′ C′ L′ ≡ numbersVerdict (bfsReference most g s parameter′) (soundGraph g) room R C L → F′ ≡ cleared F → S′ ≡ cleared S
@@ -139,7 +142,8 @@ module _ (most : ℕ) (g : Graph) (kernel : ℕ) (parameter : ℤ) (s : List ℕ
 
     pub verdict-lcc : (kernel ≡ 1 → ⊥) → (kernel ≡ 2 → ⊥) → (kernel ≡ 3 → ⊥) → kernel ≡ 4
         → terms x F′ S′ L′ ≡ termsVerdict (lccReference most g s) (soundGraph g) room F S L
-        → R′ ≡ clearedZ R → C′ ≡ clearedZ C → T′ ≡ cleared T → outcome x R′ C′ F′ S′ T′ L′ ≡ verdictCall most g kernel parameter s R C F S T L
+        → R′ ≡ clearedZ R → C′ ≡ clearedZ C → T′ ≡ cleared T
+        → outcome x R′ C′ F′ S′ T′ L′ ≡ verdictCall most g kernel parameter s R C F S T L
     unfolding verdictCall roomFor
     verdict-lcc i j l e h a b c =
         terms-call (lccReference most g s) g R C F S T L p refl h a b c

@@ -95,7 +95,8 @@ module _ (g : Graph) (R : List ℤ) (F : List ℕ) {a : Said (Unit {0})} {R′ :
   wcc-cleared = ap (λ (o : wcc.Outcome). o .heads) e
 
   pub wcc-verdict : {room : Bool} → Roomy room (g .vertices) (length R) → Roomy room (g .vertices) (length F)
-      → (most : ℕ) (s : List ℕ) (C : List ℤ) (L : List ℕ) {x : Numbers} → x ≡ numbersOn a room Equivalence most (g .vertices) (g .ids) s R′ C L
+      → (most : ℕ) (s : List ℕ) (C : List ℤ) (L : List ℕ) {x : Numbers}
+      → x ≡ numbersOn a room Equivalence most (g .vertices) (g .ids) s R′ C L
       → x ≡ numbersVerdict (wccReference most g s) (soundGraph g) room R C L
   unfolding wcc.roomFor
   wcc-verdict f h most s =

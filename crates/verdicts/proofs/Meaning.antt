@@ -73,11 +73,12 @@ module _ (most : ℕ) (g : Graph) (parameter : ℤ) (s : List ℕ) (R C : List �
       (verdictCall most g 1 parameter s R C F S T L .said)
   bfs-judged e =
       rw (bfs-says, says-judged (bfsReference most g s parameter) e)
-      (exact-judged most (names g) rises (depthsFrom g (placeIn (names g) parameter)) (bfs-length g (placeIn (names g) parameter) e ∙ sym many) s)
+      (exact-judged most (names g) rises (depthsFrom g (placeIn (names g) parameter))
+      (bfs-length g (placeIn (names g) parameter) e ∙ sym many) s)
 
   pub cdlp-judged : goodRounds parameter ≡ true
-      → Judges identOf (pos 0) most (names g) (λ vs. vs ≡ cdlpOf g (natAbs parameter)) (Differs sameZ (pos 0) (pos 0) (cdlpOf g (natAbs parameter)))
-      s
+      → Judges identOf (pos 0) most (names g) (λ vs. vs ≡ cdlpOf g (natAbs parameter))
+      (Differs sameZ (pos 0) (pos 0) (cdlpOf g (natAbs parameter))) s
       (verdictCall most g 3 parameter s R C F S T L .said)
   cdlp-judged e =
       rw (cdlp-says, says-judged (cdlpReference most g s parameter) e)
@@ -89,7 +90,8 @@ module _ (most : ℕ) (g : Graph) (parameter : ℤ) (s : List ℕ) (R C : List �
       (verdictCall most g 2 parameter s R C F S T L .said)
   wcc-judged =
       rw (wcc-says, says-judged (wccReference most g s) refl)
-      (subst (λ (n : ℕ). Judges identOf (pos 0) most (names g) (EqualWhere n (LinkedAmong (g .vertices) (outward g))) (Disagrees (wccOf g)) s
+      (subst (λ (n : ℕ). Judges identOf (pos 0) most (names g) (EqualWhere n (LinkedAmong (g .vertices) (outward g))) (Disagrees
+      (wccOf g)) s
       (wccReference most g s .judged)) many
       (equivalence-judged most (names g) rises (wccOf g) (wcc-length g (sound-of g sound) ∙ sym many)
       (LinkedAmong (g .vertices) (outward g))
@@ -133,7 +135,8 @@ module _ (most : ℕ) (g : Graph) (sound : Sound g) (few : g .vertices ≤ most)
   bfs-own root e =
       let values = depthsFrom g (placeIn (names g) root) in
       says-judged (bfsReference most g (claimText (listed (names g) values)) root) e
-      ∙ exact-own most (names g) (sound .idsRise) names-few fits values (names-length g sound ∙ sym (bfs-length g (placeIn (names g) root) e))
+      ∙ exact-own most (names g) (sound .idsRise) names-few fits values
+      (names-length g sound ∙ sym (bfs-length g (placeIn (names g) root) e))
       (bfs-fits g (sound .fewVertices) (placeIn (names g) root))
 
   pub cdlp-own : (iterations : ℤ) → goodRounds iterations ≡ true
@@ -141,7 +144,8 @@ module _ (most : ℕ) (g : Graph) (sound : Sound g) (few : g .vertices ≤ most)
   cdlp-own iterations e =
       let values = cdlpOf g (natAbs iterations) in
       says-judged (cdlpReference most g (claimText (listed (names g) values)) iterations) e
-      ∙ exact-own most (names g) (sound .idsRise) names-few fits values (names-length g sound ∙ sym (cdlp-length g sound (natAbs iterations)))
+      ∙ exact-own most (names g) (sound .idsRise) names-few fits values (names-length g sound ∙ sym (cdlp-length g sound
+      (natAbs iterations)))
       (cdlp-fits g fits (natAbs iterations))
 
   -- under any renaming that keeps labels apart and in range

@@ -113,7 +113,8 @@ module _ (k : Reference) {n : ℕ} (ids : List ℤ) {sound own : Bool} (R : List
     (h : Ran (pos 0) (k .given) (k .number) (k .values) n (length ids) sound own (length R) answer R′)
     (rises : sound ≡ true → risingZ (take n ids) ≡ true)
     {room : Bool} (r : room ≡ true → own ≡ true) (rule : Rule) (most : ℕ) (s : List ℕ)
-    (q : k .judged ≡ judgedBy (placeIn (take n ids)) (length (take n ids)) (pos 0) (mismatchVertex rule (k .values)) (numberLines most s)) where
+    (q : k .judged
+    ≡ judgedBy (placeIn (take n ids)) (length (take n ids)) (pos 0) (mismatchVertex rule (k .values)) (numberLines most s)) where
   says-same : numbersSays answer room rule most (take n ids) (take n R′) s ≡ verdictSays k sound room
   unfolding numbersSays verdictSays
   says-same =

@@ -72,7 +72,8 @@ module _ (answer : Answer) (room : Bool) (rule : Rule) (most n : ℕ) (ids : Lis
       numbers-done h roomy j C′ L′ q i R′ p =
           let t = not-false room h in
           let l = length-take-le n ids (known-ids answer n (length ids) e known) in
-          let f : says j ≡ judgedBy (bisected (take n ids)) (length (take n ids)) (pos 0) (mismatchVertex rule (take n R)) (numberLines most s) =
+          let f : says j ≡ judgedBy (bisected (take n ids)) (length (take n ids)) (pos 0) (mismatchVertex rule (take n R))
+          (numberLines most s) =
           ap (λ (o : calls.Outcome). o .said) q
           ∙ rw (l, le-leb n (length R) (roomy .0 t), le-leb n (length C) (roomy .1 t), le-leb n (length L) (roomy .2 t)) in
           rw (e, t) (all-numbers (ap says (p .0) ∙ f) (p .1 ∙ ap (λ (x : Said Verdict). unlessRefused x (pos 0) R) f)

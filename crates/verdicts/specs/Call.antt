@@ -61,7 +61,8 @@ leftBy k said result claimed first second third lines =
 -- the call for a known kernel: what is said of the graph, the areas and the claim, and what that leaves in the areas
 unfoldable pub callOn : Reference → Graph → List ℤ → List ℤ → List ℕ → List ℕ → List ℕ → List ℕ → Outcome
 callOn k g result claimed first second third lines =
-    leftBy k (verdictSays k (soundGraph g) (roomFor (g .vertices) result claimed first second third lines)) result claimed first second third lines
+    leftBy k (verdictSays k (soundGraph g) (roomFor (g .vertices) result claimed first second third lines)) result claimed first second
+    third lines
 
 -- "a mode or kernel number is unknown": refusal 12, and zero in all six areas
 unfoldable pub unknownCall : List ℤ → List ℤ → List ℕ → List ℕ → List ℕ → List ℕ → Outcome

@@ -68,7 +68,7 @@ fn refuse_unknown(
 
 // The verdict on a claim of at most so many lines. Each area serves its kernel: BFS, WCC and CDLP leave their values in `result`, which
 // holds WCC's book before, and read the claim's into `claimed`; `first` is BFS's queue and WCC's heads, the three together CDLP's labels,
-// next labels and counts; LCC leaves its fractions in `first` and `second` and works in `third`. `lines` maps each vertex to its claim line.
+// next labels and counts; LCC leaves its fractions in `first` and `second` and works in `third`. `lines` maps the vertices to their lines.
 pub fn verdict_within(
     most: usize,
     size: Size,

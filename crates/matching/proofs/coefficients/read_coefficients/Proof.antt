@@ -2,7 +2,8 @@ use borrow.Author.Needs.{needs}
 use Prim.Native.Nat.{_-_}
 use lib.ListN.{length}
 use Rattle.matching.proofs.NumberLines.{named-within}
-use Rattle.matching.proofs.DecimalLines.{Decimals, decimals-none, decimals-far, decimals-next, decimals-end, decimals-fault, decimals-over, decimals-full}
+use Rattle.matching.proofs.DecimalLines.{Decimals, decimals-none, decimals-far, decimals-next, decimals-end, decimals-fault}
+use Rattle.matching.proofs.DecimalLines.{decimals-over, decimals-full}
 use Rattle.matching.proofs.coefficients.read_coefficients.Statement.{statement}
 use Rattle.matching.proofs.coefficients.read_coefficients.Tie as tie
 use Rattle.matching.proofs.coefficients.read_coefficients.Reads as reads

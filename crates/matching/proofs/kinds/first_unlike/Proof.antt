@@ -85,7 +85,8 @@ returns : tie.Need-returns Inv-loop μ-loop Inv-vertices μ-vertices
 returns c = search unlike-end
 
 returns-2 : tie.Need-returns-2 Inv-loop μ-loop Inv-vertices μ-vertices
-returns-2 c = unlike-here _ _ _ _ (c .before .before .before .before .before .before .before .before .before .vertices .inv .1) (search needs)
+returns-2 c =
+    unlike-here _ _ _ _ (c .before .before .before .before .before .before .before .before .before .vertices .inv .1) (search needs)
     _ (c .before .before .before .before .before .before .before .loop .inv .1)
     (bits-back _ (c .before .before .before .before .before .unlike-arg .given))
     (bits-back _ (c .before .before .before .before .unlike-arg2 .given)) (bits-back _ (c .before .before .before .unlike-arg3 .given))

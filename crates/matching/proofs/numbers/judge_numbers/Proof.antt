@@ -41,7 +41,8 @@ read-numbers-requires c κs = ((search room-second, search room-third), search c
 
 slice-aggregate-judged-on : tie.Need-slice-aggregate-judged-on
 slice-aggregate-judged-on c =
-    sym (length-take-le _ _ (room-first _ _ _ _ (c .before .before .before .before .before .before .before .before .has-room .ensures) (c .before .before .before .before .before .before .before .if1 .left)))
+    sym (length-take-le _ _ (room-first _ _ _ _ (c .before .before .before .before .before .before .before .before .has-room .ensures)
+    (c .before .before .before .before .before .before .before .if1 .left)))
 
 slice-reshare-prefix-judged-on : tie.Need-slice-reshare-prefix-judged-on
 slice-reshare-prefix-judged-on c = search judge-kept
@@ -51,7 +52,8 @@ slice-aggregate-judged-on-2 c = sym (length-take-le _ _ (search judge-kept))
 
 judged-on-requires : tie.Need-judged-on-requires
 judged-on-requires c κs =
-    let a = c .before .before .before .before .before .before .before .before .before .before .before .before .before .before .before .before .before .args .reference .now in
+    let a = c .before .before .before .before .before .before .before .before .before .before .before .before .before .before .before
+    .before .before .args .reference .now in
     let e = c .before .before .before .before .before .before .before .before .before .before .has-room .ensures in
     let f = c .before .before .before .before .before .before .before .before .before .if1 .left in
     let h = c .before .before .before .before .before .before .read-numbers .ensures in

@@ -2,7 +2,8 @@ use native.Mathlib.Omega.{arith}
 use borrow.Author.Needs.{needs}
 use Prim.Native.Nat.{_-_}
 use lib.ListN.{length}
-use Rattle.matching.proofs.NumberLines.{Numbers, numbers-none, numbers-next, numbers-end, numbers-fault, numbers-over, numbers-full, named-within}
+use Rattle.matching.proofs.NumberLines.{Numbers, numbers-none, numbers-next, numbers-end, numbers-fault, numbers-over}
+use Rattle.matching.proofs.NumberLines.{numbers-full, named-within}
 use Rattle.matching.proofs.reading.read_numbers.Statement.{statement}
 use Rattle.matching.proofs.reading.read_numbers.Tie as tie
 use Rattle.matching.proofs.reading.read_numbers.Reads as reads

@@ -13,7 +13,8 @@ bfs-requires c κs = search needs
 
 numbers-on-requires : tie.Need-numbers-on-requires
 numbers-on-requires c κs =
-    let a = c .before .before .before .before .before .before .before .before .before .before .before .before .before .before .before .before in
+    let a = c .before .before .before .before .before .before .before .before .before .before .before .before .before .before .before
+    .before in
     let e = c .before .before .before .before .before .before .bfs .ensures in
     let p = toZ-ofZ (a .fits .root) in
     (bfs-known _ _ p _ _ e, (bfs-roomy _ _ p _ _ e (a .pre .0 .0), a .pre .0 .1, a .pre .0 .2))

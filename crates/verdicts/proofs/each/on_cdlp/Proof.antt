@@ -13,7 +13,8 @@ cdlp-requires c κs = search needs
 
 numbers-on-requires : tie.Need-numbers-on-requires
 numbers-on-requires c κs =
-    let a = c .before .before .before .before .before .before .before .before .before .before .before .before .before .before .before .before .before .before .before .before .before .before .before .before in
+    let a = c .before .before .before .before .before .before .before .before .before .before .before .before .before .before .before
+    .before .before .before .before .before .before .before .before .before in
     let e = c .before .before .before .before .before .before .before .before .before .before .cdlp .ensures in
     let p = toZ-ofZ (a .fits .iterations) in
     (cdlp-known _ _ p _ _ _ _ e, (cdlp-roomy _ _ p _ _ _ _ e (a .pre .0 .0), a .pre .0 .1, a .pre .0 .2))
@@ -38,10 +39,14 @@ same-length-6 c = search needs
 
 returns : tie.Need-returns
 returns c =
-    let a = c .before .before .before .before .before .before .before .before .before .before .before .before .before .before .before .before .before .before .before .before .before .before .before .before .before .before .before .before .before in
-    let e = c .before .before .before .before .before .before .before .before .before .before .before .before .before .before .before .cdlp .ensures in
-    let p = toZ-ofZ (a .fits .iterations) in
-    (cdlp-verdict _ _ p _ _ _ _ e (a .pre .0 .0) (a .pre .1) _ _ _ _ (c .before .before .before .before .numbers-on .ensures), cdlp-cleared _ _ p _ _ _ _ e)
+    let a = c .before .before .before .before .before .before .before .before .before .before .before .before .before .before .before
+    .before .before .before .before .before .before .before .before .before .before .before .before .before .before in
+    let e = c .before .before .before .before .before .before .before .before .before .before .before .before .before .before .before
+    .cdlp .ensures in
+    let p = toZ-ofZ (a .fits .iterations) in (
+      cdlp-verdict _ _ p _ _ _ _ e (a .pre .0 .0) (a .pre .1) _ _ _ _ (c .before .before .before .before .numbers-on .ensures),
+      cdlp-cleared _ _ p _ _ _ _ e,
+    )
 
 pub on-cdlp-spec : {M : Type 1} → statement M
 on-cdlp-spec =

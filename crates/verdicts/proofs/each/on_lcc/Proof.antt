@@ -12,7 +12,8 @@ lcc-requires c κs = search needs
 
 terms-on-requires : tie.Need-terms-on-requires
 terms-on-requires c κs =
-    let a = c .before .before .before .before .before .before .before .before .before .before .before .before .before .before .before .before .before .before .before .before .before .before in
+    let a = c .before .before .before .before .before .before .before .before .before .before .before .before .before .before .before
+    .before .before .before .before .before .before .before in
     let e = c .before .before .before .before .before .before .before .before .before .lcc .ensures in
     let r = lcc-roomy _ _ _ _ e (a .pre .0 .0, a .pre .0 .1) in
     (lcc-known _ _ _ _ e, (r .0, r .1, a .pre .0 .2))
@@ -31,9 +32,14 @@ same-length-4 c = search needs
 
 returns : tie.Need-returns
 returns c =
-    let a = c .before .before .before .before .before .before .before .before .before .before .before .before .before .before .before .before .before .before .before .before .before .before .before .before .before .before .before .before .before in
-    let e = c .before .before .before .before .before .before .before .before .before .before .before .before .before .before .before .before .lcc .ensures in
-    (lcc-verdict _ _ _ _ e (a .pre .0 .0) (a .pre .0 .1) (a .pre .1) _ _ _ (c .before .before .before .before .before .before .terms-on .ensures), lcc-cleared _ _ _ _ e)
+    let a = c .before .before .before .before .before .before .before .before .before .before .before .before .before .before .before
+    .before .before .before .before .before .before .before .before .before .before .before .before .before .before in
+    let e = c .before .before .before .before .before .before .before .before .before .before .before .before .before .before .before
+    .before .lcc .ensures in (
+      lcc-verdict _ _ _ _ e (a .pre .0 .0) (a .pre .0 .1) (a .pre .1) _ _ _ (c .before .before .before .before .before .before .terms-on
+          .ensures),
+      lcc-cleared _ _ _ _ e,
+    )
 
 pub on-lcc-spec : {M : Type 1} → statement M
 on-lcc-spec =

@@ -12,7 +12,8 @@ wcc-requires c κs = search needs
 
 numbers-on-requires : tie.Need-numbers-on-requires
 numbers-on-requires c κs =
-    let a = c .before .before .before .before .before .before .before .before .before .before .before .before .before .before .before .before in
+    let a = c .before .before .before .before .before .before .before .before .before .before .before .before .before .before .before
+    .before in
     let e = c .before .before .before .before .before .before .wcc .ensures in
     (wcc-known _ _ _ e, (wcc-roomy _ _ _ e (a .pre .0 .0), a .pre .0 .1, a .pre .0 .2))
 

@@ -25,7 +25,8 @@ clear-requires-2 c κs = search needs
 
 on-bfs-requires : tie.Need-on-bfs-requires
 on-bfs-requires c κs =
-    let h = roomy _ _ _ _ _ _ _ (c .before .before .before .before .before .before .before .before .before .before .before .before .before .has-room .ensures) in
+    let h = roomy _ _ _ _ _ _ _ (c .before .before .before .before .before .before .before .before .before .before .before .before .before
+    .has-room .ensures) in
     ((h .0 .0, h .0 .1, h .2), h .1 .0)
 
 same-length : tie.Need-same-length
@@ -52,7 +53,8 @@ returns c =
     let t = w .before .before .before .before .before .before .before in
     let s = t .before .before .before .before in
     let k = s .before .before in
-    verdict-bfs _ _ _ _ _ _ _ _ _ _ _ (k .before .has-room .ensures) (toZ-ofZ (k .before .before .before .before .before .before .before .before .before .before .before .fits .parameter)) (k .if1 .taken)
+    verdict-bfs _ _ _ _ _ _ _ _ _ _ _ (k .before .has-room .ensures) (toZ-ofZ (k .before .before .before .before .before .before .before
+    .before .before .before .before .fits .parameter)) (k .if1 .taken)
     (w .on-bfs .ensures .0) (w .on-bfs .ensures .1) (s .clear .ensures) (t .clear2 .ensures)
 
 clear-requires-3 : tie.Need-clear-requires-3
@@ -63,7 +65,8 @@ clear-requires-4 c κs = search needs
 
 on-wcc-requires : tie.Need-on-wcc-requires
 on-wcc-requires c κs =
-    let h = roomy _ _ _ _ _ _ _ (c .before .before .before .before .before .before .before .before .before .before .before .before .before .before .has-room .ensures) in
+    let h = roomy _ _ _ _ _ _ _ (c .before .before .before .before .before .before .before .before .before .before .before .before .before
+    .before .has-room .ensures) in
     ((h .0 .0, h .0 .1, h .2), h .1 .0)
 
 same-length-7 : tie.Need-same-length-7
@@ -120,7 +123,8 @@ returns-3 : tie.Need-returns-3
 returns-3 c =
     let w = c .before .before .before .before .before .before .before .before .before .before in
     let k = w .before .before .before .before .before .before .before in
-    verdict-cdlp _ _ _ _ _ _ _ _ _ _ _ (k .before .before .before .has-room .ensures) (toZ-ofZ (k .before .before .before .before .before .before .before .before .before .before .before .before .before .fits .parameter))
+    verdict-cdlp _ _ _ _ _ _ _ _ _ _ _ (k .before .before .before .has-room .ensures) (toZ-ofZ
+    (k .before .before .before .before .before .before .before .before .before .before .before .before .before .fits .parameter))
     (k .before .before .if1 .left) (k .before .if2 .left) (k .if3 .taken) (w .on-cdlp .ensures .0) (w .on-cdlp .ensures .1)
 
 clear-signed-requires : tie.Need-clear-signed-requires
@@ -131,7 +135,8 @@ clear-signed-requires-2 c κs = search needs
 
 on-lcc-requires : tie.Need-on-lcc-requires
 on-lcc-requires c κs =
-    let h = roomy _ _ _ _ _ _ _ (c .before .before .before .before .before .before .before .before .before .before .before .before .before .before .has-room .ensures) in
+    let h = roomy _ _ _ _ _ _ _ (c .before .before .before .before .before .before .before .before .before .before .before .before .before
+    .before .has-room .ensures) in
     ((h .1 .0, h .1 .1, h .2), h .1 .2)
 
 same-length-19 : tie.Need-same-length-19
@@ -185,7 +190,8 @@ same-length-30 c = search needs
 
 returns-5 : tie.Need-returns-5
 returns-5 c =
-    let k = c .before .before .before .before .before .before .before .before .before .before .before .before .before .before .before .before .before in
+    let k = c .before .before .before .before .before .before .before .before .before .before .before .before .before .before .before
+    .before .before in
     verdict-unknown _ _ _ _ _ _ _ _ _ _ _ (k .before .before .before .if1 .left) (k .before .before .if2 .left) (k .before .if3 .left)
     (k .if4 .left) (c .before .before .before .before .before .before .before .before .before .before .refuse-unknown .ensures)
 
