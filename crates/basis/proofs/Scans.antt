@@ -1,7 +1,7 @@
 -- Laws of `every`, `each`, `mem` and `bit`: what they say at an index, and what a scanning loop needs at its start, at a turn, where it
 -- breaks off and at its end. Assumes nothing.
 use Prim.Native.Nat.{ℕ, zero, suc, _+_, _≤_, _<_}
-use mathlib.Core.Path.{_≡_, refl, sym, ap, _∙_}
+use mathlib.Core.Path.{_≡_, refl, sym, ap, ap₂, _∙_}
 use mathlib.Core.Logic.{_⊎_, inl, inr, ⊎-elim}
 use mathlib.Core.Bool.{Bool, true, false, _&&_, _||_}
 use mathlib.Core.List.{List, [], _∷_, _++_}
@@ -11,7 +11,7 @@ use native.Mathlib.Numerals.{add-one}
 use lib.ListN.{length, getD}
 use lib.Dec.{eqb, ltb}
 use borrow.Author.Tests.{eq-eqb, ne-eqb, eqb-true, ltb-true, lt-ltb}
-use Rattle.basis.specs.Scan.{every, each, allBelow, mem, bit}
+use Rattle.basis.specs.Scan.{every, each, allBelow, mem, orElse, bit}
 use Rattle.basis.proofs.Tests.{clash, false-of, same-test, and-first, and-second, and-both}
 use Rattle.basis.proofs.Tests.{or-first, or-second, or-cases, or-assoc, and-assoc}
 
@@ -152,3 +152,31 @@ below-mem n l h x m = ltb-true x n (each-mem (λ x. ltb x n) l h x m)
 pub bit-le : (b : Bool) → bit b ≤ 1
 bit-le true = omega arith
 bit-le false = omega arith
+
+-- two tests that agree below n; a number at which one fails
+pub every-same : (p q : ℕ → Bool) (n : ℕ) → ((v : ℕ) → v < n → p v ≡ q v) → every n p ≡ every n q
+unfolding every
+every-same p q zero e = refl
+every-same p q (suc n) e = ap₂ _&&_ (every-same p q n (λ v l. e v (omega arith))) (e n (omega arith))
+
+pub every-some : (p : ℕ → Bool) (n : ℕ) → every n p ≡ false → (i : ℕ) × (i < n) × (p i ≡ false)
+unfolding every
+every-some p zero e = clash refl e
+every-some p (suc n) e = by (every n p) refl e (every-some p n)
+  where
+    by : (t : Bool) → every n p ≡ t → (t && p n) ≡ false → (every n p ≡ false → (i : ℕ) × (i < n) × (p i ≡ false))
+        → (i : ℕ) × (i < suc n) × (p i ≡ false)
+    by true q f h = (n, omega arith, f)
+    by false q f h = let r = h q in (r .0, omega (arith, r .1), r .2)
+
+-- ---- a line or a fault that was found before, or another
+pub or-more : (k l : ℕ) → orElse (k + 1) l ≡ k + 1
+or-more k l = rw (add-one k)
+
+pub or-kept : (k l : ℕ) → (k ≡ 0 → ⊥) → k ≡ orElse k l
+or-kept zero l h = absurd (h refl)
+or-kept (suc k) l h = refl
+
+pub or-zero : (k : ℕ) → orElse k 0 ≡ k
+or-zero zero = refl
+or-zero (suc k) = refl

@@ -24,7 +24,7 @@ use Rattle.lcc.specs.Call.{roomFor as lcc-roomFor, leftBy as lcc-leftBy, lccCal
 use Rattle.lists.specs.Files.{edgeTest}
 use Rattle.load.specs.Load.{arcsRead, listsRead, loaded, outcomeOf, loadCall}
 use Rattle.matching.specs.Close.{isClose}
-use Rattle.matching.specs.Cover.{failingPlace, lineFrom, namesNew, strayLine, incompleteLine, valueOf}
+use Rattle.matching.specs.Cover.{failingPlace, itsLineFrom, namesNew, strayLine, incompleteLine, valueOf}
 use Rattle.matching.specs.Verdict.{firstPlace, sameKind, agrees, unlikeVertex, judgedBy}
 use Rattle.matching.specs.Calls.{numbersCall, nearWithin, coefficientsCall}
 use Rattle.book.specs.Rules.{walk, walkFrom, above, mergeable, mergeHeads, linkHeads, headsOf}
@@ -42,7 +42,7 @@ unfolding column every each mem within digitOf pastPoint wholeIsGood signedPower
     wccCall times mostTimes standing mostCommon smallest smallestOr nextLabel around labelsAt nextAt oneRound rounds cdlpOf goodRounds
     cdlp-roomFor cdlp-leftBy cdlpCall commonCount euclid gcdOf lowest those neighbours arcsFrom coefficientAmong numerator denominator
     lcc-roomFor
-    lcc-leftBy lccCall isClose bisect lineFrom namesNew strayLine incompleteLine valueOf firstPlace sameKind agrees failingPlace
+    lcc-leftBy lccCall isClose bisect itsLineFrom namesNew strayLine incompleteLine valueOf firstPlace sameKind agrees failingPlace
     unlikeVertex
     judgedBy numbersCall nearWithin coefficientsCall walk
     walkFrom

@@ -2,9 +2,9 @@
 -- Assumes nothing.
 use mathlib.Core.Path.{_≡_, refl, sym, ap, _∙_, subst}
 use mathlib.Core.Bool.{true}
-use mathlib.Core.Logic.{_↔_}
+use mathlib.Core.Logic.{_↔_, _⊎_, inl, inr}
 use mathlib.Core.List.{List}
-use Prim.Native.Nat.{ℕ, suc, _≤_}
+use Prim.Native.Nat.{ℕ, zero, suc, _≤_}
 use lib.IntN.{ℤ, pos}
 use lib.ListN.{length}
 use Rattle.basis.specs.declared.refusal.Refusal.{Refusal}
@@ -20,13 +20,14 @@ use Rattle.text.proofs.Breaks.{RightStop, ident-right, decimal-right, pair-righ
 use Rattle.text.proofs.Files.{file-accepted, file-refused}
 use Rattle.graph.specs.declared.find.Found.{Found}
 use Rattle.graph.specs.Find.{placeIn}
-use Rattle.matching.specs.Claim.{claimLines, numberLines, coefficientLines}
+use Rattle.matching.specs.Claim.{claimLines, numberLines, coefficientLines, idsOf}
 use Rattle.matching.specs.Cover.{inOrder}
 use Rattle.matching.specs.Verdict.{Verdict, matched, incompleteAt, mismatchAt, Fraction}
 use Rattle.matching.specs.Verdict.{near, unequalVertex, unlikeVertex, farVertex, judgedBy}
-use Rattle.matching.specs.Good.{Least, Alike, Differs, Disagrees, EqualWhere, Judges}
-use Rattle.matching.proofs.Leasts.{first-least, line-exactly, unlike-least}
-use Rattle.matching.proofs.Covers.{values-of, values-one}
+use Rattle.matching.specs.Good.{Least, Alike, Differs, Disagrees, EqualWhere, Covers}
+use Rattle.matching.specs.Good.{CompleteClaim, GoodClaim, MismatchClaim, Judges}
+use Rattle.matching.proofs.Leasts.{first-least, first-exactly, unlike-least}
+use Rattle.matching.proofs.Covers.{line-covered, values-of, values-one}
 use Rattle.matching.proofs.Meaning.{same-list, first-within, unlike-within, accepted-exactly}
 use Rattle.matching.proofs.Meaning.{incomplete-exactly, mismatch-exactly, equal-exactly}
 
@@ -85,28 +86,70 @@ module _ {A : Type 0} (form : Form A) (R : RightStop form) (z : A) (most : ℕ) 
       → judge (gives l) ≡ gives v → judge read ≡ gives v
   read-as {l} g e = ap judge (claim-read form R most s l .1 g) ∙ e
 
+  -- the claim of lines that were read and are complete, and the values in vertex order as its values
+  abbrev inPlaces : List (ℤ × A) → List A
+  inPlaces l = inOrder (placeIn ids) z (length ids) l
+
+  claim-of : (l : List (ℤ × A)) → read ≡ gives l → Covers ids (idsOf l) → CompleteClaim (form .word) z most ids s
+  claim-of l e c =
+      record {
+        lines = l;
+        file = claim-read form R most s l .0 e;
+        complete = c;
+        values = inPlaces l;
+        are = values-of ids rises z l c;
+      }
+
+  same-values : (c : CompleteClaim (form .word) z most ids s) → c .values ≡ inPlaces (c .lines)
+  same-values c = values-one ids rises z (c .lines) (c .complete) (c .values) (c .are)
+
+  to-accepted : judge read ≡ gives matched → GoodClaim (form .word) z most ids Matches s
+  unfolding claim-of
+  to-accepted e =
+      let h = on-lines (placeIn ids) (length ids) z mismatch read matched e in
+      let m = accepted-exactly ids rises z mismatch within (h .0) .0 (h .2) in
+      record { claim = claim-of (h .0) (h .1) (m .0); matches = match (inPlaces (h .0)) .0 (m .1) }
+
+  to-mismatch : (i : ℕ) → judge read ≡ gives (mismatchAt (suc i)) → MismatchClaim (form .word) z most ids Wrong i s
+  unfolding claim-of
+  to-mismatch i e =
+      let h = on-lines (placeIn ids) (length ids) z mismatch read (mismatchAt (suc i)) e in
+      let m = mismatch-exactly ids rises z mismatch within (h .0) i .0 (h .2) in
+      record {
+        claim = claim-of (h .0) (h .1) (m .0);
+        vertex = m .1 .0;
+        first = wrong (inPlaces (h .0)) (m .1 .0) .0 (m .1 .1);
+        reported = m .1 .2;
+      }
+
+  -- a complete claim matches, or its smallest vertex at fault has a line
+  from-complete : CompleteClaim (form .word) z most ids s
+      → (judge read ≡ gives matched) ⊎ ((i : ℕ) × (judge read ≡ gives (mismatchAt (suc i))))
+  from-complete c =
+      by (mismatch (inPlaces (c .lines))) refl (within (inPlaces (c .lines)) (values-of ids rises z (c .lines) (c .complete) .long))
+    where
+      by : (m : ℕ) → mismatch (inPlaces (c .lines)) ≡ m → m ≤ length ids
+          → (judge read ≡ gives matched) ⊎ ((i : ℕ) × (judge read ≡ gives (mismatchAt (suc i))))
+      by zero e b = inl (read-as (c .file) (accepted-exactly ids rises z mismatch within (c .lines) .1 (c .complete, e)))
+      by (suc v) e b =
+          let h = line-covered ids rises (idsOf (c .lines)) (c .complete) v b in
+          inr (h .0, read-as (c .file) (mismatch-exactly ids rises z mismatch within (c .lines) (h .0) .1 (c .complete, (v, e, h .2))))
+
+  to-complete : (judge read ≡ gives matched) ⊎ ((i : ℕ) × (judge read ≡ gives (mismatchAt (suc i))))
+      → CompleteClaim (form .word) z most ids s
+  to-complete (inl e) = to-accepted e .claim
+  to-complete (inr e) = to-mismatch (e .0) (e .1) .claim
+
   pub judged-exactly : Judges (form .word) z most ids Matches Wrong s (judge read)
   judged-exactly =
       record {
+        complete = (to-complete, from-complete);
         accepted = (
-          λ e.
-              let h = on-lines (placeIn ids) (length ids) z mismatch read matched e in
-              let m = accepted-exactly ids rises z mismatch within (h .0) .0 (h .2) in
-              record {
-                lines = h .0;
-                file = claim-read form R most s (h .0) .0 (h .1);
-                complete = m .0;
-                values = inOrder (placeIn ids) z (length ids) (h .0);
-                are = values-of ids rises z (h .0) (m .0);
-                matches = match (inOrder (placeIn ids) z (length ids) (h .0)) .0 (m .1);
-              },
+          to-accepted,
           λ g.
-              read-as (g .file)
-              (accepted-exactly ids rises z mismatch within (g .lines) .1 (
-                g .complete,
-                match (inOrder (placeIn ids) z (length ids) (g .lines)) .1
-                    (subst Matches (values-one ids rises z (g .lines) (g .complete) (g .values) (g .are)) (g .matches)),
-              )),
+              read-as (g .claim .file)
+              (accepted-exactly ids rises z mismatch within (g .claim .lines) .1
+              (g .claim .complete, match (inPlaces (g .claim .lines)) .1 (subst Matches (same-values (g .claim)) (g .matches)))),
         );
         incomplete = λ i. (
           λ e.
@@ -119,28 +162,15 @@ module _ {A : Type 0} (form : Form A) (R : RightStop form) (z : A) (most : ℕ) 
           λ g. read-as (g .file) (incomplete-exactly ids rises z mismatch within (g .lines) i .1 (g .first)),
         );
         mismatched = λ i. (
-          λ e.
-              let h = on-lines (placeIn ids) (length ids) z mismatch read (mismatchAt (suc i)) e in
-              let m = mismatch-exactly ids rises z mismatch within (h .0) i .0 (h .2) in
-              record {
-                lines = h .0;
-                file = claim-read form R most s (h .0) .0 (h .1);
-                complete = m .0;
-                values = inOrder (placeIn ids) z (length ids) (h .0);
-                are = values-of ids rises z (h .0) (m .0);
-                vertex = m .1 .0;
-                first = wrong (inOrder (placeIn ids) z (length ids) (h .0)) (m .1 .0) .0 (m .1 .1);
-                reported = m .1 .2;
-              },
+          to-mismatch i,
           λ g.
-              read-as (g .file)
-              (mismatch-exactly ids rises z mismatch within (g .lines) i .1 (
-                g .complete,
+              read-as (g .claim .file)
+              (mismatch-exactly ids rises z mismatch within (g .claim .lines) i .1 (
+                g .claim .complete,
                 (
                   g .vertex,
-                  wrong (inOrder (placeIn ids) z (length ids) (g .lines)) (g .vertex) .1
-                      (subst (λ (vs : List A). Least (Wrong vs) (g .vertex))
-                      (values-one ids rises z (g .lines) (g .complete) (g .values) (g .are)) (g .first)),
+                  wrong (inPlaces (g .claim .lines)) (g .vertex) .1
+                      (subst (λ (vs : List A). Least (Wrong vs) (g .vertex)) (same-values (g .claim)) (g .first)),
                   g .reported,
                 ),
               )),
@@ -179,4 +209,4 @@ module _ (most : ℕ) (ids : List ℤ) (rises : risingZ ids ≡ true) where
   epsilon-judged any reference long s =
       judged-exactly decimalForm decimal-right any most ids rises (farVertex reference) (first-within ids near reference long)
       (Alike near (0, 1) any reference) (Differs near (0, 1) any reference)
-      (λ vs. line-exactly near (0, 1) any reference vs) (λ vs i. first-least near (0, 1) any reference vs i) s
+      (λ vs. first-exactly near (0, 1) any reference vs) (λ vs i. first-least near (0, 1) any reference vs i) s

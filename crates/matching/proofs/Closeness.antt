@@ -1,8 +1,8 @@
 -- Laws of closeness: a product without its last digits, the distance as a window, and its powers of ten cancelled. Assumes nothing.
 use mathlib.Core.Path.{_≡_, refl, sym, ap, ap₂, _∙_, subst}
-use mathlib.Core.Bool.{Bool, true, false, cond, _&&_}
+use mathlib.Core.Bool.{Bool, true, false, _&&_}
 use Prim.Native.Nat.{ℕ, zero, suc, _+_, _-_, _*_, _/_, _%_, _^_, _≤_, _<_, min}
-use native.Mathlib.Nat.{mul-le-mul-left, mul-le-mul-right, le-of-mul-le-mul-right, pow-succ', pow-le-pow-right, one-le-pow, div-add-mod'}
+use native.Mathlib.Nat.{mul-le-mul-right, le-of-mul-le-mul-right, pow-succ', one-le-pow, div-add-mod'}
 use native.Mathlib.Nat.{mod-lt, lt-of-not-le, not-le-of-lt, le-mul-of-pos-right, min-eq-left, min-eq-right, mul-one, mul-pos}
 use native.Mathlib.Nat.{pos-of-ne-zero}
 use native.Mathlib.Numerals.{add-one}

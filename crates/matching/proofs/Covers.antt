@@ -1,33 +1,33 @@
 -- What completeness means, for identifiers that rise: the claim line of a vertex, the least place at which a claim lacks a vertex, and
 -- the values in vertex order. Assumes nothing.
-use mathlib.Core.Path.{_≡_, refl, sym, ap, _∙_, subst, fun-ext}
+use mathlib.Core.Path.{_≡_, refl, sym, ap, _∙_, fun-ext}
 use mathlib.Core.Bool.{Bool, true, false, not, cond}
 use mathlib.Core.Logic.{_↔_, _⊎_, inl, inr}
 use mathlib.Core.List.{List, [], _∷_}
-use Prim.Native.Nat.{ℕ, zero, suc, _+_, _-_, _≤_, _<_}
+use Prim.Native.Nat.{ℕ, suc, _+_, _-_, _≤_, _<_}
 use native.Mathlib.Nat.{not-suc-le-zero}
 use native.Mathlib.Numerals.{add-one}
-use native.Mathlib.Decide.{ℕ-discrete, decLt}
+use native.Mathlib.Decide.{decLt}
 use native.Mathlib.Omega.{arith}
 use lib.Dec.{eqb}
 use lib.IntN.{ℤ, pos}
-use lib.ListN.{length, getD, take, length-take}
+use lib.ListN.{length, getD, take}
 use lib.Seq.{getD-take, length-take-le}
 use borrow.Author.Tests.{eqb-true, eqb-false, eq-eqb, ne-eqb, not-false}
 use Rattle.basis.specs.Order.{risingZ}
 use Rattle.basis.specs.Scan.{every, orElse}
 use Rattle.basis.proofs.Areas.{column-at, column-is, column-length}
-use Rattle.basis.proofs.Scans.{every-at}
+use Rattle.basis.proofs.Scans.{every-at, every-some}
 use Rattle.basis.proofs.Tests.{bool-cases, clash, no-case}
 use Rattle.graph.specs.declared.find.Found.{Found}
 use Rattle.graph.specs.declared.find.Found.the-variants.{At, Missing}
 use Rattle.graph.specs.Find.{placeIn, bisected}
 use Rattle.graph.proofs.Finds.{place-at, find-rising}
 use Rattle.matching.specs.Claim.{idsOf, claimedOf}
-use Rattle.matching.specs.Cover.{failingPlace, isVertex, lineFrom, lineOf, hasLine, isNew, namesNew, strayLine, incompleteLine}
-use Rattle.matching.specs.Cover.{valueOf, inOrder, reportedLine}
+use Rattle.matching.specs.Cover.{failingPlace, isVertex, itsLineFrom, itsLine, hasLine, isNew, namesNew, strayLine, incompleteLine}
+use Rattle.matching.specs.Cover.{valueOf, inOrder}
 use Rattle.matching.specs.Good.{Least, LineOf, Covers, Lacks, unknown, again, missing, ValuesOf}
-use Rattle.matching.proofs.Leasts.{Finds, finds-same, finds-later, finds-exactly, finds-none, Fails, failing-finds, every-some}
+use Rattle.matching.proofs.Leasts.{Finds, finds-same, finds-later, finds-exactly, finds-none, Fails, failing-finds}
 
 module _ (ids : List ℤ) (r : risingZ ids ≡ true) where
   -- ---- the claim line of a vertex
@@ -35,13 +35,13 @@ module _ (ids : List ℤ) (r : risingZ ids ≡ true) where
     Names : List ℤ → ℕ → Type 0
     Names named i = (i < length named) × (isVertex (placeIn ids (getD named i (pos 0))) v ≡ true)
 
-    from-finds : (k : ℕ) (named : List ℤ) → Finds (Names named) k (lineFrom (placeIn ids) (suc k) named v)
-    unfolding lineFrom Names
+    from-finds : (k : ℕ) (named : List ℤ) → Finds (Names named) k (itsLineFrom (placeIn ids) (suc k) named v)
+    unfolding itsLineFrom Names
     from-finds k [] = inl (refl, λ j h. not-suc-le-zero (h .0))
     from-finds k (x ∷ named) = by (isVertex (placeIn ids x) v) refl (rw (add-one (suc k)) (from-finds (suc k) named))
       where
-        by : (t : Bool) → isVertex (placeIn ids x) v ≡ t → Finds (Names named) (suc k) (lineFrom (placeIn ids) (suc k + 1) named v)
-            → Finds (Names (x ∷ named)) k (cond t (suc k) (lineFrom (placeIn ids) (suc k + 1) named v))
+        by : (t : Bool) → isVertex (placeIn ids x) v ≡ t → Finds (Names named) (suc k) (itsLineFrom (placeIn ids) (suc k + 1) named v)
+            → Finds (Names (x ∷ named)) k (cond t (suc k) (itsLineFrom (placeIn ids) (suc k + 1) named v))
         by true e h = inr (0, omega arith, record { here = (omega arith, e); least = λ j g. omega arith })
         by false e h =
             finds-later k (λ g. clash (g .1) e) (λ j g. (omega (arith, g .0), g .1)) (λ j g. (omega (arith, g .0), g .1)) h
@@ -58,17 +58,17 @@ module _ (ids : List ℤ) (r : risingZ ids ≡ true) where
       let h = place-at ids (getD named i (pos 0)) r v .0 e in record { vertex = h .0; line = l; names = sym (h .1) }
 
   -- the first line that names a vertex; 0 where none does
-  pub line-finds : (named : List ℤ) (v : ℕ) → Finds (LineOf ids named v) 0 (lineOf (placeIn ids) named v)
+  pub line-finds : (named : List ℤ) (v : ℕ) → Finds (LineOf ids named v) 0 (itsLine (placeIn ids) named v)
   unfolding Names
   line-finds named v =
       finds-same (λ i h. place-named (h .0) (vertex-of v (placeIn ids (getD named i (pos 0))) (h .1)))
       (λ i h. (h .line, rw (named-place h) (eq-eqb v v refl)))
       (from-finds v 0 named)
 
-  pub line-is : (named : List ℤ) (v i : ℕ) → (lineOf (placeIn ids) named v ≡ suc i) ↔ Least (LineOf ids named v) i
+  pub line-is : (named : List ℤ) (v i : ℕ) → (itsLine (placeIn ids) named v ≡ suc i) ↔ Least (LineOf ids named v) i
   line-is named v i = finds-exactly (line-finds named v) i
 
-  pub line-none : (named : List ℤ) (v : ℕ) → (lineOf (placeIn ids) named v ≡ 0) ↔ ((i : ℕ) → LineOf ids named v i → ⊥)
+  pub line-none : (named : List ℤ) (v : ℕ) → (itsLine (placeIn ids) named v ≡ 0) ↔ ((i : ℕ) → LineOf ids named v i → ⊥)
   line-none named v = finds-none (line-finds named v)
 
   -- ---- a line that names an unknown or already named vertex
@@ -90,14 +90,14 @@ module _ (ids : List ℤ) (r : risingZ ids ≡ true) where
         l = omega (arith, h .1)
 
         before : (v : ℕ) → placeIn ids (getD named i (pos 0)) ≡ At v
-            → Finds (LineOf ids (take i named) v) 0 (lineOf (placeIn ids) (take i named) v)
-            → (lineOf (placeIn ids) (take i named) v ≡ 0 → ⊥)
+            → Finds (LineOf ids (take i named) v) 0 (itsLine (placeIn ids) (take i named) v)
+            → (itsLine (placeIn ids) (take i named) v ≡ 0 → ⊥)
             → Lacks ids named i
         before v e (inl g) n = absurd (n (g .0))
         before v e (inr g) n = let f = in-front {i = i} (omega arith) (g .2 .here) in again v (g .0) (f .0) (f .1) (place-named l e)
 
         by : (f : Found) → placeIn ids (getD named i (pos 0)) ≡ f → isNew (placeIn ids) (take i named) f ≡ false → Lacks ids named i
-        by (At v) e n = before v e (line-finds (take i named) v) (eqb-false (lineOf (placeIn ids) (take i named) v) 0 n)
+        by (At v) e n = before v e (line-finds (take i named) v) (eqb-false (itsLine (placeIn ids) (take i named) v) 0 n)
         by Missing e n = unknown l (λ v g. no-case (let z : At v ≡ Missing = sym (named-place g) ∙ e in cc))
 
     new-not : (i : ℕ) → i < length named → (f : Found) → placeIn ids (getD named i (pos 0)) ≡ f → ((v : ℕ) → LineOf ids named v i → ⊥)
@@ -105,7 +105,7 @@ module _ (ids : List ℤ) (r : risingZ ids ≡ true) where
     new-not i l (At v) e n = absurd (n v (place-named l e))
     new-not i l Missing e n = refl
 
-    -- such a line is unknown or named again, and no line after the last is one
+    -- a place at which a claim lacks a vertex is such a line, or the one after the last
     lacks-stray : (i : ℕ) → Lacks ids named i → Fails (namesNew (placeIn ids) named) (length named) 0 i ⊎ (i ≡ length named)
     unfolding namesNew
     lacks-stray i (unknown l n) = inl (omega arith, omega arith, new-not i l (placeIn ids (getD named i (pos 0))) refl n)
@@ -114,12 +114,12 @@ module _ (ids : List ℤ) (r : risingZ ids ≡ true) where
           omega arith,
           omega (arith, g .line),
           rw (named-place g)
-              (ne-eqb (lineOf (placeIn ids) (take i named) v) 0
+              (ne-eqb (itsLine (placeIn ids) (take i named) v) 0
               (λ z. line-none (take i named) v .0 z j (to-front (omega (arith, g .line)) m h))),
         )
     lacks-stray i (missing e v l n) = inr e
 
-    missing-line : (i : ℕ) → Lacks ids named i → i ≡ length named → (v : ℕ) × (v < length ids) × (lineOf (placeIn ids) named v ≡ 0)
+    missing-line : (i : ℕ) → Lacks ids named i → i ≡ length named → (v : ℕ) × (v < length ids) × (itsLine (placeIn ids) named v ≡ 0)
     missing-line i (unknown l n) e = absurd (omega arith)
     missing-line i (again v j m h g) e = absurd (omega (arith, g .line))
     missing-line i (missing e v l n) q = (v, l, line-none named v .1 n)
@@ -161,14 +161,14 @@ module _ (ids : List ℤ) (r : risingZ ids ≡ true) where
             none j d (inr e) t =
                 let w = missing-line j d e in
                 clash (every-at (hasLine (placeIn ids) named) (length ids) (w .0) (w .1) t)
-                (ap not (eq-eqb (lineOf (placeIn ids) named (w .0)) 0 (w .2)))
+                (ap not (eq-eqb (itsLine (placeIn ids) named (w .0)) 0 (w .2)))
 
             last : (j : ℕ) → Fails (namesNew (placeIn ids) named) (length named) 0 j ⊎ (j ≡ length named) → length named ≤ j
             last j (inl f) = absurd (h .1 j f)
             last j (inr e) = omega arith
 
-            without : (v : ℕ) → not (eqb (lineOf (placeIn ids) named v) 0) ≡ false → lineOf (placeIn ids) named v ≡ 0
-            without v e = eqb-true (lineOf (placeIn ids) named v) 0 (not-false (eqb (lineOf (placeIn ids) named v) 0) e)
+            without : (v : ℕ) → not (eqb (itsLine (placeIn ids) named v) 0) ≡ false → itsLine (placeIn ids) named v ≡ 0
+            without v e = eqb-true (itsLine (placeIn ids) named v) 0 (not-false (eqb (itsLine (placeIn ids) named v) 0) e)
 
             lacking : every (length ids) (hasLine (placeIn ids) named) ≡ false → Lacks ids named (length named)
             lacking t =
@@ -203,11 +203,11 @@ module _ (ids : List ℤ) (r : risingZ ids ≡ true) where
                   ]
             ]
 
-        line : (v : ℕ) → v < length ids → Finds (LineOf ids named v) 0 (lineOf (placeIn ids) named v) → (i : ℕ) × LineOf ids named v i
+        line : (v : ℕ) → v < length ids → Finds (LineOf ids named v) 0 (itsLine (placeIn ids) named v) → (i : ℕ) × LineOf ids named v i
         line v l (inl f) = absurd (n (length named) (missing refl v l (f .1)))
         line v l (inr f) = (f .0, f .2 .here)
 
-    pub none-lacks : Covers ids named → (i : ℕ) → Lacks ids named i → ⊥
+    none-lacks : Covers ids named → (i : ℕ) → Lacks ids named i → ⊥
     none-lacks c i (unknown l n) = n (c .known i l .0) (c .known i l .1)
     none-lacks c i (again v j m h g) = omega (arith, c .once v j i h g)
     none-lacks c i (missing e v l n) = n (c .all v l .0) (c .all v l .1)
@@ -217,11 +217,11 @@ module _ (ids : List ℤ) (r : risingZ ids ≡ true) where
 
     -- a covered vertex has one claim line
     module _ (c : Covers ids named) where
-      pub covered-line : (v i : ℕ) → LineOf ids named v i → lineOf (placeIn ids) named v ≡ suc i
+      pub covered-line : (v i : ℕ) → LineOf ids named v i → itsLine (placeIn ids) named v ≡ suc i
       covered-line v i h =
           line-is named v i .1 (record { here = h; least = λ j g. omega (arith, c .once v i j h g) })
 
-      pub line-covered : (v : ℕ) → v < length ids → (i : ℕ) × (lineOf (placeIn ids) named v ≡ suc i) × LineOf ids named v i
+      pub line-covered : (v : ℕ) → v < length ids → (i : ℕ) × (itsLine (placeIn ids) named v ≡ suc i) × LineOf ids named v i
       line-covered v l = let w = c .all v l in (w .0, covered-line v (w .0) (w .1), w .1)
 
   -- ---- the values in vertex order
@@ -233,7 +233,7 @@ module _ (ids : List ℤ) (r : risingZ ids ≡ true) where
           long = column-length (valueOf (placeIn ids) z l) 0 (length ids);
           from = λ v i h.
               column-at (valueOf (placeIn ids) z l) (length ids) v z (h .vertex)
-              ∙ ap (λ (k : ℕ). getD (claimedOf l) k z) (let e = covered-line (idsOf l) c v i h in omega arith);
+              ∙ ap (λ (k : ℕ). getD (z ∷ claimedOf l) k z) (covered-line (idsOf l) c v i h);
         }
 
     pub values-one : (values : List A) → ValuesOf z ids l values → values ≡ inOrder (placeIn ids) z (length ids) l

@@ -1,20 +1,20 @@
 -- What the loop over a claim's decimals keeps, and how it ends. Assumes nothing.
 use mathlib.Core.Path.{_≡_, refl, sym, ap, ap₂, _∙_}
-use mathlib.Core.Bool.{Bool, true, false, not, cond, _&&_, _||_}
+use mathlib.Core.Bool.{Bool, true, false, not, cond, _||_}
 use mathlib.Core.List.{List, [], _∷_, _++_}
 use Prim.Native.Nat.{ℕ, zero, suc, _+_, _^_, _≤_, _<_}
 use native.Mathlib.Decide.{ℕ-discrete}
 use native.Mathlib.Omega.{arith}
 use lib.Dec.{ltb, eqb}
 use lib.IntN.{ℤ}
-use lib.ListN.{length, getD, replicate, length-replicate}
+use lib.ListN.{length, replicate, length-replicate}
 use mir.Syntax.{w64}
 use mir.Val.{toZ, ofZ}
 use borrow.Author.Tests.{lt-ltb, le-ltb, eq-eqb, ne-eqb}
-use Rattle.basis.specs.Area.{cleared, column}
-use Rattle.basis.specs.Refusal.{Said, gives, refuses, atColumn, at, plain, noRoom, tooMany, claimFile}
+use Rattle.basis.specs.Area.{cleared}
+use Rattle.basis.specs.Refusal.{gives, refuses, atColumn, at, plain, noRoom, tooMany, claimFile}
 use Rattle.basis.specs.declared.refusal.Refusal.{Refusal}
-use Rattle.basis.proofs.Tests.{bool-cases, failed, held, and-off}
+use Rattle.basis.proofs.Tests.{failed, held, and-off}
 use Rattle.text.specs.Line.{line, pairForm, decimalForm, coefficientLine, coefficientSays}
 use Rattle.text.specs.File.{noTest}
 use Rattle.text.specs.declared.decimal.Decimal.{Decimal}
@@ -29,14 +29,15 @@ use Rattle.graph.specs.Find.{bisected}
 use Rattle.matching.specs.declared.judged.Judged.{Judged}
 use Rattle.matching.specs.Close.{isClose}
 use Rattle.matching.specs.Claim.{coefficientLines, idsOf}
-use Rattle.matching.specs.Cover.{failingPlace, lineFrom, lineOf, incompleteLine, valueOf, inOrder, reportedLine}
-use Rattle.matching.specs.Verdict.{Verdict, verdictOf, says, judgedBy}
-use Rattle.matching.specs.Calls.{nearWithin, farWithin, fractionIn, fractions, noDecimal, roomIn, coefficientsJudged, told}
+use Rattle.matching.specs.Cover.{failingPlace, itsLineFrom, itsLine, incompleteLine, valueOf, inOrder, reportedLine}
+use Rattle.matching.specs.Verdict.{verdictOf, says, judgedBy}
+use Rattle.matching.specs.Calls.{nearWithin, farWithin, fractionIn, fractions, noDecimal, roomInThree, told}
 use Rattle.matching.specs.Calls.{coefficientsCall}
 use Rattle.matching.specs.Steps.{newIn, setAt, strayStep, lesserFault, farStep, endLine, reportedIn, JudgedOf}
 use Rattle.matching.proofs.FirstPlaces.{bits-back, failing-same, failing-bound, first-column}
 use Rattle.matching.proofs.Leasts.{failing-now}
 use Rattle.matching.proofs.Covering.{Grown, Recorded, recorded-none, grown, recorded-next, recorded-end, value-old, value-new}
+use Rattle.matching.proofs.Covering.{maps-reported}
 use Rattle.matching.proofs.Readings.{ids-more, ids-length}
 use Rattle.matching.proofs.NumberLines.{found-within, end-zero}
 
@@ -58,7 +59,7 @@ module _ (a b : ℕ) (s : Decimal) where
 -- a vertex has no claim line yet, or its decimal is near
 unfoldable pub nearYet : List ℤ → List ℕ → List ℕ → List (ℤ × Decimal) → ℕ → Bool
 nearYet ids nums dens done v =
-    eqb (lineOf (bisected ids) (idsOf done) v) 0 || nearWithin (fractionIn nums dens v) (valueOf (bisected ids) noDecimal done v)
+    eqb (itsLine (bisected ids) (idsOf done) v) 0 || nearWithin (fractionIn nums dens v) (valueOf (bisected ids) noDecimal done v)
 
 pub record Decimals (most : ℕ) (ids : List ℤ) (nums dens s : List ℕ) (width : ℕ) (lines : List ℕ) (place k stray far : ℕ) : Type 0 where
   pub done : List (ℤ × Decimal)
@@ -69,7 +70,7 @@ pub record Decimals (most : ℕ) (ids : List ℤ) (nums dens s : List ℕ) (widt
 
 module _ (most : ℕ) (ids : List ℤ) (nums dens s : List ℕ) where
   none-far : (n i : ℕ) → 0 ≡ failingPlace (nearYet ids nums dens []) n i
-  unfolding failingPlace nearYet lineFrom
+  unfolding failingPlace nearYet itsLineFrom
   none-far zero i = refl
   none-far (suc n) i = none-far n (i + 1)
 
@@ -100,7 +101,7 @@ module _ (most : ℕ) (ids : List ℤ) (nums dens s : List ℕ) where
         covered = sym (recorded-end (bisected ids) (h .recorded))
 
         -- all vertices have their lines
-        whole : endLine lines (length ids) k stray ≡ 0 → (v : ℕ) → v < length ids → lineOf (bisected ids) (idsOf (h .done)) v ≡ 0 → ⊥
+        whole : endLine lines (length ids) k stray ≡ 0 → (v : ℕ) → v < length ids → itsLine (bisected ids) (idsOf (h .done)) v ≡ 0 → ⊥
         whole z v m g = end-zero lines (length ids) k stray z v m (h .recorded .maps v m ∙ g)
 
         fault : endLine lines (length ids) k stray ≡ 0
@@ -109,12 +110,8 @@ module _ (most : ℕ) (ids : List ℤ) (nums dens s : List ℕ) where
             h .fars
             ∙ failing-same (nearYet ids nums dens (h .done))
             (λ v. nearWithin (fractionIn nums dens v) (valueOf (bisected ids) noDecimal (h .done) v)) (length ids) 0
-            (λ v a b. rw (ne-eqb (lineOf (bisected ids) (idsOf (h .done)) v) 0 (whole z v (omega arith))))
+            (λ v a b. rw (ne-eqb (itsLine (bisected ids) (idsOf (h .done)) v) 0 (whole z v (omega arith))))
             ∙ sym (first-column nearWithin (fractionIn nums dens) (valueOf (bisected ids) noDecimal (h .done)) (length ids) 0)
-
-        told-line : (f : ℕ) → f ≤ length ids → reportedIn lines f ≡ reportedLine (bisected ids) (idsOf (h .done)) f
-        told-line zero m = refl
-        told-line (suc v) m = h .recorded .maps v m
 
         by : (i : ℕ) → i ≡ endLine lines (length ids) k stray
             → verdictOf i l ≡ verdictOf (incompleteLine (bisected ids) (length ids) (idsOf (h .done)))
@@ -122,20 +119,16 @@ module _ (most : ℕ) (ids : List ℤ) (nums dens s : List ℕ) where
             (farWithin (fractions (length ids) nums dens) (inOrder (bisected ids) noDecimal (length ids) (h .done))))
         by zero q =
             let b = failing-bound (nearYet ids nums dens (h .done)) (length ids) 0 in
-            rw (covered, ← q, ← fault (sym q)) (ap (verdictOf 0) (p ∙ told-line far (omega (arith, h .fars))))
+            rw (covered, ← q, ← fault (sym q)) (ap (verdictOf 0)
+            (p ∙ maps-reported (bisected ids) (length ids) (idsOf (h .done)) lines (h .recorded .maps) far (omega (arith, h .fars))))
         by (suc i) q = rw (covered, ← q)
 
     -- a vertex whose line is as before
     yet-same : (id : ℤ) (d : Decimal) (u : ℕ)
-        → lineOf (bisected ids) (idsOf (h .done ++ ((id, d) ∷ []))) u ≡ lineOf (bisected ids) (idsOf (h .done)) u
+        → itsLine (bisected ids) (idsOf (h .done ++ ((id, d) ∷ []))) u ≡ itsLine (bisected ids) (idsOf (h .done)) u
         → nearYet ids nums dens (h .done ++ ((id, d) ∷ [])) u ≡ nearYet ids nums dens (h .done) u
     unfolding nearYet
-    yet-same id d u e =
-        elim (ℕ-discrete (lineOf (bisected ids) (idsOf (h .done)) u) 0)
-        as (λ _. nearYet ids nums dens (h .done ++ ((id, d) ∷ [])) u ≡ nearYet ids nums dens (h .done) u) [
-          | yes q ↦ rw (e, eq-eqb (lineOf (bisected ids) (idsOf (h .done)) u) 0 q)
-          | no n ↦ rw (e, value-old (bisected ids) noDecimal (h .done) (id, d) u n e)
-        ]
+    yet-same id d u e = rw (e, value-old (bisected ids) noDecimal (h .done) (id, d) u e)
 
     -- the smallest vertex at fault, after a line that names a new vertex or none
     far-next : (id : ℤ) (d : Decimal) (r : Found) → Grown (bisected ids) (length ids) (idsOf (h .done)) id r
@@ -149,16 +142,16 @@ module _ (most : ℕ) (ids : List ℤ) (nums dens s : List ℕ) where
         after : ℕ → Bool
         after = nearYet ids nums dens (h .done ++ ((id, d) ∷ []))
 
-        line : lineOf (bisected ids) (idsOf (h .done ++ ((id, d) ∷ []))) v ≡ length (h .done) + 1
+        line : itsLine (bisected ids) (idsOf (h .done ++ ((id, d) ∷ []))) v ≡ length (h .done) + 1
         line = rw (ids-more (h .done) (id, d)) (g .line) ∙ ap (λ (j : ℕ). j + 1) (ids-length (h .done))
 
         now : after v ≡ nearWithin (fractionIn nums dens v) d
         now =
-            rw (ne-eqb (lineOf (bisected ids) (idsOf (h .done ++ ((id, d) ∷ []))) v) 0 (λ z. omega (arith, line)))
+            rw (ne-eqb (itsLine (bisected ids) (idsOf (h .done ++ ((id, d) ∷ []))) v) 0 (λ z. omega (arith, line)))
             (ap (nearWithin (fractionIn nums dens v)) (value-new (bisected ids) noDecimal (h .done) (id, d) v line))
 
         held-before : before v ≡ true
-        held-before = rw (eq-eqb (lineOf (bisected ids) (idsOf (h .done)) v) 0 (g .before))
+        held-before = rw (eq-eqb (itsLine (bisected ids) (idsOf (h .done)) v) 0 (g .before))
 
         others : (u : ℕ) → u < length ids → (u ≡ v → ⊥) → after u ≡ before u
         others u m n =
@@ -237,20 +230,20 @@ module _ (most : ℕ) (ids : List ℤ) (nums dens s : List ℕ) where
 
   -- ---- the whole call, by the test of room t, with the record cleared first
   module _ (lines : List ℕ) {before : List ℕ} (c : before ≡ cleared lines)
-      {t : Bool} (e : t ≡ roomIn (length ids) (length nums) (length dens) (length before)) where
+      {t : Bool} (e : t ≡ roomInThree (length ids) (length nums) (length dens) (length before)) where
     wide : length before ≡ length lines
     wide = ap length c ∙ length-replicate (length lines) 0
 
     pub coefficients-short : not t ≡ true → (r : Refusal) → r ≡ plain noRoom
         → told (refuses r) before ≡ coefficientsCall most ids nums dens s lines
     unfolding coefficientsCall
-    coefficients-short f r q = let k : roomIn (length ids) (length nums) (length dens) (length lines) ≡ false
-        = ap (roomIn (length ids) (length nums) (length dens)) (sym wide) ∙ failed t _ e f in rw (k, q, c)
+    coefficients-short f r q = let k : roomInThree (length ids) (length nums) (length dens) (length lines) ≡ false
+        = ap (roomInThree (length ids) (length nums) (length dens)) (sym wide) ∙ failed t _ e f in rw (k, q, c)
 
     pub coefficients-done : not t ≡ false → (left : List ℕ) (j : Judged) → JudgedOf most ids nums dens s (length before) left (says j)
         → (end : List ℕ) → end ≡ cleared left → told (says j) end ≡ coefficientsCall most ids nums dens s lines
     unfolding coefficientsCall
     coefficients-done f left j h end q =
-        let k : roomIn (length ids) (length nums) (length dens) (length lines) ≡ true
-        = ap (roomIn (length ids) (length nums) (length dens)) (sym wide) ∙ held t _ e f in
+        let k : roomInThree (length ids) (length nums) (length dens) (length lines) ≡ true
+        = ap (roomInThree (length ids) (length nums) (length dens)) (sym wide) ∙ held t _ e f in
         rw k (ap₂ told (h .tells) (q ∙ ap (λ (m : ℕ). replicate m 0) (h .wide ∙ wide)))

@@ -17,9 +17,9 @@ use Rattle.text.specs.Line.{lineBy, twoOf, twoStop}
 use Rattle.text.specs.File.{linesFrom, valuesFrom}
 use Rattle.matching.specs.Close.{isClose}
 use Rattle.matching.specs.Claim.{numberLines, coefficientLines}
-use Rattle.matching.specs.Cover.{failingPlace, lineFrom, namesNew, strayLine, incompleteLine, valueOf}
+use Rattle.matching.specs.Cover.{failingPlace, itsLineFrom, namesNew, strayLine, incompleteLine, valueOf}
 use Rattle.matching.specs.Verdict.{Verdict, matched, incompleteAt, mismatchAt, Fraction, firstPlace}
-use Rattle.matching.specs.Verdict.{unequalVertex, farVertex, judgedBy}
+use Rattle.matching.specs.Verdict.{unequalVertex, sameKind, agrees, unlikeVertex, farVertex, judgedBy}
 use Rattle.matching.specs.Calls.{noDecimal}
 
 -- a claim on one vertex, number 1, of which the coefficient is r
@@ -30,6 +30,16 @@ coefficientClaim r s = judgedBy (placeIn (pos 1 ∷ [])) 1 noDecimal (farVertex 
 abbrev depthClaim : ℕ → List ℕ → Said Verdict
 depthClaim most s =
     judgedBy (placeIn (pos 1 ∷ pos 2 ∷ pos 3 ∷ [])) 3 (pos 0) (unequalVertex (pos 0 ∷ pos 1 ∷ pos 1 ∷ [])) (numberLines most s)
+
+-- one on the same vertices, of components 1, 1 and 3
+abbrev groupClaim : List ℕ → Said Verdict
+groupClaim s =
+    judgedBy (placeIn (pos 1 ∷ pos 2 ∷ pos 3 ∷ [])) 3 (pos 0) (unlikeVertex (pos 1 ∷ pos 1 ∷ pos 3 ∷ [])) (numberLines mostVertices s)
+
+-- one on vertices 1 and 2, of coefficients 1/2
+abbrev halvesClaim : List ℕ → Said Verdict
+halvesClaim s =
+    judgedBy (placeIn (pos 1 ∷ pos 2 ∷ [])) 2 noDecimal (farVertex ((1, 2) ∷ (1, 2) ∷ [])) (coefficientLines mostVertices s)
 
 -- what is said of some claims
 pub record Others : Type 0 where
@@ -46,6 +56,11 @@ pub record Others : Type 0 where
   pub lacking : depthClaim 3 (bytes "3 1\n1 0\n") ≡ gives (incompleteAt 3)
   pub beyond : depthClaim 4 (bytes "3 1\n1 0\n2 1\n1 0\n") ≡ gives (incompleteAt 4)
   pub nothing : depthClaim 3 (bytes "") ≡ gives (incompleteAt 1)
+  -- the same of labels and of coefficients: vertex 3 disagrees with vertex 1; vertex 1 is far off, and vertex 2 too
+  pub apart : groupClaim (bytes "3 7\n1 7\n2 7\n") ≡ gives (mismatchAt 1)
+  pub together : groupClaim (bytes "3 4\n1 7\n2 7\n") ≡ gives matched
+  pub farOff : halvesClaim (bytes "2 1.0\n1 1.0\n") ≡ gives (mismatchAt 2)
+  pub halves : halvesClaim (bytes "2 0.5\n1 5.0e-01\n") ≡ gives matched
   pub tooMany : depthClaim 2 (bytes "1 0\n2 1\nx") ≡ refuses (at 1 3 3)
   pub malformed : depthClaim 3 (bytes "2 0\n2 1\n3 01\n") ≡ refuses (atColumn 2 3 3 4)
   pub outside : depthClaim 3 (bytes "2 0\n2 9223372036854775808\n") ≡ refuses (at 3 3 2)
@@ -63,9 +78,9 @@ pub record Others : Type 0 where
   pub largestDown : coefficientClaim (1, 4294770690) (bytes "1 99999999999999999e-99\n") ≡ gives (mismatchAt 1)
 
 pub others : Others
-unfolding judgedBy failingPlace lineFrom namesNew strayLine incompleteLine valueOf placeFrom column firstPlace every each mem linesFrom
-    valuesFrom lineBy twoOf twoStop isClose decimalOf fractionOf partsOf powerAt
-    signedPower wholeIsGood pastPoint digitOf within isSign digitsStop powerStop partsStop fractionStop decimalStop
+unfolding judgedBy failingPlace itsLineFrom namesNew strayLine incompleteLine valueOf placeFrom column firstPlace sameKind agrees
+    unlikeVertex every each mem linesFrom valuesFrom lineBy twoOf twoStop isClose decimalOf fractionOf partsOf powerAt signedPower
+    wholeIsGood pastPoint digitOf within isSign digitsStop powerStop partsStop fractionStop decimalStop
 others = record {
   matches = refl;
   mismatches = refl;
@@ -78,6 +93,10 @@ others = record {
   lacking = refl;
   beyond = refl;
   nothing = refl;
+  apart = refl;
+  together = refl;
+  farOff = refl;
+  halves = refl;
   tooMany = refl;
   malformed = refl;
   outside = refl;

@@ -1,41 +1,30 @@
 -- Laws of first places: of two lists side by side, and of places that fail a test. Assumes nothing.
 use mathlib.Core.Path.{_≡_, refl, sym, ap, ap₂, _∙_}
-use mathlib.Core.Bool.{Bool, true, false, not, cond, _&&_}
-use mathlib.Core.List.{List, [], _∷_, _++_, append-assoc, append-nil}
-use Prim.Native.Nat.{ℕ, zero, suc, _+_, _-_, _^_, _≤_, _<_}
+use mathlib.Core.Bool.{Bool, true, false, not, cond}
+use mathlib.Core.List.{List, [], _∷_}
+use Prim.Native.Nat.{ℕ, zero, suc, _+_, _-_, _^_, _≤_, _<_, min}
 use native.Mathlib.Numerals.{add-one}
 use native.Mathlib.Omega.{arith}
-use lib.Dec.{ltb, leb}
+use lib.Dec.{leb}
 use lib.IntN.{ℤ}
 use lib.Signed.{mag}
-use lib.ListN.{length, getD, drop, set, drop-of-length-le}
+use lib.ListN.{length, getD, drop, drop-of-length-le}
 use lib.Seq.{drop-cons}
-use borrow.Author.Tests.{lt-ltb, le-ltb, le-leb, lt-leb, ltb-true, ltb-false, leb-true}
+use borrow.Author.Tests.{leb-true}
 use mir.Syntax.{w64}
 use mir.Val.{toZ, ofZ, hbits}
 use mir.Facts.{toZ-ofZ}
-use Rattle.basis.specs.Order.{sameZ}
-use Rattle.basis.proofs.Tests.{bool-cases, held, and-first, and-second}
+use Rattle.basis.proofs.Orders.{leb-min}
+use Rattle.basis.proofs.Tests.{held, and-first, and-second}
 use Rattle.basis.specs.Scan.{orElse}
+use Rattle.basis.proofs.Scans.{or-more}
 use Rattle.basis.specs.Area.{column}
 use Rattle.matching.specs.Cover.{failingPlace}
 use Rattle.matching.specs.Verdict.{firstPlace}
-use Rattle.matching.specs.Calls.{roomIn}
+use Rattle.matching.specs.Calls.{roomInThree}
 
 drop-one : {A : Type 0} (x : A) (l : List A) (i : ℕ) → i < length l → drop i l ≡ getD l i x ∷ drop (i + 1) l
 drop-one x l i h = drop-cons l i x h ∙ ap (λ (k : ℕ). getD l i x ∷ drop k l) (sym (add-one i))
-
--- ---- a line or a fault that was found before, or another
-orElse-more : (k l : ℕ) → orElse (k + 1) l ≡ k + 1
-orElse-more k l = rw (add-one k)
-
-pub or-kept : (k l : ℕ) → (k ≡ 0 → ⊥) → k ≡ orElse k l
-or-kept zero l h = absurd (h refl)
-or-kept (suc k) l h = refl
-
-pub or-zero : (k : ℕ) → orElse k 0 ≡ k
-or-zero zero = refl
-or-zero (suc k) = refl
 
 -- ---- two lists of one length, from place i on
 module _ {A B : Type 0} (alike : A → B → Bool) (x : A) (y : B) (a : List A) (b : List B) (e : length a ≡ length b) (i : ℕ) where
@@ -76,7 +65,7 @@ failing-more p (suc n) i = by (p i) (failing-more p n (i + 1))
         → cond t (failingPlace p (suc n) (i + 1)) (i + 1)
         ≡ orElse (cond t (failingPlace p n (i + 1)) (i + 1)) (cond (p (i + suc n)) 0 (i + suc n + 1))
     by true h = let e : i + 1 + n ≡ i + suc n = omega arith in rw e at h
-    by false h = sym (orElse-more i _)
+    by false h = sym (or-more i _)
 
 pub failing-same : (p q : ℕ → Bool) (n i : ℕ) → ((j : ℕ) → i ≤ j → j < i + n → p j ≡ q j) → failingPlace p n i ≡ failingPlace q n i
 unfolding failingPlace
@@ -119,17 +108,11 @@ first-column alike f g (suc n) i =
 
 -- ---- three tests of room
 module _ (n first second third : ℕ) where
-  pub room-first-short : first < n → false ≡ roomIn n first second third
-  room-first-short h = rw (lt-leb n first h)
-
-  pub room-second-short : n ≤ first → second < n → false ≡ roomIn n first second third
-  room-second-short h g = rw (le-leb n first h, lt-leb n second g)
-
-  pub room-rest : n ≤ first → n ≤ second → leb n third ≡ roomIn n first second third
-  room-rest h g = rw (le-leb n first h, le-leb n second g)
+  pub room-all : {m o : ℕ} → m ≡ min second third → o ≡ min first m → leb n o ≡ roomInThree n first second third
+  room-all p q = rw (q, p, leb-min n first (min second third), leb-min n second third)
 
   -- what the answer t of all tests says
-  module _ {t : Bool} (e : t ≡ roomIn n first second third) (f : not t ≡ false) where
+  module _ {t : Bool} (e : t ≡ roomInThree n first second third) (f : not t ≡ false) where
     pub room-first : n ≤ first
     room-first = leb-true n first (and-first (leb n first) _ (held t _ e f))
 

@@ -1,10 +1,10 @@
 -- Laws of the verdict on a claim that was read: one for each way out of the code. Assumes nothing.
 use mathlib.Core.Path.{_≡_, refl, sym, ap, ap₂, _∙_}
-use mathlib.Core.Bool.{Bool, true, false, not, cond, _&&_}
+use mathlib.Core.Bool.{Bool, true, false, not, cond}
 use mathlib.Core.List.{List}
 use Prim.Native.Nat.{ℕ, zero, suc, _≤_}
 use native.Mathlib.Omega.{arith}
-use lib.Dec.{eqb, leb}
+use lib.Dec.{eqb}
 use lib.IntN.{ℤ, pos}
 use lib.ListN.{length, take, replicate, length-replicate}
 use lib.Seq.{length-take-le}
@@ -24,8 +24,9 @@ use Rattle.matching.specs.Claim.{numberLines, idsOf}
 use Rattle.matching.specs.Cover.{incompleteLine, inOrder, reportedLine}
 use Rattle.matching.specs.Verdict.{Verdict, matched, incompleteAt, mismatchAt, says, unequalVertex}
 use Rattle.matching.specs.Verdict.{agrees, unlikeVertex, mismatchVertex, verdictOf, judgedBy}
-use Rattle.matching.specs.Calls.{outcome, roomIn, numbersCall}
-use Rattle.matching.specs.Steps.{reportedIn, Maps, ReadOf, readJudged}
+use Rattle.matching.specs.Calls.{outcome, roomInThree, numbersCall}
+use Rattle.matching.specs.Steps.{reportedIn, ReadOf, readJudged}
+use Rattle.matching.proofs.Covering.{maps-reported}
 use Rattle.matching.proofs.FirstPlaces.{failing-bound, first-bound, room-first, room-second, room-third}
 
 -- ---- what is said tells the answers apart
@@ -43,7 +44,7 @@ heard-back (J.Refused r) = refl
 pub says-apart : (i j : Judged) → says i ≡ says j → i ≡ j
 says-apart i j e = sym (heard-back i) ∙ ap heard e ∙ heard-back j
 
--- ---- by the first incomplete line and the first mismatch
+-- ---- by the first incomplete line and the line of the mismatch
 pub verdict-incomplete : (incomplete mismatch : ℕ) → (incomplete ≡ 0 → ⊥)
     → gives (incompleteAt incomplete) ≡ gives (verdictOf incomplete mismatch)
 verdict-incomplete zero mismatch h = absurd (h refl)
@@ -94,7 +95,7 @@ fault-inside rule a b lines h m q = let l = mismatch-bound rule a b (h .0) in om
 
 -- ---- what was read, where there was room in areas of these sizes
 module _ (most : ℕ) (ids reference : List ℤ) (s : List ℕ) (size width : ℕ) {t : Bool}
-    (e : t ≡ roomIn (length ids) (length reference) size width) (f : not t ≡ false) (mid : List ℤ) (record′ : List ℕ) (read : Read)
+    (e : t ≡ roomInThree (length ids) (length reference) size width) (f : not t ≡ false) (mid : List ℤ) (record′ : List ℕ) (read : Read)
     (h : ReadOf most ids s size width mid record′ read) where
   pub judge-kept : length ids ≤ length mid
   judge-kept = omega (arith, room-second (length ids) (length reference) size width e f, h .kept)
@@ -110,23 +111,18 @@ module _ (most : ℕ) (ids reference : List ℤ) (s : List ℕ) (size width : �
 -- ---- the whole call, by the test of room t, with the record cleared first
 module _ (rule : Rule) (most : ℕ) (ids reference : List ℤ) (s : List ℕ) (claimed : List ℤ) (lines : List ℕ)
     {before : List ℕ} (c : before ≡ cleared lines)
-    {t : Bool} (e : t ≡ roomIn (length ids) (length reference) (length claimed) (length before)) where
+    {t : Bool} (e : t ≡ roomInThree (length ids) (length reference) (length claimed) (length before)) where
   wide : length before ≡ length lines
   wide = ap length c ∙ length-replicate (length lines) 0
 
-  rooms : roomIn (length ids) (length reference) (length claimed) (length lines)
-      ≡ roomIn (length ids) (length reference) (length claimed) (length before)
-  rooms = ap (roomIn (length ids) (length reference) (length claimed)) (sym wide)
+  rooms : roomInThree (length ids) (length reference) (length claimed) (length lines)
+      ≡ roomInThree (length ids) (length reference) (length claimed) (length before)
+  rooms = ap (roomInThree (length ids) (length reference) (length claimed)) (sym wide)
 
   pub judge-short : not t ≡ true → (r : Refusal) → r ≡ plain noRoom → (left : List ℤ) → left ≡ clearedZ claimed
       → outcome (refuses r) left before ≡ numbersCall rule most ids reference s claimed lines
   unfolding numbersCall
   judge-short f r q left g = rw (rooms ∙ failed t _ e f, q, g, c)
-
-  told-line : (n : ℕ) (named : List ℤ) (record′ : List ℕ) → Maps (bisected ids) n named record′ → (m : ℕ) → m ≤ n
-      → reportedIn record′ m ≡ reportedLine (bisected ids) named m
-  told-line n named record′ maps zero l = refl
-  told-line n named record′ maps (suc v) l = maps v l
 
   read-as : not t ≡ false → (mid : List ℤ) (record′ : List ℕ) (read : Read)
       → ReadOf most ids s (length claimed) (length before) mid record′ read
@@ -147,7 +143,7 @@ module _ (rule : Rule) (most : ℕ) (ids reference : List ℤ) (s : List ℕ) (c
           let short = length-take-le (length ids) mid
           (judge-kept most ids reference s (length claimed) (length before) e f mid record′ (Lines i) h) in
           rw (← p, ← v refl)
-          (ap (verdictOf 0) (told-line (length ids) (idsOf (h .tells .lines)) record′ (h .tells .maps)
+          (ap (verdictOf 0) (maps-reported (bisected ids) (length ids) (idsOf (h .tells .lines)) record′ (h .tells .maps)
           (mismatchVertex rule (take (length ids) reference) (take (length ids) mid))
           (omega (arith, mismatch-bound rule (take (length ids) reference) (take (length ids) mid) long))))
       by (suc i) p v = rw (← p)

@@ -1,9 +1,9 @@
 -- A first place is the least at fault, both ways, and 0 exactly where no place is. Assumes nothing.
 use mathlib.Core.Path.{_≡_, refl, sym, ap, _∙_, subst}
-use mathlib.Core.Bool.{Bool, true, false, cond, _&&_}
+use mathlib.Core.Bool.{Bool, true, false, cond}
 use mathlib.Core.Logic.{_↔_, _⊎_, inl, inr}
 use mathlib.Core.List.{List, [], _∷_}
-use Prim.Native.Nat.{ℕ, zero, suc, _+_, _≤_, _<_, min}
+use Prim.Native.Nat.{ℕ, zero, suc, _+_, _≤_, _<_}
 use native.Mathlib.Nat.{not-suc-le-zero, min-eq-left, min-eq-right}
 use native.Mathlib.Omega.{arith}
 use native.Mathlib.Decide.{decLt, ℕ-discrete}
@@ -11,9 +11,8 @@ use lib.Dec.{eqb}
 use lib.IntN.{ℤ}
 use lib.ListN.{length, getD}
 use borrow.Author.Tests.{eqb-true, eqb-false}
-use Rattle.basis.specs.Scan.{every}
 use Rattle.basis.proofs.Tests.{clash, bool-cases}
-use Rattle.basis.proofs.Scans.{every-fail}
+use Rattle.basis.proofs.Scans.{every-fail, every-some}
 use Rattle.matching.specs.Cover.{failingPlace}
 use Rattle.matching.specs.Verdict.{firstPlace, sameKind, agrees, unlikeVertex}
 use Rattle.matching.specs.Steps.{lesserFault}
@@ -85,12 +84,12 @@ module _ {A B : Type 0} (alike : A → B → Bool) (x : A) (y : B) where
     at-first e (missing p q) = not-suc-le-zero p
     at-first e (surplus p q) = not-suc-le-zero p
 
-  line-finds : (k : ℕ) (xs : List A) (ys : List B) → Finds (At xs ys) k (firstPlace alike (k + 1) xs ys)
+  first-finds : (k : ℕ) (xs : List A) (ys : List B) → Finds (At xs ys) k (firstPlace alike (k + 1) xs ys)
   unfolding firstPlace
-  line-finds k [] [] = inl (refl, none-at)
-  line-finds k [] (b ∷ ys) = inr (0, omega arith, record { here = surplus (omega arith) (omega arith); least = λ j d. omega arith })
-  line-finds k (a ∷ xs) [] = inr (0, omega arith, record { here = missing (omega arith) (omega arith); least = λ j d. omega arith })
-  line-finds k (a ∷ xs) (b ∷ ys) = by (alike a b) refl (line-finds (k + 1) xs ys)
+  first-finds k [] [] = inl (refl, none-at)
+  first-finds k [] (b ∷ ys) = inr (0, omega arith, record { here = surplus (omega arith) (omega arith); least = λ j d. omega arith })
+  first-finds k (a ∷ xs) [] = inr (0, omega arith, record { here = missing (omega arith) (omega arith); least = λ j d. omega arith })
+  first-finds k (a ∷ xs) (b ∷ ys) = by (alike a b) refl (first-finds (k + 1) xs ys)
     where
       by : (t : Bool) → alike a b ≡ t → Finds (At xs ys) (k + 1) (firstPlace alike (k + 1 + 1) xs ys)
           → Finds (At (a ∷ xs) (b ∷ ys)) k (cond t (firstPlace alike (k + 1 + 1) xs ys) (k + 1))
@@ -102,7 +101,7 @@ module _ {A B : Type 0} (alike : A → B → Bool) (x : A) (y : B) where
   module _ (xs : List A) (ys : List B) where
     -- a first place is the least at which the second list differs from the first, counted from 1
     pub first-least : (i : ℕ) → (firstPlace alike 1 xs ys ≡ suc i) ↔ Least (Differs alike x y xs ys) i
-    first-least i = finds-exactly (line-finds 0 xs ys) i
+    first-least i = finds-exactly (first-finds 0 xs ys) i
 
     alike-of : ((j : ℕ) → At xs ys j → ⊥) → Alike alike x y xs ys
     alike-of n =
@@ -129,8 +128,8 @@ module _ {A B : Type 0} (alike : A → B → Bool) (x : A) (y : B) where
     none-differs h j (surplus p q) = omega (arith, h .long)
 
     -- there is none exactly where the two are alike at every place
-    pub line-exactly : (firstPlace alike 1 xs ys ≡ 0) ↔ Alike alike x y xs ys
-    line-exactly = let f = finds-none (line-finds 0 xs ys) in (λ e. alike-of (f .0 e), λ h. f .1 (none-differs h))
+    pub first-exactly : (firstPlace alike 1 xs ys ≡ 0) ↔ Alike alike x y xs ys
+    first-exactly = let f = finds-none (first-finds 0 xs ys) in (λ e. alike-of (f .0 e), λ h. f .1 (none-differs h))
 
 -- ---- the places from i on that fail a test
 abbrev pub Fails : (ℕ → Bool) → ℕ → ℕ → ℕ → Type 0
@@ -209,16 +208,6 @@ module _ (p q : ℕ → Bool) (n v : ℕ) (l : v < n) (e : p v ≡ true) (same :
   failing-now f = finds-one (failing-finds q n 0) (fails-now f (failing-finds p n 0))
 
 -- ---- vertices that disagree in kind with a smaller one
-pub every-some : (p : ℕ → Bool) (n : ℕ) → every n p ≡ false → (i : ℕ) × (i < n) × (p i ≡ false)
-unfolding every
-every-some p zero e = clash refl e
-every-some p (suc n) e = by (every n p) refl e (every-some p n)
-  where
-    by : (t : Bool) → every n p ≡ t → (t && p n) ≡ false → (every n p ≡ false → (i : ℕ) × (i < n) × (p i ≡ false))
-        → (i : ℕ) × (i < suc n) × (p i ≡ false)
-    by true q f h = (n, omega arith, f)
-    by false q f h = let r = h q in (r .0, omega (arith, r .1), r .2)
-
 module _ (labels claims : List ℤ) where
   unlike-finds : Finds (Disagrees labels claims) 0 (unlikeVertex labels claims)
   unfolding unlikeVertex agrees

@@ -27,10 +27,10 @@ use Rattle.matching.specs.Claim.{idsOf, claimedOf}
 use Rattle.matching.specs.Verdict.{Verdict, matched, incompleteAt, mismatchAt, Fraction, near, firstPlace}
 use Rattle.matching.specs.Verdict.{unequalVertex, sameKind, agrees, unlikeVertex, farVertex, verdictOf, judgedBy}
 use Rattle.matching.specs.Cover.{incompleteLine, valueOf, inOrder, reportedLine}
-use Rattle.matching.specs.Good.{Least, Alike, Differs, EqualWhere, TwoWay, LineOf, Covers, Lacks, lineByLine}
+use Rattle.matching.specs.Good.{Least, Alike, EqualWhere, TwoWay, LineOf, Covers, Lacks, lineByLine}
 use Rattle.matching.proofs.Closeness.{cancel, window, ten-pos, zero-only}
 use Rattle.matching.proofs.FirstPlaces.{first-bound, failing-bound}
-use Rattle.matching.proofs.Leasts.{first-least, line-exactly, unlike-none}
+use Rattle.matching.proofs.Leasts.{first-exactly, unlike-none}
 use Rattle.matching.proofs.Readings.{ids-length, claimed-length}
 use Rattle.matching.proofs.Covers.{incomplete-least, complete-exactly, covered-line, line-covered, values-one}
 
@@ -85,7 +85,7 @@ accepted = gives matched
 -- two lists of numbers are alike exactly where they are the same
 pub same-list : (xs ys : List ℤ) → (firstPlace sameZ 1 xs ys ≡ 0) ↔ (ys ≡ xs)
 same-list xs ys =
-    let f = line-exactly sameZ (pos 0) (pos 0) xs ys in (
+    let f = first-exactly sameZ (pos 0) (pos 0) xs ys in (
       λ e.
           let h = f .0 e in
           ext-getD (pos 0) ys xs (sym (h .long)) (λ i l.
@@ -93,7 +93,7 @@ same-list xs ys =
       λ e. f .1 (record { long = sym (ap length e); everywhere = λ i l. rw e (signed-order .same-refl (getD xs i (pos 0))) }),
     )
 
--- ---- what a verdict says of the first incomplete line and the first mismatch
+-- ---- what a verdict says of the first incomplete line and the line of the mismatch
 numbered : {v w : Verdict} → _≡_ {A = Said Verdict} (gives v) (gives w) → (v .number ≡ w .number) × (v .line ≡ w .line)
 numbered e = let f = given-one e in (ap (λ (v : Verdict). v .number) f, ap (λ (v : Verdict). v .line) f)
 
@@ -245,7 +245,7 @@ pub epsilon-match : (any : Decimal) (ids : List ℤ) (reference : List Fraction)
     ↔ Alike near (0, 1) any reference (inOrder (placeIn ids) any (length ids) l)
 epsilon-match any ids reference r long l =
     by-match ids r any (farVertex reference) (first-within ids near reference long) l
-    (line-exactly near (0, 1) any reference (inOrder (placeIn ids) any (length ids) l))
+    (first-exactly near (0, 1) any reference (inOrder (placeIn ids) any (length ids) l))
 
 -- ---- "Equivalence match"
 -- what stands beside the first z in a list of keys

@@ -14,7 +14,7 @@ use Rattle.matching.specs.Cover.{failingPlace}
 use Rattle.matching.specs.Verdict.{firstPlace, unequalVertex, sameKind, agrees, unlikeVertex}
 use Rattle.matching.proofs.FirstPlaces.{first-end, first-here, first-later, fails-nowhere, fails-here, fails-later}
 
--- ---- the first line at which two lists of one length differ, i places being passed
+-- ---- the first place at which two lists of one length differ, i places being passed
 module _ (a b : List ℤ) (e : length a ≡ length b) (i : ℕ) (h : unequalVertex a b ≡ firstPlace sameZ (i + 1) (drop i a) (drop i b)) where
   pub unequal-end : length a ≤ i → 0 ≡ unequalVertex a b
   unequal-end l = sym (h ∙ first-end sameZ (pos 0) (pos 0) a b e i l)
@@ -49,7 +49,7 @@ module _ (x y v w : ℤ) {x′ y′ v′ w′ : ℤ} (p : x′ ≡ x) (q : y′ 
   pub unlike-apart : s ≡ false → t ≡ not (Bool·beq (sameZ x y) (sameZ v w))
   unlike-apart h = rw (tests, h) (when-apart t)
 
--- ---- the first line that disagrees in kind with an earlier one
+-- ---- the smallest vertex that disagrees in kind with a smaller one
 pub unlike-start : (a b : List ℤ) → unlikeVertex a b ≡ failingPlace (agrees a b) (length a - 0) 0
 unfolding unlikeVertex
 unlike-start a b = let e : length a - 0 ≡ length a = omega arith in rw e
@@ -58,7 +58,7 @@ module _ (a b : List ℤ) (n i : ℕ) (h : unlikeVertex a b ≡ failingPlace (ag
   pub unlike-end : n ≤ i → 0 ≡ unlikeVertex a b
   unlike-end l = sym (h ∙ fails-nowhere (agrees a b) n i l)
 
-  -- the earlier lines up to j agree with line i
+  -- the smaller vertices up to j agree with vertex i
   module _ (l : i < n) (j : ℕ) (k : every j (sameKind a b i) ≡ true) where
     pub unlike-later : i ≤ j → j ≤ i → unlikeVertex a b ≡ failingPlace (agrees a b) (n - (i + 1)) (i + 1)
     unfolding agrees
@@ -66,7 +66,7 @@ module _ (a b : List ℤ) (n i : ℕ) (h : unlikeVertex a b ≡ failingPlace (ag
         let q : j ≡ i = omega arith in
         h ∙ fails-later (agrees a b) n i l (rw q at k)
 
-    -- the test of lines i and j, by what was read
+    -- the test of vertices i and j, by what was read
     module _ {x y v w : ℤ} (p : x ≡ getD b i (pos 0)) (q : y ≡ getD b j (pos 0)) (r : v ≡ getD a i (pos 0)) (o : w ≡ getD a j (pos 0))
         {t : Bool} (s : t ≡ not (Bool·beq (sameZ x y) (sameZ v w))) where
       kind : t ≡ not (sameKind a b i j)

@@ -14,7 +14,7 @@ use mir.Val.{toZ, ofZ}
 use borrow.Author.Tests.{eq-eqb}
 use Rattle.basis.specs.Area.{cleared}
 use Rattle.basis.specs.Refusal.{gives, refuses, atColumn, at, tooMany, claimFile}
-use Rattle.basis.specs.Scan.{every, orElse}
+use Rattle.basis.specs.Scan.{every}
 use Rattle.basis.specs.declared.refusal.Refusal.{Refusal}
 use Rattle.basis.proofs.Areas.{column-is}
 use Rattle.basis.proofs.Scans.{every-at}
@@ -31,36 +31,36 @@ use Rattle.graph.specs.declared.find.Found.the-variants.{At, Missing}
 use Rattle.graph.specs.Find.{bisected}
 use Rattle.graph.proofs.Finds.{bisected-below}
 use Rattle.matching.specs.declared.reading.Read.the-variants.{Lines, Fault}
-use Rattle.matching.specs.Claim.{numberLines, idsOf, claimedOf}
-use Rattle.matching.specs.Cover.{lineFrom, lineOf, valueOf, inOrder}
-use Rattle.matching.specs.Steps.{newIn, setAt, Within, strayStep, isRecorded, endLine, ReadOf}
+use Rattle.matching.specs.Claim.{numberLines, idsOf}
+use Rattle.matching.specs.Cover.{itsLineFrom, itsLine, valueOf}
+use Rattle.matching.specs.Steps.{newIn, setAt, FoundBelow, strayStep, isRecorded, endLine, ReadOf}
 use Rattle.matching.proofs.FirstPlaces.{bits-back}
 use Rattle.matching.proofs.Covering.{Grown, Recorded, recorded-none, grown, recorded-next, recorded-end, value-old, value-new}
 use Rattle.matching.proofs.Readings.{ids-more, ids-length}
 
 -- ---- what is found by bisection is one of the vertices, and what is new of it too
-pub found-within : (ids : List ℤ) (id : ℤ) → Within (bisected ids id) (length ids)
+pub found-within : (ids : List ℤ) (id : ℤ) → FoundBelow (bisected ids id) (length ids)
 found-within ids id = by (bisected ids id) (bisected-below ids id)
   where
-    by : (f : Found) → ((i : ℕ) → f ≡ At i → i < length ids) → Within f (length ids)
+    by : (f : Found) → ((i : ℕ) → f ≡ At i → i < length ids) → FoundBelow f (length ids)
     by (At v) h = h v refl
     by Missing h = tt
 
-new-within : (lines : List ℕ) (f : Found) (n : ℕ) → Within f n → Within (newIn lines f) n
+new-within : (lines : List ℕ) (f : Found) (n : ℕ) → FoundBelow f n → FoundBelow (newIn lines f) n
 new-within lines (At v) n h = by (eqb (getD lines v 0) 0)
   where
-    by : (t : Bool) → Within (cond t (At v) Missing) n
+    by : (t : Bool) → FoundBelow (cond t (At v) Missing) n
     by true = h
     by false = tt
 new-within lines Missing n h = tt
 
-within-more : (f : Found) (n m : ℕ) → Within f n → n ≤ m → Within f m
+within-more : (f : Found) (n m : ℕ) → FoundBelow f n → n ≤ m → FoundBelow f m
 within-more (At v) n m h l = omega (arith, h)
 within-more Missing n m h l = tt
 
 -- the vertex that a line newly names has its place in an area with n places
 pub named-within : (ids : List ℤ) (id : ℤ) (lines : List ℕ) {r : Found} → r ≡ newIn lines (bisected ids id) → (m : ℕ) → length ids ≤ m
-    → Within r m
+    → FoundBelow r m
 named-within ids id lines e m l =
     rw e
     (within-more (newIn lines (bisected ids id)) (length ids) m
@@ -83,13 +83,13 @@ pub record Numbers (most : ℕ) (ids : List ℤ) (s : List ℕ) (size width : �
   pub short : k ≤ length s
   pub recorded : Recorded (bisected ids) (length ids) width (idsOf done) lines k stray
   pub kept : length claimed ≡ size
-  pub stored : (v : ℕ) → v < length ids → (lineOf (bisected ids) (idsOf done) v ≡ 0 → ⊥)
+  pub stored : (v : ℕ) → v < length ids → (itsLine (bisected ids) (idsOf done) v ≡ 0 → ⊥)
       → getD claimed v (pos 0) ≡ valueOf (bisected ids) (pos 0) done v
 
 module _ (most : ℕ) (ids : List ℤ) (s : List ℕ) where
   pub numbers-none : (claimed : List ℤ) (lines : List ℕ) → lines ≡ cleared lines
       → Numbers most ids s (length claimed) (length lines) claimed lines 0 0 0
-  unfolding lineFrom
+  unfolding itsLineFrom
   numbers-none claimed lines e =
       record {
         done = [];
@@ -125,7 +125,7 @@ module _ (most : ℕ) (ids : List ℤ) (s : List ℕ) where
 
     -- the values of the vertices named so far, after a line that names a new one or none
     stored-next : (id v : ℤ) (r : Found) → Grown (bisected ids) (length ids) (idsOf (h .done)) id r
-        → (u : ℕ) → u < length ids → (lineOf (bisected ids) (idsOf (h .done) ++ (id ∷ [])) u ≡ 0 → ⊥)
+        → (u : ℕ) → u < length ids → (itsLine (bisected ids) (idsOf (h .done) ++ (id ∷ [])) u ≡ 0 → ⊥)
         → getD (setAt claimed r v) u (pos 0) ≡ valueOf (bisected ids) (pos 0) (h .done ++ ((id, v) ∷ [])) u
     stored-next id v (At w) g u m n =
         let more = ids-more (h .done) (id, v) in
@@ -135,14 +135,14 @@ module _ (most : ℕ) (ids : List ℤ) (s : List ℕ) where
               (rw more (g .line) ∙ ap (λ (j : ℕ). j + 1) (ids-length (h .done)))))
           | no d ↦
               let same = g .others u d in
-              let old : lineOf (bisected ids) (idsOf (h .done)) u ≡ 0 → ⊥ = λ z. n (same ∙ z) in
+              let old : itsLine (bisected ids) (idsOf (h .done)) u ≡ 0 → ⊥ = λ z. n (same ∙ z) in
               getD-set-other claimed w u v (pos 0) d ∙ h .stored u m old
-              ∙ sym (value-old (bisected ids) (pos 0) (h .done) (id, v) u old (rw more same))
+              ∙ sym (value-old (bisected ids) (pos 0) (h .done) (id, v) u (rw more same))
         ]
     stored-next id v Missing g u m n =
         let same = g .all u m in
-        let old : lineOf (bisected ids) (idsOf (h .done)) u ≡ 0 → ⊥ = λ z. n (same ∙ z) in
-        h .stored u m old ∙ sym (value-old (bisected ids) (pos 0) (h .done) (id, v) u old (rw (ids-more (h .done) (id, v)) same))
+        let old : itsLine (bisected ids) (idsOf (h .done)) u ≡ 0 → ⊥ = λ z. n (same ∙ z) in
+        h .stored u m old ∙ sym (value-old (bisected ids) (pos 0) (h .done) (id, v) u (rw (ids-more (h .done) (id, v)) same))
 
     kept-next : (r : Found) (v : ℤ) → length (setAt claimed r v) ≡ size
     kept-next (At w) v = length-set claimed w v ∙ h .kept

@@ -1,30 +1,26 @@
 -- "Prove that reordering a complete claim never changes whether it matches", on the bytes of two claims. Assumes nothing.
-use mathlib.Core.Path.{_≡_, refl, sym, ap, ap₂, _∙_, subst}
-use mathlib.Core.Bool.{Bool, true, false}
-use mathlib.Core.Logic.{_↔_}
-use mathlib.Core.List.{List, [], _∷_, _++_}
-use Prim.Native.Nat.{ℕ, zero, suc, _+_, _≤_, _<_}
+use mathlib.Core.Path.{_≡_, refl, sym, ap, _∙_, subst}
+use mathlib.Core.Logic.{_↔_, _⊎_}
+use mathlib.Core.List.{List, [], _∷_}
+use Prim.Native.Nat.{ℕ, zero, suc, _<_}
 use native.Mathlib.Nat.{not-suc-le-zero}
 use native.Mathlib.Omega.{arith}
 use lib.IntN.{ℤ, pos}
-use lib.ListN.{length, getD, length-append}
-use lib.Seq.{ext-getD}
+use lib.ListN.{length, getD}
 use Rattle.basis.specs.Area.{column}
-use Rattle.basis.specs.Order.{risingZ}
 use Rattle.basis.specs.Refusal.{Said, gives}
 use Rattle.basis.specs.Scan.{mem}
 use Rattle.basis.proofs.Areas.{column-at, column-length}
 use Rattle.text.specs.Bytes.{lf}
 use Rattle.text.specs.Word.{Word, value, identOf}
-use Rattle.text.specs.Line.{twoOf, upTo, past}
-use Rattle.text.specs.File.{joined, Says, first, noTest, GoodFile}
-use Rattle.text.proofs.Bytes.{upTo-cut, past-cut}
-use Rattle.text.proofs.Files.{passes-all}
+use Rattle.text.specs.Line.{twoOf}
+use Rattle.text.specs.File.{first, noTest, GoodFile}
+use Rattle.text.proofs.Files.{passes-all, joined-one, SaysAt, says-length, says-at, says-of}
 use Rattle.matching.specs.Claim.{idsOf, claimedOf}
-use Rattle.matching.specs.Verdict.{Verdict, matched, incompleteAt}
-use Rattle.matching.specs.Good.{LineOf, Covers, ValuesOf, CompleteClaim, GoodClaim, Judges, Reordered, Shuffled}
-use Rattle.matching.proofs.Covers.{none-lacks}
-use Rattle.matching.proofs.Readings.{ids-length, claimed-length}
+use Rattle.matching.specs.Verdict.{Verdict, matched, mismatchAt}
+use Rattle.matching.specs.Good.{LineOf, Covers, ValuesOf, CompleteClaim, GoodClaim, MismatchClaim, Judges}
+use Rattle.matching.specs.Good.{Reordered, Shuffled}
+use Rattle.matching.proofs.Readings.{ids-length}
 
 -- ---- the other way round
 reordered-back : {A : Type 0} {x : A} {l m : List A} → Reordered x l m → Reordered x m l
@@ -40,7 +36,7 @@ reordered-back {A} {x} {l} {m} h =
       same = λ j k. sym (h .same (h .back j) (h .outside j k)) ∙ ap (λ (i : ℕ). getD m i x) (h .here j k);
     }
 
-pub shuffled-back : {s t : List ℕ} → Shuffled s t → Shuffled t s
+shuffled-back : {s t : List ℕ} → Shuffled s t → Shuffled t s
 shuffled-back h =
     let o = reordered-back (h .order) in
     record {
@@ -52,77 +48,28 @@ shuffled-back h =
       order = o;
     }
 
--- ---- bytes are the lines of one list
-abbrev Unbroken : List (List ℕ) → Type 0
-Unbroken ws = (i : ℕ) → i < length ws → mem lf (getD ws i []) ≡ false
-
-joined-one : (ws vs : List (List ℕ)) → Unbroken ws → Unbroken vs → joined ws ≡ joined vs → ws ≡ vs
-joined-one [] [] f g e = refl
-joined-one [] (v ∷ vs) f g e = let n = ap length e ∙ length-append v (lf ∷ joined vs) in absurd (omega arith)
-joined-one (w ∷ ws) [] f g e = let n = ap length (sym e) ∙ length-append w (lf ∷ joined ws) in absurd (omega arith)
-joined-one (w ∷ ws) (v ∷ vs) f g e =
-    ap₂ (λ (x : List ℕ) (l : List (List ℕ)). x ∷ l)
-    (sym (upTo-cut lf w (joined ws) (f 0 (omega arith))) ∙ ap (upTo lf) e ∙ upTo-cut lf v (joined vs) (g 0 (omega arith)))
-    (joined-one ws vs (λ i l. f (suc i) (omega arith)) (λ i l. g (suc i) (omega arith))
-    (sym (past-cut lf w (joined ws) (f 0 (omega arith))) ∙ ap (past lf) e ∙ past-cut lf v (joined vs) (g 0 (omega arith))))
-
--- ---- what lines say, place by place
+-- ---- good lines in another order are good lines in that order
 module _ {A : Type 0} (word : List ℕ → Word A) (x : A) where
-  abbrev SaysAt : List (List ℕ) → List A → ℕ → Type 0
-  SaysAt ws vs i = (mem lf (getD ws i []) ≡ false) × (word (getD ws i []) ≡ value (getD vs i x))
-
-  says-length : (ws : List (List ℕ)) (vs : List A) → Says word ws vs → length ws ≡ length vs
-  says-length [] [] h = refl
-  says-length [] (v ∷ vs) h = absurd h
-  says-length (w ∷ ws) [] h = absurd h
-  says-length (w ∷ ws) (v ∷ vs) h = ap suc (says-length ws vs (h .2))
-
-  says-at : (ws : List (List ℕ)) (vs : List A) → Says word ws vs → (i : ℕ) → i < length ws → SaysAt ws vs i
-  says-at [] [] h i l = absurd (not-suc-le-zero l)
-  says-at [] (v ∷ vs) h i l = absurd h
-  says-at (w ∷ ws) [] h i l = absurd h
-  says-at (w ∷ ws) (v ∷ vs) h zero l = (h .0, h .1)
-  says-at (w ∷ ws) (v ∷ vs) h (suc i) l = says-at ws vs (h .2) i (omega arith)
-
-  says-of : (ws : List (List ℕ)) (vs : List A) → length ws ≡ length vs → ((i : ℕ) → i < length ws → SaysAt ws vs i) → Says word ws vs
-  says-of [] [] e f = tt
-  says-of [] (v ∷ vs) e f = absurd (omega arith)
-  says-of (w ∷ ws) [] e f = absurd (omega arith)
-  says-of (w ∷ ws) (v ∷ vs) e f =
-      let h = f 0 (omega arith) in (h .0, h .1, says-of ws vs (omega arith) (λ i l. f (suc i) (omega arith)))
-
-  -- ---- good lines in another order are good lines in that order
   module _ (most : ℕ) {s : List ℕ} (l : List A) (g : GoodFile word most noTest s l) where
     abbrev words : List (List ℕ)
     words = g .lines .words
 
-    says : (i : ℕ) → i < length words → SaysAt words l i
-    says = says-at words l (g .lines .values)
-
-    pub file-one : (m : List A) → GoodFile word most noTest s m → l ≡ m
-    file-one m h =
-        let e = joined-one words (h .lines .words) (λ i k. says i k .0)
-        (λ i k. says-at (h .lines .words) m (h .lines .values) i k .0) (sym (g .lines .whole) ∙ h .lines .whole) in
-        let long = says-length words l (g .lines .values) in
-        ext-getD x l m (sym long ∙ ap length e ∙ says-length (h .lines .words) m (h .lines .values))
-        (λ i k.
-        let a : value (getD l i x) ≡ value (getD m i x) =
-        sym (says i (omega arith) .1) ∙ ap (λ (ws : List (List ℕ)). word (getD ws i [])) e
-        ∙ says-at (h .lines .words) m (h .lines .values) i (omega (arith, ap length e)) .1 in
-        cc)
+    says : (i : ℕ) → i < length words → SaysAt word x words l i
+    says = says-at word x words l (g .lines .values)
 
     module _ {t : List ℕ} (h : Shuffled s t) where
+      same-lines : h .lines ≡ words
+      same-lines = joined-one (h .lines) words (h .unbroken) (λ i k. says i k .0) (sym (h .whole) ∙ g .lines .whole)
+
       order : Reordered [] words (h .others)
-      order =
-          subst (λ (ws : List (List ℕ)). Reordered [] ws (h .others))
-          (joined-one (h .lines) words (h .unbroken) (λ i k. says i k .0) (sym (h .whole) ∙ g .lines .whole)) (h .order)
+      order = subst (λ (ws : List (List ℕ)). Reordered [] ws (h .others)) same-lines (h .order)
 
       abbrev moved : List A
       moved = column (λ j. getD l (order .back j) x) 0 (length l)
 
       lengths : (length words ≡ length l) × (length (h .others) ≡ length moved) × (length moved ≡ length l)
       lengths =
-          let a = says-length words l (g .lines .values) in
+          let a = says-length word x words l (g .lines .values) in
           let b = column-length (λ j. getD l (order .back j) x) 0 (length l) in
           (a, omega (arith, order .long), b)
 
@@ -149,12 +96,12 @@ module _ {A : Type 0} (word : List ℕ → Word A) (x : A) where
       unfolding reordered-back
       file-moved =
           record {
-            lines = record { words = h .others; whole = h .wholeOther; values = says-of (h .others) moved (lengths .1) at };
+            lines = record { words = h .others; whole = h .wholeOther; values = says-of word x (h .others) moved (lengths .1) at };
             few = omega (arith, lengths .2, g .few);
             pass = passes-all first moved;
           }
         where
-          at : (j : ℕ) → j < length (h .others) → SaysAt (h .others) moved j
+          at : (j : ℕ) → j < length (h .others) → SaysAt word x (h .others) moved j
           at j k =
               let back = reordered-back order in
               let b = says (order .back j) (order .outside j k) in (
@@ -222,27 +169,48 @@ module _ {A : Type 0} (word : List ℕ → Word A) (z : A) (most : ℕ) (ids : L
   abbrev any : ℤ × A
   any = (pos 0, z)
 
-  -- another order of a complete claim's lines is complete
-  pub complete-reordered : CompleteClaim word z most ids s → CompleteClaim word z most ids t
-  complete-reordered c =
-      record {
-        lines = moved (twoOf identOf word) any most (c .lines) (c .file) h;
-        file = file-moved (twoOf identOf word) any most (c .lines) (c .file) h;
-        complete = covers-moved any ids z (lines-moved (twoOf identOf word) any most (c .lines) (c .file) h) (c .complete);
-      }
+  module _ (c : CompleteClaim word z most ids s) where
+    claim-moved : Reordered any (c .lines) (moved (twoOf identOf word) any most (c .lines) (c .file) h)
+    claim-moved = lines-moved (twoOf identOf word) any most (c .lines) (c .file) h
 
-  -- and matches where that one does
+    -- another order of a complete claim's lines is complete, with the same values
+    pub complete-reordered : CompleteClaim word z most ids t
+    complete-reordered =
+        record {
+          lines = moved (twoOf identOf word) any most (c .lines) (c .file) h;
+          file = file-moved (twoOf identOf word) any most (c .lines) (c .file) h;
+          complete = covers-moved any ids z claim-moved (c .complete);
+          values = c .values;
+          are = values-moved any ids z claim-moved (c .are);
+        }
+
+  -- matches where that one does
   pub good-reordered : {Matches : List A → Type 0} → GoodClaim word z most ids Matches s → GoodClaim word z most ids Matches t
-  good-reordered g =
-      let o = lines-moved (twoOf identOf word) any most (g .lines) (g .file) h in
-      record {
-        lines = moved (twoOf identOf word) any most (g .lines) (g .file) h;
-        file = file-moved (twoOf identOf word) any most (g .lines) (g .file) h;
-        complete = covers-moved any ids z o (g .complete);
-        values = g .values;
-        are = values-moved any ids z o (g .are);
-        matches = g .matches;
-      }
+  unfolding complete-reordered
+  good-reordered g = record { claim = complete-reordered (g .claim); matches = g .matches }
+
+  -- and has the same smallest vertex at fault, at the same line
+  pub mismatch-reordered : {Wrong : List A → ℕ → Type 0} {i : ℕ} → MismatchClaim word z most ids Wrong i s
+      → (j : ℕ) × (getD (h .others) j [] ≡ getD (h .lines) i []) × MismatchClaim word z most ids Wrong j t
+  unfolding complete-reordered claim-moved lines-moved
+  mismatch-reordered {Wrong} {i} g =
+      let c = g .claim in
+      let o = order (twoOf identOf word) any most (c .lines) (c .file) h in
+      let l : i < length (c .file .lines .words) = omega (
+        arith,
+        g .reported .line,
+        ids-length (c .lines),
+        says-length (twoOf identOf word) any (c .file .lines .words) (c .lines) (c .file .lines .values),
+      ) in (
+        o .to i,
+        o .same i l ∙ ap (λ (ws : List (List ℕ)). getD ws i []) (sym (same-lines (twoOf identOf word) any most (c .lines) (c .file) h)),
+        record {
+          claim = complete-reordered c;
+          vertex = g .vertex;
+          first = g .first;
+          reported = line-moved any ids (claim-moved c) (g .reported);
+        },
+      )
 
 module _ {A : Type 0} {word : List ℕ → Word A} {z : A} {most : ℕ} {ids : List ℤ} {Matches : List A → Type 0} {Wrong : List A → ℕ → Type 0}
     {s t : List ℕ} {x y : Said Verdict} (a : Judges word z most ids Matches Wrong s x) (b : Judges word z most ids Matches Wrong t y)
@@ -254,10 +222,12 @@ module _ {A : Type 0} {word : List ℕ → Word A} {z : A} {most : ℕ} {ids : L
     λ e. a .accepted .1 (good-reordered word z most ids (shuffled-back h) (b .accepted .0 e)),
   )
 
-  -- never incomplete, where the other is complete
-  pub never-incomplete : risingZ ids ≡ true → CompleteClaim word z most ids s → (i : ℕ) → y ≡ gives (incompleteAt (suc i)) → ⊥
-  never-incomplete r c i e =
-      let d = complete-reordered word z most ids h c in
-      let g = b .incomplete i .0 e in
-      let same = file-one (twoOf identOf word) (pos 0, z) most (d .lines) (d .file) (g .lines) (g .file) in
-      none-lacks ids r (idsOf (g .lines)) (subst (λ (l : List (ℤ × A)). Covers ids (idsOf l)) same (d .complete)) i (g .first .here)
+  -- a mismatch at the same line, wherever it stands
+  pub same-fault : (i : ℕ) → x ≡ gives (mismatchAt (suc i))
+      → (j : ℕ) × (getD (h .others) j [] ≡ getD (h .lines) i []) × (y ≡ gives (mismatchAt (suc j)))
+  same-fault i e =
+      let g = mismatch-reordered word z most ids h (a .mismatched i .0 e) in (g .0, g .1, b .mismatched (g .0) .1 (g .2))
+
+  -- complete where that one is
+  pub still-complete : CompleteClaim word z most ids s → (y ≡ gives matched) ⊎ ((i : ℕ) × (y ≡ gives (mismatchAt (suc i))))
+  still-complete claim = b .complete .1 (complete-reordered word z most ids h claim)

@@ -1,28 +1,21 @@
 -- Laws of the functions that keep the record of claim lines and what stands on it: one for each way out. Assumes nothing.
 use mathlib.Core.Path.{_≡_, refl, sym, ap, _∙_}
-use mathlib.Core.Bool.{Bool, true, false, not, cond}
+use mathlib.Core.Bool.{Bool, true, false, not}
 use mathlib.Core.List.{List}
 use Prim.Native.Nat.{ℕ, zero, suc, _+_, _-_, _≤_, _<_, min}
 use native.Mathlib.Omega.{arith}
-use lib.Dec.{eqb}
 use lib.IntN.{ℤ}
-use lib.ListN.{length, getD, set, replicate, length-replicate}
-use Rattle.basis.specs.Area.{cleared}
+use lib.ListN.{length, getD, set}
 use borrow.Author.Tests.{eq-eqb, ne-eqb}
-use Rattle.basis.specs.Scan.{every, orElse}
-use Rattle.basis.proofs.Scans.{every-more, every-fail, every-end}
+use Rattle.basis.specs.Scan.{every}
+use Rattle.basis.proofs.Scans.{or-kept, every-more, every-fail, every-end}
 use Rattle.text.specs.declared.decimal.Decimal.{Decimal}
 use Rattle.graph.specs.declared.find.Found.{Found}
 use Rattle.graph.specs.declared.find.Found.the-variants.{At, Missing}
 use Rattle.graph.specs.Find.{bisected, Searched}
 use Rattle.graph.proofs.Finds.{searched-is, bisected-below}
 use Rattle.matching.specs.Calls.{nearWithin, fractionIn}
-use Rattle.matching.specs.Steps.{newIn, setAt, Within, strayStep, lesserFault, farStep, isRecorded, endLine, reportedIn}
-use Rattle.matching.proofs.FirstPlaces.{or-kept}
-
--- ---- an area that was cleared is clear
-pub cleared-again : (l : List ℕ) {m : List ℕ} → m ≡ cleared l → m ≡ cleared m
-cleared-again l e = e ∙ ap (λ (k : ℕ). replicate k 0) (sym (ap length e ∙ length-replicate (length l) 0))
+use Rattle.matching.specs.Steps.{newIn, setAt, FoundBelow, strayStep, lesserFault, farStep, isRecorded, endLine, reportedIn}
 
 -- ---- a line's vertex, by what a search has found
 module _ (ids : List ℤ) (lines : List ℕ) (id : ℤ) {sought : ℤ} (q : sought ≡ id) {f : Found} (e : Searched ids sought f) where
@@ -80,8 +73,8 @@ reported-line lines zero n p = absurd (n refl)
 reported-line lines (suc v) n p = let e : suc v - 1 ≡ v = omega arith in rw e at p
 
 -- ---- an area's place for a vertex
-pub within-at : {vertex : Found} {v : ℕ} {n : ℕ} → Within vertex n → vertex ≡ At v → v < n
-within-at {v = v} {n = n} w h = let l : Within (At v) n = rw h at w in l
+pub within-at : {vertex : Found} {v : ℕ} {n : ℕ} → FoundBelow vertex n → vertex ≡ At v → v < n
+within-at {v = v} {n = n} w h = let l : FoundBelow (At v) n = rw h at w in l
 
 pub set-none : {A : Type 0} (l : List A) (x : A) {vertex : Found} → vertex ≡ Missing → l ≡ setAt l vertex x
 set-none l x h = rw h

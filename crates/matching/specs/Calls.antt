@@ -25,15 +25,15 @@ abbrev pub outcome : Said Verdict → List ℤ → List ℕ → Outcome
 outcome said claimed lines = record { said = said; claimed = claimed; lines = lines }
 
 -- n places in each of three areas of these lengths
-abbrev pub roomIn : ℕ → ℕ → ℕ → ℕ → Bool
-roomIn n first second third = leb n first && (leb n second && leb n third)
+abbrev pub roomInThree : ℕ → ℕ → ℕ → ℕ → Bool
+roomInThree n first second third = leb n first && (leb n second && leb n third)
 
 -- 8, then the claim of at most so many lines: the first n values of the reference output are those of the n vertices, and an identifier
 -- names the vertex that a bisection finds; "working areas are zero throughout"
 unfoldable pub numbersCall : Rule → ℕ → List ℤ → List ℤ → List ℕ → List ℤ → List ℕ → Outcome
 numbersCall rule most ids reference s claimed lines =
     outcome
-    (check (roomIn (length ids) (length reference) (length claimed) (length lines)) noRoom
+    (check (roomInThree (length ids) (length reference) (length claimed) (length lines)) noRoom
     (judgedBy (bisected ids) (length ids) (pos 0) (mismatchVertex rule (take (length ids) reference)) (numberLines most s)))
     (clearedZ claimed)
     (cleared lines)
@@ -76,5 +76,5 @@ told said lines = record { said = said; lines = lines }
 unfoldable pub coefficientsCall : ℕ → List ℤ → List ℕ → List ℕ → List ℕ → List ℕ → Told
 coefficientsCall most ids nums dens s lines =
     told
-    (check (roomIn (length ids) (length nums) (length dens) (length lines)) noRoom (coefficientsJudged most ids nums dens s))
+    (check (roomInThree (length ids) (length nums) (length dens) (length lines)) noRoom (coefficientsJudged most ids nums dens s))
     (cleared lines)

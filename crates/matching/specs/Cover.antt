@@ -1,5 +1,5 @@
 -- 02 "Claims in any order": which line of a claim is a vertex's, and whether its lines name "each vertex exactly once".
-use Prim.Native.Nat.{ℕ, zero, suc, _+_, _-_}
+use Prim.Native.Nat.{ℕ, zero, suc, _+_}
 use mathlib.Core.Bool.{Bool, false, not, cond}
 use mathlib.Core.List.{List, [], _∷_}
 use lib.IntN.{ℤ, pos}
@@ -24,24 +24,24 @@ isVertex Missing v = false
 -- a claim's lines, by the identifiers that they name: each stands for the vertex at its place, or for none
 module _ (place : ℤ → Found) where
   -- the first line that names vertex v, the next line being k; 0 where none does
-  unfoldable pub lineFrom : ℕ → List ℤ → ℕ → ℕ
-  lineFrom k [] v = 0
-  lineFrom k (id ∷ named) v = cond (isVertex (place id) v) k (lineFrom (k + 1) named v)
+  unfoldable pub itsLineFrom : ℕ → List ℤ → ℕ → ℕ
+  itsLineFrom k [] v = 0
+  itsLineFrom k (id ∷ named) v = cond (isVertex (place id) v) k (itsLineFrom (k + 1) named v)
 
   -- "A lent area maps each vertex to its claim line": the claim line of vertex v, counted from 1; 0 where it has none
-  abbrev pub lineOf : List ℤ → ℕ → ℕ
-  lineOf named v = lineFrom 1 named v
+  abbrev pub itsLine : List ℤ → ℕ → ℕ
+  itsLine named v = itsLineFrom 1 named v
 
   -- vertex v has a claim line
   abbrev pub hasLine : List ℤ → ℕ → Bool
-  hasLine named v = not (eqb (lineOf named v) 0)
+  hasLine named v = not (eqb (itsLine named v) 0)
 
   -- what is found is no "unknown or already named vertex", after these lines
   abbrev pub isNew : List ℤ → Found → Bool
-  isNew earlier (At v) = eqb (lineOf earlier v) 0
+  isNew earlier (At v) = eqb (itsLine earlier v) 0
   isNew earlier Missing = false
 
-  -- the line at place i names such a vertex
+  -- the line at place i names a vertex that no line before it names
   unfoldable pub namesNew : List ℤ → ℕ → Bool
   namesNew named i = isNew (take i named) (place (getD named i (pos 0)))
 
@@ -55,7 +55,7 @@ module _ (place : ℤ → Found) where
 
   -- the value on the claim line of vertex v; z where it has none
   unfoldable pub valueOf : {A : Type 0} → A → List (ℤ × A) → ℕ → A
-  valueOf z l v = getD (claimedOf l) (lineOf (idsOf l) v - 1) z
+  valueOf z l v = getD (z ∷ claimedOf l) (itsLine (idsOf l) v) z
 
   -- those of n vertices, in vertex order
   abbrev pub inOrder : {A : Type 0} → A → ℕ → List (ℤ × A) → List A
@@ -64,4 +64,4 @@ module _ (place : ℤ → Found) where
   -- "A mismatch is the smallest vertex at fault, reported by its claim line", where that vertex is counted from 1, or 0 is none
   abbrev pub reportedLine : List ℤ → ℕ → ℕ
   reportedLine named zero = 0
-  reportedLine named (suc v) = lineOf named v
+  reportedLine named (suc v) = itsLine named v

@@ -1,9 +1,9 @@
 -- 01 "Claims and verdicts" and 02 "Claims in any order": when a claim is complete, when its values match, and where they first do not, with
--- no word on how they are judged.
+-- no word on how they are judged; at the end 01's rule as it was before 02's, beside which it is held.
 use Prim.Native.Nat.{ℕ, suc, _≤_, _<_}
 use mathlib.Core.Path.{_≡_}
 use mathlib.Core.Bool.{Bool, true, false}
-use mathlib.Core.Logic.{_↔_}
+use mathlib.Core.Logic.{_↔_, _⊎_}
 use mathlib.Core.List.{List, []}
 use lib.IntN.{ℤ, pos}
 use lib.ListN.{length, getD}
@@ -28,7 +28,7 @@ pub record Alike {A B : Type 0} (alike : A → B → Bool) (x : A) (y : B) (xs :
   pub long : length xs ≡ length ys
   pub everywhere : (i : ℕ) → i < length xs → alike (getD xs i x) (getD ys i y) ≡ true
 
--- a place at which a list ys differs from the list xs that is asked for: another value stands there, or it is "missing or surplus"
+-- a place at which a list ys differs from the list xs that is asked for: another value stands there, or one of the two has ended
 pub data Differs {A B : Type 0} (alike : A → B → Bool) (x : A) (y : B) (xs : List A) (ys : List B) (i : ℕ) : Type 0 where
   other : i < length xs → i < length ys → alike (getD xs i x) (getD ys i y) ≡ false → Differs alike x y xs ys i
   missing : length ys ≤ i → i < length xs → Differs alike x y xs ys i
@@ -54,7 +54,7 @@ pub record Disagrees (labels claims : List ℤ) (i : ℕ) : Type 0 where
   pub unlike : sameKind labels claims i smaller ≡ false
 
 -- ---- lines that name identifiers, beside those of the vertices
--- the line at place i names vertex v: it is "the claim line of vertex v"
+-- the line at place i names vertex v: it is "its claim line"
 pub record LineOf (ids named : List ℤ) (v i : ℕ) : Type 0 where
   pub vertex : v < length ids
   pub line : i < length named
@@ -80,20 +80,18 @@ pub record ValuesOf {A : Type 0} (z : A) (ids : List ℤ) (lines : List (ℤ × 
 
 -- ---- a claim of at most so many lines, "identifier, one space, value", on vertices with these identifiers
 module _ {A : Type 0} (word : List ℕ → Word A) (z : A) (most : ℕ) (ids : List ℤ) where
-  -- the bytes of a claim that names each vertex exactly once
+  -- the bytes of a claim that names each vertex exactly once, and the values that it claims of them
   pub record CompleteClaim (s : List ℕ) : Type 0 where
-    pub lines : List (ℤ × A)
-    pub file : GoodFile (twoOf identOf word) most noTest s lines
-    pub complete : Covers ids (idsOf lines)
-
-  -- those of a claim that does, with values that match
-  pub record GoodClaim (Matches : List A → Type 0) (s : List ℕ) : Type 0 where
     pub lines : List (ℤ × A)
     pub file : GoodFile (twoOf identOf word) most noTest s lines
     pub complete : Covers ids (idsOf lines)
     pub values : List A
     pub are : ValuesOf z ids lines values
-    pub matches : Matches values
+
+  -- those of a claim that does, with values that match
+  pub record GoodClaim (Matches : List A → Type 0) (s : List ℕ) : Type 0 where
+    pub claim : CompleteClaim s
+    pub matches : Matches (claim .values)
 
   -- those of one that lacks a vertex at place i, and at no place before
   pub record IncompleteClaim (i : ℕ) (s : List ℕ) : Type 0 where
@@ -103,18 +101,15 @@ module _ {A : Type 0} (word : List ℕ → Word A) (z : A) (most : ℕ) (ids : L
 
   -- those of one that names each vertex exactly once, with values of which "the smallest vertex at fault" has its claim line at place i
   pub record MismatchClaim (Wrong : List A → ℕ → Type 0) (i : ℕ) (s : List ℕ) : Type 0 where
-    pub lines : List (ℤ × A)
-    pub file : GoodFile (twoOf identOf word) most noTest s lines
-    pub complete : Covers ids (idsOf lines)
-    pub values : List A
-    pub are : ValuesOf z ids lines values
+    pub claim : CompleteClaim s
     pub vertex : ℕ
-    pub first : Least (Wrong values) vertex
-    pub reported : LineOf ids (idsOf lines) vertex i
+    pub first : Least (Wrong (claim .values)) vertex
+    pub reported : LineOf ids (idsOf (claim .lines)) vertex i
 
   -- what is said of a claim's bytes, where values match or are wrong at a vertex: each answer exactly where the bytes are of its kind;
   -- line i + 1 is place i
   pub record Judges (Matches : List A → Type 0) (Wrong : List A → ℕ → Type 0) (s : List ℕ) (said : Said Verdict) : Type 0 where
+    pub complete : ((said ≡ gives matched) ⊎ ((i : ℕ) × (said ≡ gives (mismatchAt (suc i))))) ↔ CompleteClaim s
     pub accepted : (said ≡ gives matched) ↔ GoodClaim Matches s
     pub incomplete : (i : ℕ) → (said ≡ gives (incompleteAt (suc i))) ↔ IncompleteClaim i s
     pub mismatched : (i : ℕ) → (said ≡ gives (mismatchAt (suc i))) ↔ MismatchClaim Wrong i s
@@ -141,8 +136,8 @@ pub record Shuffled (s t : List ℕ) : Type 0 where
   pub unbroken : (i : ℕ) → i < length lines → mem lf (getD lines i []) ≡ false
   pub order : Reordered [] lines others
 
--- 01's rule for a claim "in vertex order", line by line, which 02's stands in place of: the first line whose identifier isn't the graph's
--- at that place, or the first missing or surplus line; then the first line at fault
+-- 01's rule for a claim "in vertex order", which 02's stands "in place of": "the first line whose identifier isn't the graph's at that
+-- place, or the first missing or surplus line"; then "a mismatch at its first line"
 abbrev pub lineByLine : {A : Type 0} → List ℤ → (List A → ℕ) → Said (List (ℤ × A)) → Said Verdict
 lineByLine ids mismatch (gives l) = gives (verdictOf (firstPlace sameZ 1 ids (idsOf l)) (mismatch (claimedOf l)))
 lineByLine ids mismatch (refuses r) = refuses r

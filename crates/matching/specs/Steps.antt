@@ -17,7 +17,7 @@ use Rattle.matching.specs.declared.numbers.Rule.{Rule}
 use Rattle.text.specs.declared.decimal.Decimal.{Decimal}
 use Rattle.matching.specs.Calls.{nearWithin, fractionIn, coefficientsJudged}
 use Rattle.matching.specs.Claim.{numberLines, idsOf}
-use Rattle.matching.specs.Cover.{lineOf, incompleteLine, inOrder}
+use Rattle.matching.specs.Cover.{itsLine, incompleteLine, inOrder}
 use Rattle.matching.specs.Verdict.{Verdict, mismatchVertex, verdictOf}
 
 -- what is found is a vertex that the record of claim lines has no line for, or is missing
@@ -31,9 +31,9 @@ setAt l (At v) x = set l v x
 setAt l Missing x = l
 
 -- what is found is one of n places
-abbrev pub Within : Found → ℕ → Type 0
-Within (At v) n = v < n
-Within Missing n = Unit {0}
+abbrev pub FoundBelow : Found → ℕ → Type 0
+FoundBelow (At v) n = v < n
+FoundBelow Missing n = Unit {0}
 
 -- the first stray line once the line after k others has named a new vertex or none: one found before, or this where it names none
 abbrev pub strayStep : Found → ℕ → ℕ → ℕ
@@ -65,7 +65,7 @@ reportedIn lines (suc v) = getD lines v 0
 
 -- the first n places of the record hold the claim lines of n vertices, which identifiers name so
 abbrev pub Maps : (ℤ → Found) → ℕ → List ℤ → List ℕ → Type 0
-Maps place n named lines = (v : ℕ) → v < n → getD lines v 0 ≡ lineOf place named v
+Maps place n named lines = (v : ℕ) → v < n → getD lines v 0 ≡ itsLine place named v
 
 -- the lines of a claim that was read whole: the first incomplete one, the claim lines of its vertices in the record, and where none is
 -- incomplete, their values in the working area, in vertex order

@@ -1,4 +1,4 @@
--- 01 "Claims and verdicts" and 000, 2.4: what a claim's lines are worth beside a reference output.
+-- 01 "Claims and verdicts", 02 "Claims in any order" and 000, 2.4: what a claim's lines are worth beside a reference output.
 use Prim.Native.Nat.{ℕ, zero, suc, _+_}
 use mathlib.Core.Bool.{Bool, cond, Bool·beq}
 use mathlib.Core.List.{List, [], _∷_}
@@ -98,7 +98,7 @@ verdictOf zero (suc k) = mismatchAt (suc k)
 verdictOf zero zero = matched
 
 -- "All lines are read for 1, 2 and 3 first": what is said of a claim on n vertices, whose identifiers stand at these places,
--- by the smallest vertex at fault among the values in vertex order
+-- by the smallest vertex at fault among the values in vertex order; z stands for that of a vertex without a line
 unfoldable pub judgedBy : {A : Type 0} → (ℤ → Found) → ℕ → A → (List A → ℕ) → Said (List (ℤ × A)) → Said Verdict
 judgedBy place n z mismatch (gives l) =
     gives (verdictOf (incompleteLine place n (idsOf l)) (reportedLine place (idsOf l) (mismatch (inOrder place z n l))))

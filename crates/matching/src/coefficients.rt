@@ -23,7 +23,7 @@ ghost use lib.ListN.{length};
 ghost use Rattle.matching.specs.Verdict.{says};
 ghost use Rattle.basis.specs.Area.{cleared};
 ghost use Rattle.matching.specs.Calls.{nearWithin, told, coefficientsCall};
-ghost use Rattle.matching.specs.Steps.{Within, farStep, JudgedOf};
+ghost use Rattle.matching.specs.Steps.{FoundBelow, farStep, JudgedOf};
 
 // A decimal is near a fraction whose terms are within 32 bits.
 fn near_within(a: usize, b: usize, s: Decimal) -> bool
@@ -46,7 +46,7 @@ fn measured(
     s: Decimal,
     far: usize,
 ) -> usize
-    requires { ⌜ (Within vertex (length (now numerators))) × (Within vertex (length (now denominators))) ⌝ }
+    requires { ⌜ (FoundBelow vertex (length (now numerators))) × (FoundBelow vertex (length (now denominators))) ⌝ }
     ensures { λ r. ⌜ r ≡ farStep (now (numerators .entry)) (now (denominators .entry)) vertex s far ⌝ }
 {
     match vertex {
@@ -55,10 +55,11 @@ fn measured(
             if near_within(numerators[v], denominators[v], s) {
                 return far;
             }
+            let here = v + 1;
             if far == 0 {
-                return v + 1;
+                return here;
             }
-            lesser(far, v + 1)
+            lesser(far, here)
         }
     }
 }

@@ -7,6 +7,7 @@ use crate::reading::reported;
 use basis::Refusal;
 use basis::area::clear;
 use basis::area::clear_signed;
+use basis::order::lesser;
 use basis::order::same;
 use basis::refusal::NO_ROOM;
 ghost use mathlib.Core.Path.{_≡_};
@@ -14,7 +15,7 @@ ghost use lib.ListN.{length};
 ghost use Prim.Native.Nat.{_≤_};
 ghost use Rattle.basis.specs.Refusal.{gives};
 ghost use Rattle.matching.specs.Verdict.{says, unequalVertex, mismatchVertex, verdictOf};
-ghost use Rattle.matching.specs.Calls.{outcome, roomIn, numbersCall};
+ghost use Rattle.matching.specs.Calls.{outcome, roomInThree, numbersCall};
 ghost use Rattle.matching.specs.Steps.{readJudged};
 
 // 000's methods for numbers: exact match, for BFS and CDLP, and equivalence match, for WCC.
@@ -82,15 +83,9 @@ fn judged_on(rule: Rule, read: Read, reference: &[i64], claimed: &[i64], lines: 
 
 // Three areas of these lengths have n places each.
 pub(crate) fn has_room(n: usize, first: usize, second: usize, third: usize) -> bool
-    ensures { λ r. ⌜ r ≡ roomIn n first second third ⌝ }
+    ensures { λ r. ⌜ r ≡ roomInThree n first second third ⌝ }
 {
-    if first < n {
-        return false;
-    }
-    if second < n {
-        return false;
-    }
-    n <= third
+    n <= lesser(first, lesser(second, third))
 }
 
 // A claim of at most so many lines, on vertices with these identifiers; `claimed` and `lines` are working areas.

@@ -11,7 +11,7 @@ ghost use Prim.Native.Nat.{_+_, _-_, _^_, _<_, _≤_};
 ghost use lib.ListN.{length};
 ghost use Rattle.basis.specs.Area.{cleared};
 ghost use Rattle.graph.specs.Find.{bisected};
-ghost use Rattle.matching.specs.Steps.{newIn, setAt, Within, strayStep, endLine, reportedIn, ReadOf};
+ghost use Rattle.matching.specs.Steps.{newIn, setAt, FoundBelow, strayStep, endLine, reportedIn, ReadOf};
 
 // What the lines of a claim say of the vertices: the first incomplete line, or 0. Or the first fault.
 pub(crate) enum Read {
@@ -85,7 +85,7 @@ pub(crate) fn reported(lines: &[usize], fault: usize) -> usize
 
 // A new vertex's value is kept.
 fn keep(claimed: &mut [i64], vertex: Found, value: i64)
-    requires { ⌜ Within vertex (length (now claimed)) ⌝ }
+    requires { ⌜ FoundBelow vertex (length (now claimed)) ⌝ }
     ensures { λ _. ⌜ now (claimed .exit) ≡ setAt (now (claimed .entry)) vertex value ⌝ }
 {
     match vertex {

@@ -1,7 +1,7 @@
 -- Laws of a file line by line: what a line does to what is left of the file, and which files are accepted or refused, said of their bytes.
 -- Assumes nothing.
 use Prim.Native.Nat.{ℕ, zero, suc, _+_, _-_, _≤_, _<_}
-use mathlib.Core.Path.{_≡_, refl, sym, ap, subst, _∙_}
+use mathlib.Core.Path.{_≡_, refl, sym, ap, ap₂, subst, _∙_}
 use mathlib.Core.Logic.{_↔_, _⊎_, inl, inr}
 use mathlib.Core.Bool.{Bool, true, false}
 use mathlib.Core.List.{List, [], _∷_, _++_, append-assoc, append-nil}
@@ -9,7 +9,7 @@ use native.Mathlib.Omega.{arith}
 use native.Mathlib.Nat.{not-suc-le-zero}
 use borrow.Author.Tests.{le-leb, lt-leb, leb-true, leb-false}
 use lib.Dec.{leb}
-use lib.ListN.{length, drop, length-append, length-drop}
+use lib.ListN.{length, getD, drop, length-append, length-drop}
 use Rattle.basis.specs.declared.refusal.Refusal.{Refusal}
 use Rattle.basis.specs.Refusal.{Said, gives, refuses, atColumn, at, tooMany, badForm, outOfRange, mapped}
 use Rattle.basis.specs.Scan.{mem}
@@ -22,7 +22,7 @@ use Rattle.text.specs.File.{Line, good, bad, linesFrom, linesOf, Before,
 use Rattle.text.specs.File.{valuesOf, noTest, joined, Says, Passes, lastOf, GoodFile}
 use Rattle.text.specs.File.{Fails, over, unended, wrong, beyond, tested, FirstFault}
 use Rattle.text.specs.Column.{Formed, wholeLine, Column}
-use Rattle.text.proofs.Bytes.{cut-at, upTo-none, upTo-le, drop-past}
+use Rattle.text.proofs.Bytes.{cut-at, upTo-cut, past-cut, upTo-none, upTo-le, drop-past}
 use Rattle.text.proofs.Cuts.{cut-line}
 use Rattle.text.proofs.Places.{line-moves, none-stays}
 use Rattle.text.proofs.Lines.{line-end}
@@ -405,3 +405,42 @@ unfolding valuesFrom
 values-same file most p q h k before [] = refl
 values-same file most p q h k before (bad n c ∷ ls) = refl
 values-same file most p q h k before (good v ∷ ls) = rw (h before v, values-same file most p q h (k + 1) (after v) ls)
+
+-- ---- bytes are the lines of one list
+abbrev pub Unbroken : List (List ℕ) → Type 0
+Unbroken ws = (i : ℕ) → i < length ws → mem lf (getD ws i []) ≡ false
+
+pub joined-one : (ws vs : List (List ℕ)) → Unbroken ws → Unbroken vs → joined ws ≡ joined vs → ws ≡ vs
+joined-one [] [] f g e = refl
+joined-one [] (v ∷ vs) f g e = let n = ap length e ∙ length-append v (lf ∷ joined vs) in absurd (omega arith)
+joined-one (w ∷ ws) [] f g e = let n = ap length (sym e) ∙ length-append w (lf ∷ joined ws) in absurd (omega arith)
+joined-one (w ∷ ws) (v ∷ vs) f g e =
+    ap₂ (λ (x : List ℕ) (l : List (List ℕ)). x ∷ l)
+    (sym (upTo-cut lf w (joined ws) (f 0 (omega arith))) ∙ ap (upTo lf) e ∙ upTo-cut lf v (joined vs) (g 0 (omega arith)))
+    (joined-one ws vs (λ i l. f (suc i) (omega arith)) (λ i l. g (suc i) (omega arith))
+    (sym (past-cut lf w (joined ws) (f 0 (omega arith))) ∙ ap (past lf) e ∙ past-cut lf v (joined vs) (g 0 (omega arith))))
+
+-- ---- what lines say, place by place
+module _ {A : Type 0} (word : List ℕ → Word A) (x : A) where
+  abbrev pub SaysAt : List (List ℕ) → List A → ℕ → Type 0
+  SaysAt ws vs i = (mem lf (getD ws i []) ≡ false) × (word (getD ws i []) ≡ value (getD vs i x))
+
+  pub says-length : (ws : List (List ℕ)) (vs : List A) → Says word ws vs → length ws ≡ length vs
+  says-length [] [] h = refl
+  says-length [] (v ∷ vs) h = absurd h
+  says-length (w ∷ ws) [] h = absurd h
+  says-length (w ∷ ws) (v ∷ vs) h = ap suc (says-length ws vs (h .2))
+
+  pub says-at : (ws : List (List ℕ)) (vs : List A) → Says word ws vs → (i : ℕ) → i < length ws → SaysAt ws vs i
+  says-at [] [] h i l = absurd (not-suc-le-zero l)
+  says-at [] (v ∷ vs) h i l = absurd h
+  says-at (w ∷ ws) [] h i l = absurd h
+  says-at (w ∷ ws) (v ∷ vs) h zero l = (h .0, h .1)
+  says-at (w ∷ ws) (v ∷ vs) h (suc i) l = says-at ws vs (h .2) i (omega arith)
+
+  pub says-of : (ws : List (List ℕ)) (vs : List A) → length ws ≡ length vs → ((i : ℕ) → i < length ws → SaysAt ws vs i) → Says word ws vs
+  says-of [] [] e f = tt
+  says-of [] (v ∷ vs) e f = absurd (omega arith)
+  says-of (w ∷ ws) [] e f = absurd (omega arith)
+  says-of (w ∷ ws) (v ∷ vs) e f =
+      let h = f 0 (omega arith) in (h .0, h .1, says-of ws vs (omega arith) (λ i l. f (suc i) (omega arith)))

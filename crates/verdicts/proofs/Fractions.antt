@@ -33,7 +33,7 @@ use Rattle.verdicts.specs.Steps.{Known, Roomy, Terms, termsSays, termsOn
 use Rattle.verdicts.proofs.Settling.{all-terms}
 use Rattle.verdicts.proofs.Running.{Ran, ran-fine, ran-known, ran-roomy, ran-front, ran-leaves, then-same, says-rooms}
 
--- ---- two tests that agree on one list's members find the same line
+-- ---- two tests that agree on one list's members find the same place
 first-same : {A B : Type 0} (p q : A → B → Bool) (z : A) (k : ℕ) (xs : List A) (ys : List B)
     → ((i : ℕ) → i < length xs → (y : B) → p (getD xs i z) y ≡ q (getD xs i z) y) → firstPlace p k xs ys ≡ firstPlace q k xs ys
 unfolding firstPlace

@@ -26,7 +26,7 @@ pub record Reference : Type 0 where
   pub denominators : List ℕ
   pub judged : Said Verdict
 
--- what is said of a claim's lines on the vertices of a graph: "A lent area maps each vertex to its claim line"
+-- what is said of a claim's lines on the vertices of a graph: "every verdict uses this record in place of the line-by-line rule"
 abbrev pub judgedOn : {A : Type 0} → Graph → A → (List A → ℕ) → Said (List (ℤ × A)) → Said Verdict
 judgedOn g z mismatch read = judgedBy (placeIn (names g)) (length (names g)) z mismatch read
 

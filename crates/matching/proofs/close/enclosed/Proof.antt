@@ -5,9 +5,6 @@ use Rattle.matching.proofs.Closeness.{Dropped, dropped-none, dropped-ne
 use Rattle.matching.proofs.Closeness.{enclosed-inside, enclosed-edge, dropped-all, left-within, digit-within}
 use Rattle.matching.proofs.close.enclosed.Statement.{statement}
 use Rattle.matching.proofs.close.enclosed.Tie as tie
-use Rattle.matching.proofs.close.enclosed.Reads as reads
-use Rattle.matching.proofs.close.enclosed.Lts as lts
-use Rattle.matching.proofs.close.still_exact.Reads as still-exact-reads
 
 abbrev Inv-loop : tie.InvT-loop
 Inv-loop low high n d k rest₀ part₀ exact₀ j₀ rest part exact j =

@@ -1,15 +1,9 @@
-use Rattle.matching.proofs.Records.{cleared-again}
+use Rattle.basis.proofs.Areas.{cleared-again}
 use Rattle.matching.proofs.FirstPlaces.{room-first, room-second, room-third}
 use Rattle.matching.proofs.DecimalLines.{coefficients-short, coefficients-done}
 use borrow.Author.Needs.{needs}
 use Rattle.matching.proofs.coefficients.judge_coefficients.Statement.{statement}
 use Rattle.matching.proofs.coefficients.judge_coefficients.Tie as tie
-use Rattle.matching.proofs.coefficients.judge_coefficients.Reads as reads
-use Rattle.matching.proofs.coefficients.judge_coefficients.Lts as lts
-use Rattle.basis.proofs.area.clear.Reads as clear-reads
-use Rattle.basis.proofs.refusal.Refusal.plain.Reads as plain-reads
-use Rattle.matching.proofs.coefficients.read_coefficients.Reads as read-coefficients-reads
-use Rattle.matching.proofs.numbers.has_room.Reads as has-room-reads
 
 clear-requires : tie.Need-clear-requires
 clear-requires c κs = search needs

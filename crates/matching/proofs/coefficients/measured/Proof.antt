@@ -3,10 +3,6 @@ use Rattle.matching.proofs.Records.{within-at, far-none, far-near, far-
 use borrow.Author.Needs.{needs}
 use Rattle.matching.proofs.coefficients.measured.Statement.{statement}
 use Rattle.matching.proofs.coefficients.measured.Tie as tie
-use Rattle.matching.proofs.coefficients.measured.Reads as reads
-use Rattle.matching.proofs.coefficients.measured.Lts as lts
-use Rattle.basis.proofs.order.lesser.Reads as lesser-reads
-use Rattle.matching.proofs.coefficients.near_within.Reads as near-within-reads
 
 enum-told : tie.Need-enum-told
 enum-told c = search needs
@@ -32,18 +28,13 @@ near-within-requires c κs = search needs
 returns : tie.Need-returns
 returns c = search far-near
 
-add-result : tie.Need-add-result
-add-result c =
-    let l = within-at (c .before .before .before .before .before .before .before .before .before .before .pre .0)
-    (c .before .before .before .before .before .before .vertex .given .1) in omega arith
+add-here : tie.Need-add-here
+add-here c =
+    let l = within-at (c .before .before .before .before .before .before .before .before .before .pre .0)
+    (c .before .before .before .before .before .vertex .given .1) in omega arith
 
 returns-2 : tie.Need-returns-2
 returns-2 c = search far-first
-
-add-lesser : tie.Need-add-lesser
-add-lesser c =
-    let l = within-at (c .before .before .before .before .before .before .before .before .before .before .pre .0)
-    (c .before .before .before .before .before .before .vertex .given .1) in omega arith
 
 lesser-requires : tie.Need-lesser-requires
 lesser-requires c κs = search needs
@@ -66,9 +57,8 @@ measured-spec =
     shared-slice-read-near-within-2
     near-within-requires
     returns
-    add-result
+    add-here
     returns-2
-    add-lesser
     lesser-requires
     returns-3
     returns-4)

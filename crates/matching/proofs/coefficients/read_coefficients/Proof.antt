@@ -6,17 +6,6 @@ use Rattle.matching.proofs.DecimalLines.{Decimals, decimals-none, decim
 use Rattle.matching.proofs.DecimalLines.{decimals-over, decimals-full}
 use Rattle.matching.proofs.coefficients.read_coefficients.Statement.{statement}
 use Rattle.matching.proofs.coefficients.read_coefficients.Tie as tie
-use Rattle.matching.proofs.coefficients.read_coefficients.Reads as reads
-use Rattle.matching.proofs.coefficients.read_coefficients.Lts as lts
-use Rattle.basis.proofs.refusal.Refusal.at.Reads as at-reads
-use Rattle.basis.proofs.refusal.Refusal.at_column.Reads as at-column-reads
-use Rattle.matching.proofs.coefficients.measured.Reads as measured-reads
-use Rattle.matching.proofs.numbers.verdict_of.Reads as verdict-of-reads
-use Rattle.matching.proofs.reading.ended.Reads as ended-reads
-use Rattle.matching.proofs.reading.recorded.Reads as recorded-reads
-use Rattle.matching.proofs.reading.reported.Reads as reported-reads
-use Rattle.matching.proofs.reading.strayed.Reads as strayed-reads
-use Rattle.text.proofs.line.Cursor.coefficient_claim.Reads as coefficient-claim-reads
 
 abbrev Inv-loop : tie.InvT-loop
 Inv-loop most ids numerators denominators claim lines₀ n cursor₀ k₀ stray₀ far₀ lines cursor k stray far =

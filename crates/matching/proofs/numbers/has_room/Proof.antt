@@ -1,17 +1,16 @@
-use Rattle.matching.proofs.FirstPlaces.{room-first-short, room-second-short, room-rest}
+use Rattle.matching.proofs.FirstPlaces.{room-all}
+use borrow.Author.Needs.{needs}
 use Rattle.matching.proofs.numbers.has_room.Statement.{statement}
 use Rattle.matching.proofs.numbers.has_room.Tie as tie
-use Rattle.matching.proofs.numbers.has_room.Reads as reads
-use Rattle.matching.proofs.numbers.has_room.Lts as lts
+
+lesser-requires : tie.Need-lesser-requires
+lesser-requires c κs = search needs
+
+lesser-requires-2 : tie.Need-lesser-requires-2
+lesser-requires-2 c κs = search needs
 
 returns : tie.Need-returns
-returns c = search room-first-short
-
-returns-2 : tie.Need-returns-2
-returns-2 c = search room-second-short
-
-returns-3 : tie.Need-returns-3
-returns-3 c = search room-rest
+returns c = search room-all
 
 pub has-room-spec : {M : Type 1} → statement M
-has-room-spec = tie.close (tie.spec returns returns-2 returns-3)
+has-room-spec = tie.close (tie.spec lesser-requires lesser-requires-2 returns)

@@ -1,4 +1,4 @@
-use Rattle.matching.proofs.Records.{cleared-again}
+use Rattle.basis.proofs.Areas.{cleared-again}
 use Rattle.matching.proofs.FirstPlaces.{room-first, room-second, room-third}
 use lib.Seq.{length-take-le}
 use mathlib.Core.Path.{sym}
@@ -6,14 +6,6 @@ use Rattle.matching.proofs.Judging.{judge-short, judge-kept, judge-leng
 use borrow.Author.Needs.{needs}
 use Rattle.matching.proofs.numbers.judge_numbers.Statement.{statement}
 use Rattle.matching.proofs.numbers.judge_numbers.Tie as tie
-use Rattle.matching.proofs.numbers.judge_numbers.Reads as reads
-use Rattle.matching.proofs.numbers.judge_numbers.Lts as lts
-use Rattle.basis.proofs.area.clear.Reads as clear-reads
-use Rattle.basis.proofs.area.clear_signed.Reads as clear-signed-reads
-use Rattle.basis.proofs.refusal.Refusal.plain.Reads as plain-reads
-use Rattle.matching.proofs.numbers.has_room.Reads as has-room-reads
-use Rattle.matching.proofs.numbers.judged_on.Reads as judged-on-reads
-use Rattle.matching.proofs.reading.read_numbers.Reads as read-numbers-reads
 
 clear-requires : tie.Need-clear-requires
 clear-requires c κs = search needs

@@ -2,11 +2,6 @@ use Rattle.matching.proofs.Judging.{read-fault, read-incomplete, read-c
 use borrow.Author.Needs.{needs}
 use Rattle.matching.proofs.numbers.judged_on.Statement.{statement}
 use Rattle.matching.proofs.numbers.judged_on.Tie as tie
-use Rattle.matching.proofs.numbers.judged_on.Reads as reads
-use Rattle.matching.proofs.numbers.judged_on.Lts as lts
-use Rattle.matching.proofs.numbers.mismatch.Reads as mismatch-reads
-use Rattle.matching.proofs.numbers.verdict_of.Reads as verdict-of-reads
-use Rattle.matching.proofs.reading.reported.Reads as reported-reads
 
 enum-known-read : tie.Need-enum-known-read
 enum-known-read c = search needs

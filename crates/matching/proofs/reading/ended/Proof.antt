@@ -8,8 +8,6 @@ use Rattle.matching.specs.Steps.{isRecorded}
 use Rattle.matching.proofs.Records.{end-stray, end-missing, end-later, end-whole}
 use Rattle.matching.proofs.reading.ended.Statement.{statement}
 use Rattle.matching.proofs.reading.ended.Tie as tie
-use Rattle.matching.proofs.reading.ended.Reads as reads
-use Rattle.matching.proofs.reading.ended.Lts as lts
 
 abbrev Inv-loop : tie.InvT-loop
 Inv-loop lines n k stray v₀ v = (v ≤ n) × (every v (isRecorded lines) ≡ true)

@@ -3,8 +3,6 @@ use mir.Facts.{toZ-ofZ}
 use borrow.Author.Needs.{needs}
 use Rattle.matching.proofs.reading.keep.Statement.{statement}
 use Rattle.matching.proofs.reading.keep.Tie as tie
-use Rattle.matching.proofs.reading.keep.Reads as reads
-use Rattle.matching.proofs.reading.keep.Lts as lts
 
 enum-told : tie.Need-enum-told
 enum-told c = search needs

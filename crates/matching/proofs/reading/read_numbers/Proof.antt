@@ -6,15 +6,6 @@ use Rattle.matching.proofs.NumberLines.{Numbers, numbers-none, numbers-
 use Rattle.matching.proofs.NumberLines.{numbers-full, named-within}
 use Rattle.matching.proofs.reading.read_numbers.Statement.{statement}
 use Rattle.matching.proofs.reading.read_numbers.Tie as tie
-use Rattle.matching.proofs.reading.read_numbers.Reads as reads
-use Rattle.matching.proofs.reading.read_numbers.Lts as lts
-use Rattle.basis.proofs.refusal.Refusal.at.Reads as at-reads
-use Rattle.basis.proofs.refusal.Refusal.at_column.Reads as at-column-reads
-use Rattle.matching.proofs.reading.ended.Reads as ended-reads
-use Rattle.matching.proofs.reading.keep.Reads as keep-reads
-use Rattle.matching.proofs.reading.recorded.Reads as recorded-reads
-use Rattle.matching.proofs.reading.strayed.Reads as strayed-reads
-use Rattle.text.proofs.line.Cursor.claim.Reads as claim-reads
 
 abbrev Inv-loop : tie.InvT-loop
 Inv-loop most ids claim claimed₀ lines₀ n cursor₀ k₀ stray₀ claimed lines cursor k stray =

@@ -4,9 +4,6 @@ use mathlib.Core.Path.{refl}
 use borrow.Author.Needs.{needs}
 use Rattle.matching.proofs.reading.recorded.Statement.{statement}
 use Rattle.matching.proofs.reading.recorded.Tie as tie
-use Rattle.matching.proofs.reading.recorded.Reads as reads
-use Rattle.matching.proofs.reading.recorded.Lts as lts
-use Rattle.graph.proofs.find.find.Reads as find-reads
 
 find-requires : tie.Need-find-requires
 find-requires c κs = search needs

@@ -2,8 +2,6 @@ use Rattle.matching.proofs.Records.{reported-line}
 use borrow.Author.Needs.{needs}
 use Rattle.matching.proofs.reading.reported.Statement.{statement}
 use Rattle.matching.proofs.reading.reported.Tie as tie
-use Rattle.matching.proofs.reading.reported.Reads as reads
-use Rattle.matching.proofs.reading.reported.Lts as lts
 
 returns : tie.Need-returns
 returns c = search needs

@@ -2,8 +2,6 @@ use Rattle.matching.proofs.Records.{stray-none, stray-kept, stray-here}
 use borrow.Author.Needs.{needs}
 use Rattle.matching.proofs.reading.strayed.Statement.{statement}
 use Rattle.matching.proofs.reading.strayed.Tie as tie
-use Rattle.matching.proofs.reading.strayed.Reads as reads
-use Rattle.matching.proofs.reading.strayed.Lts as lts
 
 enum-told : tie.Need-enum-told
 enum-told c = search needs

@@ -4,12 +4,6 @@ use lib.Seq.{length-take-le}
 use borrow.Author.Needs.{needs}
 use Rattle.verdicts.proofs.claims.numbers_on.Statement.{statement}
 use Rattle.verdicts.proofs.claims.numbers_on.Tie as tie
-use Rattle.verdicts.proofs.claims.numbers_on.Reads as reads
-use Rattle.verdicts.proofs.claims.numbers_on.Lts as lts
-use Rattle.basis.proofs.refusal.Refusal.plain.Reads as plain-reads
-use Rattle.matching.proofs.numbers.judge_numbers.Reads as judge-numbers-reads
-use Rattle.verdicts.proofs.claims.refuse_numbers.Reads as refuse-numbers-reads
-use Rattle.verdicts.proofs.claims.settle_numbers.Reads as settle-numbers-reads
 
 enum-known-answer : tie.Need-enum-known-answer
 enum-known-answer c = search needs

@@ -2,10 +2,6 @@ use Rattle.verdicts.proofs.Settling.{all-numbers}
 use borrow.Author.Needs.{needs}
 use Rattle.verdicts.proofs.claims.refuse_numbers.Statement.{statement}
 use Rattle.verdicts.proofs.claims.refuse_numbers.Tie as tie
-use Rattle.verdicts.proofs.claims.refuse_numbers.Reads as reads
-use Rattle.verdicts.proofs.claims.refuse_numbers.Lts as lts
-use Rattle.basis.proofs.area.clear.Reads as clear-reads
-use Rattle.basis.proofs.area.clear_signed.Reads as clear-signed-reads
 
 clear-signed-requires : tie.Need-clear-signed-requires
 clear-signed-requires c κs = search needs

@@ -2,9 +2,6 @@ use Rattle.verdicts.proofs.Settling.{all-terms}
 use borrow.Author.Needs.{needs}
 use Rattle.verdicts.proofs.claims.refuse_terms.Statement.{statement}
 use Rattle.verdicts.proofs.claims.refuse_terms.Tie as tie
-use Rattle.verdicts.proofs.claims.refuse_terms.Reads as reads
-use Rattle.verdicts.proofs.claims.refuse_terms.Lts as lts
-use Rattle.basis.proofs.area.clear.Reads as clear-reads
 
 clear-requires : tie.Need-clear-requires
 clear-requires c κs = search needs

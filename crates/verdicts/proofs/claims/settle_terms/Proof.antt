@@ -3,10 +3,6 @@ use mathlib.Core.Path.{refl}
 use borrow.Author.Needs.{needs}
 use Rattle.verdicts.proofs.claims.settle_terms.Statement.{statement}
 use Rattle.verdicts.proofs.claims.settle_terms.Tie as tie
-use Rattle.verdicts.proofs.claims.settle_terms.Reads as reads
-use Rattle.verdicts.proofs.claims.settle_terms.Lts as lts
-use Rattle.basis.proofs.area.clear.Reads as clear-reads
-use Rattle.verdicts.proofs.claims.is_refused.Reads as is-refused-reads
 
 is-refused-requires : tie.Need-is-refused-requires
 is-refused-requires c κs = search needs

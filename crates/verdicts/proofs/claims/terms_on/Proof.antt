@@ -4,12 +4,6 @@ use lib.Seq.{length-take-le}
 use borrow.Author.Needs.{needs}
 use Rattle.verdicts.proofs.claims.terms_on.Statement.{statement}
 use Rattle.verdicts.proofs.claims.terms_on.Tie as tie
-use Rattle.verdicts.proofs.claims.terms_on.Reads as reads
-use Rattle.verdicts.proofs.claims.terms_on.Lts as lts
-use Rattle.basis.proofs.refusal.Refusal.plain.Reads as plain-reads
-use Rattle.matching.proofs.coefficients.judge_coefficients.Reads as judge-coefficients-reads
-use Rattle.verdicts.proofs.claims.refuse_terms.Reads as refuse-terms-reads
-use Rattle.verdicts.proofs.claims.settle_terms.Reads as settle-terms-reads
 
 enum-known-answer : tie.Need-enum-known-answer
 enum-known-answer c = search needs

@@ -3,10 +3,6 @@ use Rattle.verdicts.proofs.Kernels.{bfs-known, bfs-roomy, bfs-cleared, 
 use borrow.Author.Needs.{needs}
 use Rattle.verdicts.proofs.each.on_bfs.Statement.{statement}
 use Rattle.verdicts.proofs.each.on_bfs.Tie as tie
-use Rattle.verdicts.proofs.each.on_bfs.Reads as reads
-use Rattle.verdicts.proofs.each.on_bfs.Lts as lts
-use Rattle.bfs.proofs.bfs.Reads as bfs-reads
-use Rattle.verdicts.proofs.claims.numbers_on.Reads as numbers-on-reads
 
 bfs-requires : tie.Need-bfs-requires
 bfs-requires c κs = search needs

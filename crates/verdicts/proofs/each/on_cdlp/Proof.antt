@@ -3,10 +3,6 @@ use Rattle.verdicts.proofs.Kernels.{cdlp-known, cdlp-roomy, cdlp-cleare
 use borrow.Author.Needs.{needs}
 use Rattle.verdicts.proofs.each.on_cdlp.Statement.{statement}
 use Rattle.verdicts.proofs.each.on_cdlp.Tie as tie
-use Rattle.verdicts.proofs.each.on_cdlp.Reads as reads
-use Rattle.verdicts.proofs.each.on_cdlp.Lts as lts
-use Rattle.cdlp.proofs.cdlp.Reads as cdlp-reads
-use Rattle.verdicts.proofs.claims.numbers_on.Reads as numbers-on-reads
 
 cdlp-requires : tie.Need-cdlp-requires
 cdlp-requires c κs = search needs

@@ -2,10 +2,6 @@ use Rattle.verdicts.proofs.Fractions.{lcc-known, lcc-roomy, lcc-cleared
 use borrow.Author.Needs.{needs}
 use Rattle.verdicts.proofs.each.on_lcc.Statement.{statement}
 use Rattle.verdicts.proofs.each.on_lcc.Tie as tie
-use Rattle.verdicts.proofs.each.on_lcc.Reads as reads
-use Rattle.verdicts.proofs.each.on_lcc.Lts as lts
-use Rattle.lcc.proofs.lcc.Reads as lcc-reads
-use Rattle.verdicts.proofs.claims.terms_on.Reads as terms-on-reads
 
 lcc-requires : tie.Need-lcc-requires
 lcc-requires c κs = search needs

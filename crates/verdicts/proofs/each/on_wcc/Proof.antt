@@ -2,10 +2,6 @@ use Rattle.verdicts.proofs.Kernels.{wcc-known, wcc-roomy, wcc-cleared, 
 use borrow.Author.Needs.{needs}
 use Rattle.verdicts.proofs.each.on_wcc.Statement.{statement}
 use Rattle.verdicts.proofs.each.on_wcc.Tie as tie
-use Rattle.verdicts.proofs.each.on_wcc.Reads as reads
-use Rattle.verdicts.proofs.each.on_wcc.Lts as lts
-use Rattle.verdicts.proofs.claims.numbers_on.Reads as numbers-on-reads
-use Rattle.wcc.proofs.wcc.Reads as wcc-reads
 
 wcc-requires : tie.Need-wcc-requires
 wcc-requires c κs = search needs

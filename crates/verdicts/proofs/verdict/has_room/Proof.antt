@@ -2,9 +2,6 @@ use Rattle.verdicts.proofs.Calls.{room-all}
 use borrow.Author.Needs.{needs}
 use Rattle.verdicts.proofs.verdict.has_room.Statement.{statement}
 use Rattle.verdicts.proofs.verdict.has_room.Tie as tie
-use Rattle.verdicts.proofs.verdict.has_room.Reads as reads
-use Rattle.verdicts.proofs.verdict.has_room.Lts as lts
-use Rattle.basis.proofs.order.lesser.Reads as lesser-reads
 
 lesser-requires : tie.Need-lesser-requires
 lesser-requires c κs = search needs

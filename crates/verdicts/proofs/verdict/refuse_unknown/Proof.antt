@@ -2,11 +2,6 @@ use Rattle.verdicts.proofs.Calls.{unknown-all}
 use borrow.Author.Needs.{needs}
 use Rattle.verdicts.proofs.verdict.refuse_unknown.Statement.{statement}
 use Rattle.verdicts.proofs.verdict.refuse_unknown.Tie as tie
-use Rattle.verdicts.proofs.verdict.refuse_unknown.Reads as reads
-use Rattle.verdicts.proofs.verdict.refuse_unknown.Lts as lts
-use Rattle.basis.proofs.area.clear.Reads as clear-reads
-use Rattle.basis.proofs.area.clear_signed.Reads as clear-signed-reads
-use Rattle.basis.proofs.refusal.Refusal.plain.Reads as plain-reads
 
 clear-signed-requires : tie.Need-clear-signed-requires
 clear-signed-requires c κs = search needs

@@ -2,9 +2,6 @@ use mir.Facts.{toZ-ofZ}
 use borrow.Author.Needs.{needs}
 use Rattle.verdicts.proofs.verdict.verdict.Statement.{statement}
 use Rattle.verdicts.proofs.verdict.verdict.Tie as tie
-use Rattle.verdicts.proofs.verdict.verdict.Reads as reads
-use Rattle.verdicts.proofs.verdict.verdict.Lts as lts
-use Rattle.verdicts.proofs.verdict.verdict_within.Reads as verdict-within-reads
 
 verdict-within-requires : tie.Need-verdict-within-requires
 verdict-within-requires c κs = search needs

@@ -3,16 +3,6 @@ use Rattle.verdicts.proofs.Calls.{roomy, verdict-unknown, verdict-bfs, 
 use borrow.Author.Needs.{needs}
 use Rattle.verdicts.proofs.verdict.verdict_within.Statement.{statement}
 use Rattle.verdicts.proofs.verdict.verdict_within.Tie as tie
-use Rattle.verdicts.proofs.verdict.verdict_within.Reads as reads
-use Rattle.verdicts.proofs.verdict.verdict_within.Lts as lts
-use Rattle.basis.proofs.area.clear.Reads as clear-reads
-use Rattle.basis.proofs.area.clear_signed.Reads as clear-signed-reads
-use Rattle.verdicts.proofs.each.on_bfs.Reads as on-bfs-reads
-use Rattle.verdicts.proofs.each.on_cdlp.Reads as on-cdlp-reads
-use Rattle.verdicts.proofs.each.on_lcc.Reads as on-lcc-reads
-use Rattle.verdicts.proofs.each.on_wcc.Reads as on-wcc-reads
-use Rattle.verdicts.proofs.verdict.has_room.Reads as has-room-reads
-use Rattle.verdicts.proofs.verdict.refuse_unknown.Reads as refuse-unknown-reads
 
 has-room-requires : tie.Need-has-room-requires
 has-room-requires c κs = search needs
