@@ -69,11 +69,11 @@ Maps place n named lines = (v : ℕ) → v < n → getD lines v 0 ≡ itsLine pl
 
 -- the lines of a claim that was read whole: the first incomplete one, the claim lines of its vertices in the record, and where none is
 -- incomplete, their values in the working area, in vertex order
-pub record WholeOf (most : ℕ) (ids : List ℤ) (s : List ℕ) (claimed : List ℤ) (record′ : List ℕ) (incomplete : ℕ) : Type 0 where
+pub record WholeOf (most : ℕ) (ids : List ℤ) (s : List ℕ) (claimed : List ℤ) (places : List ℕ) (incomplete : ℕ) : Type 0 where
   pub lines : List (ℤ × ℤ)
   pub are : numberLines most s ≡ gives lines
   pub first : incomplete ≡ incompleteLine (bisected ids) (length ids) (idsOf lines)
-  pub maps : Maps (bisected ids) (length ids) (idsOf lines) record′
+  pub maps : Maps (bisected ids) (length ids) (idsOf lines) places
   pub values : incomplete ≡ 0 → take (length ids) claimed ≡ inOrder (bisected ids) (pos 0) (length ids) lines
 
 -- what the code's answer tells of a claim: it was read whole, with its first incomplete line or 0, or its first fault is this refusal
