@@ -41,7 +41,7 @@ module _ (place : ℤ → Found) where
       by true h = refl
       by false h = let e : suc k + suc (length named) ≡ suc (suc k) + length named = omega arith in rw e h
 
-  pub line-more : (named : List ℤ) (id : ℤ) (v : ℕ)
+  line-more : (named : List ℤ) (id : ℤ) (v : ℕ)
       → itsLine place (named ++ (id ∷ [])) v ≡ orElse (itsLine place named v) (cond (isVertex (place id) v) (length named + 1) 0)
   line-more named id v = let e : length named + 1 ≡ 1 + length named = omega arith in rw e (from-more 0 named id v)
 
@@ -58,7 +58,7 @@ module _ (place : ℤ → Found) where
   pub line-bound : (named : List ℤ) (v : ℕ) → itsLine place named v ≤ length named
   line-bound named v = let h = from-bound 0 named v in omega arith
 
-  pub stray-more : (named : List ℤ) (id : ℤ)
+  stray-more : (named : List ℤ) (id : ℤ)
       → strayLine place (named ++ (id ∷ [])) ≡ orElse (strayLine place named) (cond (isNew place named (place id)) 0 (length named + 1))
   unfolding strayLine namesNew
   stray-more named id =

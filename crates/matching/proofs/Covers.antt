@@ -58,17 +58,17 @@ module _ (ids : List ℤ) (r : risingZ ids ≡ true) where
       let h = place-at ids (getD named i (pos 0)) r v .0 e in record { vertex = h .0; line = l; names = sym (h .1) }
 
   -- the first line that names a vertex; 0 where none does
-  pub line-finds : (named : List ℤ) (v : ℕ) → Finds (LineOf ids named v) 0 (itsLine (placeIn ids) named v)
+  line-finds : (named : List ℤ) (v : ℕ) → Finds (LineOf ids named v) 0 (itsLine (placeIn ids) named v)
   unfolding Names
   line-finds named v =
       finds-same (λ i h. place-named (h .0) (vertex-of v (placeIn ids (getD named i (pos 0))) (h .1)))
       (λ i h. (h .line, rw (named-place h) (eq-eqb v v refl)))
       (from-finds v 0 named)
 
-  pub line-is : (named : List ℤ) (v i : ℕ) → (itsLine (placeIn ids) named v ≡ suc i) ↔ Least (LineOf ids named v) i
+  line-is : (named : List ℤ) (v i : ℕ) → (itsLine (placeIn ids) named v ≡ suc i) ↔ Least (LineOf ids named v) i
   line-is named v i = finds-exactly (line-finds named v) i
 
-  pub line-none : (named : List ℤ) (v : ℕ) → (itsLine (placeIn ids) named v ≡ 0) ↔ ((i : ℕ) → LineOf ids named v i → ⊥)
+  line-none : (named : List ℤ) (v : ℕ) → (itsLine (placeIn ids) named v ≡ 0) ↔ ((i : ℕ) → LineOf ids named v i → ⊥)
   line-none named v = finds-none (line-finds named v)
 
   -- ---- a line that names an unknown or already named vertex
