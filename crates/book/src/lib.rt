@@ -1,5 +1,7 @@
 // Layer book. The group book: groups of vertices that grow join by join, in one area of signed numbers that the caller lends, `entries`:
 // a parent at an ordinary vertex, and at a head minus its group's size. Here are the answers, and the walks that the calls share.
+#![tactic(auto)]
+
 ghost use Rattle.std.specs.Prelude.{◌≡◌, ◌≤◌, ◌<◌, length, leb};
 ghost use Rattle.basis.specs.Limits.{most_vertices};
 ghost use Rattle.book.specs.Rules.{walk_from, heads_of};

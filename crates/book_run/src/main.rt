@@ -1,5 +1,7 @@
 // A program beside the layers. Runs the cases of the group book that are run and compared: each line has the call, what it answered, and
 // whether the area stayed.
+#![tactic(auto)]
+
 mod print;
 
 use print::{

@@ -21,14 +21,10 @@ use Rattle.text.proofs.line.Cursor.vertex as text-vertex
 use Rattle.text.proofs.line.Cursor.edge as text-edge
 use Rattle.text.proofs.line.Cursor.claim as text-claim
 use Rattle.text.proofs.line.Cursor.coefficient_claim as text-coefficient_claim
-use Rattle.text.specs.contracts.line.Cursor.listed_edge as text-listed_edge
-use Rattle.text.specs.contracts.line.Cursor.distance_claim as text-distance_claim
-use Rattle.text.proofs.line.has_weights as text-has_weights
 use Rattle.write.proofs.bytes.put as write-put
 use Rattle.write.proofs.bytes.put_bytes as write-put_bytes
 use Rattle.write.proofs.numbers.put_number as write-put_number
 use Rattle.write.proofs.numbers.put_signed as write-put_signed
-use Rattle.write.proofs.millionths.put_millionths as write-put_millionths
 use Rattle.book.proofs.opening.open_book as book-open_book
 use Rattle.book.proofs.joining.join as book-join
 use Rattle.book.proofs.joining.join_each as book-join_each
@@ -41,15 +37,12 @@ use Rattle.graph.proofs.find.find as graph-find
 use Rattle.graph.proofs.sound.sound as graph-sound
 use Rattle.graph.proofs.walk.sound_over as graph-sound_over
 use Rattle.graph.proofs.part.part as graph-part
-use Rattle.graph.proofs.weights.is_weighted as graph-is_weighted
-use Rattle.graph.proofs.weights.weighted_sound_over as graph-weighted_sound_over
 use Rattle.view.specs.contracts.held.view_of as view-view_of
 use Rattle.view.specs.contracts.held.of_vertex as view-of_vertex
 use Rattle.view.proofs.neighbours as view-neighbours
 use Rattle.store.proofs.spread.lacks as store-lacks
 use Rattle.store.proofs.spread.spread as store-spread
 use Rattle.store.proofs.sums.sum_up as store-sum_up
-use Rattle.store.proofs.weigh.spread_weighed as store-spread_weighed
 use Rattle.lists.proofs.vertices.read_vertices as lists-read_vertices
 use Rattle.lists.proofs.edges.read_edges as lists-read_edges
 use Rattle.load.proofs.load_within as load-load_within
@@ -62,12 +55,9 @@ use Rattle.lcc.proofs.lcc as lcc-lcc
 use Rattle.lcc.proofs.common.common as lcc-common
 use Rattle.lcc.proofs.ratio.gcd as lcc-gcd
 use Rattle.lcc.proofs.ratio.reduced as lcc-reduced
-use Rattle.sssp.proofs.sssp as sssp-sssp
 use Rattle.matching.proofs.close.close as matching-close
 use Rattle.matching.proofs.numbers.judge_numbers as matching-judge_numbers
 use Rattle.matching.proofs.coefficients.judge_coefficients as matching-judge_coefficients
-use Rattle.matching.proofs.near.near_distance as matching-near_distance
-use Rattle.matching.proofs.distances.judge_distances as matching-judge_distances
 use Rattle.verdicts.proofs.verdict.verdict_within as verdicts-verdict_within
 use Rattle.verdicts.proofs.verdict.verdict as verdicts-verdict
 use Rattle.plan.proofs.job.read_job as plan-read_job
@@ -83,9 +73,6 @@ use Rattle.listing.proofs.results.put_pair as listing-put_pair
 use Rattle.listing.proofs.results.put_ratio as listing-put_ratio
 use Rattle.listing.proofs.results.put_pairs as listing-put_pairs
 use Rattle.listing.proofs.results.put_ratios as listing-put_ratios
-use Rattle.listing.proofs.routes.put_distance as listing-put_distance
-use Rattle.listing.proofs.routes.put_route as listing-put_route
-use Rattle.listing.proofs.routes.put_routes as listing-put_routes
 use Rattle.sheet.proofs.jobs.run_jobs as sheet-run_jobs
 use Rattle.sheet.proofs.answer as sheet-answer
 use Rattle.trace.proofs.loading.trace_load as trace-trace_load
@@ -93,7 +80,6 @@ use Rattle.trace.proofs.four_kernels.trace_bfs as trace-trace_bfs
 use Rattle.trace.proofs.four_kernels.trace_wcc as trace-trace_wcc
 use Rattle.trace.proofs.four_kernels.trace_cdlp as trace-trace_cdlp
 use Rattle.trace.proofs.four_kernels.trace_lcc as trace-trace_lcc
-use Rattle.trace.proofs.routes.trace_sssp as trace-trace_sssp
 use Rattle.trace.proofs.group_book.trace_book_open as trace-opened
 use Rattle.trace.proofs.group_book.trace_book_join as trace-trace_book_join
 use Rattle.trace.proofs.group_book.trace_book_head as trace-trace_book_head
@@ -103,7 +89,7 @@ use Rattle.trace.proofs.group_book.trace_book_count as trace-trace_book_count
 use Rattle.trace.proofs.group_book.trace_book_limit as trace-trace_book_limit
 use Rattle.trace.proofs.judging.trace_judge as trace-trace_judge
 use Rattle.trace.proofs.judging.trace_verdict as trace-trace_verdict
-use Rattle.text.proofs.Saids.{count-one, scan-one, vertex-one, edge-one, weighed-one, coefficient-one, distance-one}
+use Rattle.text.proofs.Saids.{count-one, scan-one, vertex-one, edge-one, coefficient-one}
 use Rattle.graph.proofs.Finds.{searched-is}
 use Rattle.book.proofs.Answers.{one-opened, one-joined, one-joined_each, one-headed, one-compared, one-reading}
 use Rattle.plan.proofs.Saids.{job_one, checked-one}
@@ -255,27 +241,6 @@ text-coefficient_claim-one = record {
   one = λ _ _ z z' _ _ p q. (coefficient-one z z' (meet p q), refl);
 }
 
-pub text-listed_edge-one : One text-listed_edge.ended (λ M 𝓤. text-listed_edge.clauses 𝓤)
-text-listed_edge-one = record {
-  promise = text-listed_edge.Reads.Learnt;
-  told = refl;
-  one = λ _ _ z z' _ _ p q. (weighed-one z z' (meet p q), refl);
-}
-
-pub text-distance_claim-one : One text-distance_claim.ended (λ M 𝓤. text-distance_claim.clauses 𝓤)
-text-distance_claim-one = record {
-  promise = text-distance_claim.Reads.Learnt;
-  told = refl;
-  one = λ _ _ z z' _ _ p q. (distance-one z z' (meet p q), refl);
-}
-
-pub text-has_weights-one : One text-has_weights.ended (λ M 𝓤. text-has_weights.clauses 𝓤)
-text-has_weights-one = record {
-  promise = text-has_weights.Reads.Learnt;
-  told = refl;
-  one = λ _ _ _ _ _ _ p q. (meet p q, refl);
-}
-
 -- ---- write
 pub write-put-one : One write-put.ended (λ M 𝓤. write-put.clauses 𝓤)
 write-put-one = record {
@@ -310,16 +275,6 @@ write-put_number-one = record {
 pub write-put_signed-one : One write-put_signed.ended (λ M 𝓤. write-put_signed.clauses 𝓤)
 write-put_signed-one = record {
   promise = write-put_signed.Reads.Learnt;
-  told = refl;
-  one = λ _ _ _ _ _ _ p q. (
-    ap (λ o. o.next) (meet p q),
-    ap (λ o. o.area & tt & tt & tt) (meet p q),
-  );
-}
-
-pub write-put_millionths-one : One write-put_millionths.ended (λ M 𝓤. write-put_millionths.clauses 𝓤)
-write-put_millionths-one = record {
-  promise = write-put_millionths.Reads.Learnt;
   told = refl;
   one = λ _ _ _ _ _ _ p q. (
     ap (λ o. o.next) (meet p q),
@@ -425,23 +380,6 @@ graph-part-one = record {
   one = λ _ _ _ _ _ _ p q. (meet p q, refl);
 }
 
-pub graph-is_weighted-one : One graph-is_weighted.ended (λ M 𝓤. graph-is_weighted.clauses 𝓤)
-graph-is_weighted-one = record {
-  promise = graph-is_weighted.Reads.Learnt;
-  told = refl;
-  one = λ _ _ _ _ _ _ p q. (meet p q, refl);
-}
-
-pub graph-weighted_sound_over-one : One graph-weighted_sound_over.ended (λ M 𝓤. graph-weighted_sound_over.clauses 𝓤)
-graph-weighted_sound_over-one = record {
-  promise = graph-weighted_sound_over.Reads.Learnt;
-  told = refl;
-  one = λ _ _ _ _ _ _ p q. (
-    ap (λ o. o.sound) (meet p q),
-    ap (λ o. tt & tt & tt & tt & tt & tt & tt & tt & tt & o.cursors & tt) (meet p q),
-  );
-}
-
 -- ---- view
 pub view-view_of-one : One view-view_of.ended (λ M 𝓤. view-view_of.clauses 𝓤)
 view-view_of-one = record {
@@ -489,16 +427,6 @@ store-sum_up-one = record {
   one = λ _ _ _ _ _ _ p q. (refl, ap (λ l. l & tt & tt) (meet p q));
 }
 
-pub store-spread_weighed-one : One store-spread_weighed.ended (λ M 𝓤. store-spread_weighed.clauses 𝓤)
-store-spread_weighed-one = record {
-  promise = store-spread_weighed.Reads.Learnt;
-  told = refl;
-  one = λ _ _ _ _ _ _ p q. (
-    ap (λ o. o.done) (meet p q),
-    ap (λ o. o.offsets & o.targets & o.weights & tt & tt & tt & tt & tt & tt) (meet p q),
-  );
-}
-
 -- ---- lists
 pub lists-read_vertices-one : One lists-read_vertices.ended (λ M 𝓤. lists-read_vertices.clauses 𝓤)
 lists-read_vertices-one = record {
@@ -516,7 +444,7 @@ lists-read_edges-one = record {
   told = refl;
   one = λ _ _ z z' _ _ p q. (
     one-listed z z' (ap (λ o. o.answer) (meet p q)),
-    ap (λ o. tt & tt & tt & tt & o.counts & o.targets & o.weights & tt) (meet p q),
+    ap (λ o. tt & tt & tt & tt & o.counts & o.targets & tt) (meet p q),
   );
 }
 
@@ -527,9 +455,7 @@ load-load_within-one = record {
   told = refl;
   one = λ _ _ z z' _ _ p q. (
     one-loaded z z' (ap (λ o. o.answer) (meet p q)),
-    ap
-        (λ o. tt & tt & tt & tt & o.ids & o.out_offsets & o.out_targets & o.in_offsets & o.in_sources & o.out_weights & o.in_weights & tt)
-        (meet p q),
+    ap (λ o. tt & tt & tt & tt & o.ids & o.out_offsets & o.out_targets & o.in_offsets & o.in_sources & tt) (meet p q),
   );
 }
 
@@ -539,9 +465,7 @@ load-load-one = record {
   told = refl;
   one = λ _ _ z z' _ _ p q. (
     one-loaded z z' (ap (λ o. o.answer) (meet p q)),
-    ap
-        (λ o. tt & tt & tt & o.ids & o.out_offsets & o.out_targets & o.in_offsets & o.in_sources & o.out_weights & o.in_weights & tt)
-        (meet p q),
+    ap (λ o. tt & tt & tt & o.ids & o.out_offsets & o.out_targets & o.in_offsets & o.in_sources & tt) (meet p q),
   );
 }
 
@@ -618,17 +542,6 @@ lcc-reduced-one = record {
   one = λ _ _ _ _ _ _ p q. (meet p q, refl);
 }
 
--- ---- sssp
-pub sssp-sssp-one : One sssp-sssp.ended (λ M 𝓤. sssp-sssp.clauses 𝓤)
-sssp-sssp-one = record {
-  promise = sssp-sssp.Reads.Learnt;
-  told = refl;
-  one = λ _ _ z z' _ _ p q. (
-    one-kernel z z' (ap (λ o. o.said) (meet p q)),
-    ap (λ o. tt & tt & tt & tt & tt & tt & tt & tt & tt & tt & o.distance & o.settled & o.waiting & o.tree & tt) (meet p q),
-  );
-}
-
 -- ---- matching
 pub matching-close-one : One matching-close.ended (λ M 𝓤. matching-close.clauses 𝓤)
 matching-close-one = record {
@@ -657,23 +570,6 @@ matching-judge_coefficients-one = record {
   );
 }
 
-pub matching-near_distance-one : One matching-near_distance.ended (λ M 𝓤. matching-near_distance.clauses 𝓤)
-matching-near_distance-one = record {
-  promise = matching-near_distance.Reads.Learnt;
-  told = refl;
-  one = λ _ _ _ _ _ _ p q. (meet p q, refl);
-}
-
-pub matching-judge_distances-one : One matching-judge_distances.ended (λ M 𝓤. matching-judge_distances.clauses 𝓤)
-matching-judge_distances-one = record {
-  promise = matching-judge_distances.Reads.Learnt;
-  told = refl;
-  one = λ _ _ z z' _ _ p q. (
-    says-apart z z' (ap (λ o. o.said) (meet p q)),
-    ap (λ o. tt & tt & tt & tt & o.lines & tt) (meet p q),
-  );
-}
-
 -- ---- verdicts
 pub verdicts-verdict_within-one : One verdicts-verdict_within.ended (λ M 𝓤. verdicts-verdict_within.clauses 𝓤)
 verdicts-verdict_within-one = record {
@@ -682,8 +578,7 @@ verdicts-verdict_within-one = record {
   one = λ _ _ z z' _ _ p q. (
     says-apart z z' (ap (λ o. o.said) (meet p q)),
     ap
-        (λ o. tt & tt & tt & tt & tt & tt & tt & tt & tt & tt & tt & tt & tt & o.result & o.claimed & o.first & o.second
-        & o.third & o.lines & tt)
+        (λ o. tt & tt & tt & tt & tt & tt & tt & tt & tt & tt & o.result & o.claimed & o.first & o.second & o.third & o.lines & tt)
         (meet p q),
   );
 }
@@ -695,8 +590,7 @@ verdicts-verdict-one = record {
   one = λ _ _ z z' _ _ p q. (
     says-apart z z' (ap (λ o. o.said) (meet p q)),
     ap
-        (λ o. tt & tt & tt & tt & tt & tt & tt & tt & tt & tt & tt & tt & o.result & o.claimed & o.first & o.second
-        & o.third & o.lines & tt)
+        (λ o. tt & tt & tt & tt & tt & tt & tt & tt & tt & o.result & o.claimed & o.first & o.second & o.third & o.lines & tt)
         (meet p q),
   );
 }
@@ -815,36 +709,6 @@ listing-put_ratios-one = record {
   );
 }
 
-pub listing-put_distance-one : One listing-put_distance.ended (λ M 𝓤. listing-put_distance.clauses 𝓤)
-listing-put_distance-one = record {
-  promise = listing-put_distance.Reads.Learnt;
-  told = refl;
-  one = λ _ _ _ _ _ _ p q. (
-    ap (λ o. o.next) (meet p q),
-    ap (λ o. o.area & tt & tt & tt) (meet p q),
-  );
-}
-
-pub listing-put_route-one : One listing-put_route.ended (λ M 𝓤. listing-put_route.clauses 𝓤)
-listing-put_route-one = record {
-  promise = listing-put_route.Reads.Learnt;
-  told = refl;
-  one = λ _ _ _ _ _ _ p q. (
-    ap (λ o. o.next) (meet p q),
-    ap (λ o. o.area & tt & tt & tt & tt) (meet p q),
-  );
-}
-
-pub listing-put_routes-one : One listing-put_routes.ended (λ M 𝓤. listing-put_routes.clauses 𝓤)
-listing-put_routes-one = record {
-  promise = listing-put_routes.Reads.Learnt;
-  told = refl;
-  one = λ _ _ _ _ _ _ p q. (
-    ap (λ o. o.next) (meet p q),
-    ap (λ o. o.area & tt & tt & tt & tt) (meet p q),
-  );
-}
-
 -- ---- sheet
 pub sheet-run_jobs-one : One sheet-run_jobs.ended (λ M 𝓤. sheet-run_jobs.clauses 𝓤)
 sheet-run_jobs-one = record {
@@ -852,7 +716,7 @@ sheet-run_jobs-one = record {
   told = refl;
   one = λ _ _ _ _ _ _ p q. (
     ap (λ o. o.next) (meet p q),
-    ap (λ o. tt & tt & tt & tt & tt & tt & tt & tt & tt & tt & tt & tt & o.area & tt & tt) (meet p q),
+    ap (λ o. tt & tt & tt & tt & tt & tt & tt & tt & tt & o.area & tt & tt) (meet p q),
   );
 }
 
@@ -873,9 +737,7 @@ trace-trace_load-one = record {
   told = refl;
   one = λ _ _ _ _ _ _ p q. (
     ap (λ o. o.answer) (meet p q),
-    ap
-        (λ o. tt & tt & tt & o.ids & o.out_offsets & o.out_targets & o.in_offsets & o.in_sources & o.out_weights & o.in_weights & tt)
-        (meet p q),
+    ap (λ o. tt & tt & tt & o.ids & o.out_offsets & o.out_targets & o.in_offsets & o.in_sources & tt) (meet p q),
   );
 }
 
@@ -916,16 +778,6 @@ trace-trace_lcc-one = record {
   one = λ _ _ _ _ _ _ p q. (
     ap (λ o. o.answer) (meet p q),
     ap (λ o. tt & tt & tt & tt & tt & tt & tt & o.numerators & o.denominators & o.work & tt) (meet p q),
-  );
-}
-
-pub trace-trace_sssp-one : One trace-trace_sssp.ended (λ M 𝓤. trace-trace_sssp.clauses 𝓤)
-trace-trace_sssp-one = record {
-  promise = trace-trace_sssp.Reads.Learnt;
-  told = refl;
-  one = λ _ _ _ _ _ _ p q. (
-    ap (λ o. o.answer) (meet p q),
-    ap (λ o. tt & tt & tt & tt & tt & tt & tt & tt & tt & tt & tt & o.distance & o.settled & o.waiting & o.tree & tt) (meet p q),
   );
 }
 
@@ -991,8 +843,7 @@ trace-trace_judge-one = record {
   one = λ _ _ _ _ _ _ p q. (
     ap (λ o. o.answer) (meet p q),
     ap
-        (λ o. tt & tt & tt & tt & tt & tt & tt & tt & tt & tt & tt & tt & tt & o.result & o.claimed & o.first & o.second
-        & o.third & o.lines & tt)
+        (λ o. tt & tt & tt & tt & tt & tt & tt & tt & tt & tt & o.result & o.claimed & o.first & o.second & o.third & o.lines & tt)
         (meet p q),
   );
 }

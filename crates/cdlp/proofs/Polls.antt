@@ -276,14 +276,14 @@ module _ (n own : ℕ) (L us : List ℕ) (h : all_below (length L) us ≡ true) 
   counting =
       polled-all n own (labels_at 0 L us) nothing (poll (replicate n 0) (best own 0)) (labels-low n L us h hL) (counting-start n own)
 
-  count_at_lem : (j : ℕ) → j < n → get_or (after n own (labels_at 0 L us)).counts j 0 ≡ times eqb j (labels_at 0 L us)
+  count_at : (j : ℕ) → j < n → get_or (after n own (labels_at 0 L us)).counts j 0 ≡ times eqb j (labels_at 0 L us)
   unfolding nothing
-  count_at_lem j g = counting.nums j g ∙ told-times (labels_at 0 L us) nothing j ∙ add-zero (times eqb j (labels_at 0 L us))
+  count_at j g = counting.nums j g ∙ told-times (labels_at 0 L us) nothing j ∙ add-zero (times eqb j (labels_at 0 L us))
 
   after-under : Under (length us) (after n own (labels_at 0 L us)).counts
   after-under j =
       elim (dec_lt j n) as (λ _. get_or (after n own (labels_at 0 L us)).counts j 0 ≤ length us) [
-        | yes g ↦ let e = count_at_lem j g in let t = times-le j (labels_at 0 L us) in let l = labels_length 0 L us in omega arith
+        | yes g ↦ let e = count_at j g in let t = times-le j (labels_at 0 L us) in let l = labels_length 0 L us in omega arith
         | no g ↦ let e = get_or-eq_default (after n own (labels_at 0 L us)).counts 0 {n = j} (let k = counting.len in omega arith) in
             omega arith
       ]
@@ -293,7 +293,7 @@ module _ (n own : ℕ) (L us : List ℕ) (h : all_below (length L) us ≡ true) 
       let len : length (forgotten (labels_at 0 L us) (after n own (labels_at 0 L us)).counts)
       ≡ n = forgotten-length (labels_at 0 L us) (after n own (labels_at 0 L us)).counts ∙ counting.len in
       ext_get_or 0 (forgotten (labels_at 0 L us) (after n own (labels_at 0 L us)).counts) (replicate n 0) (len ∙ sym (length-replicate n 0))
-      (λ j g. forgotten-zero (labels_at 0 L us) (after n own (labels_at 0 L us)).counts j (λ e. count_at_lem j (omega arith) ∙ e)
+      (λ j g. forgotten-zero (labels_at 0 L us) (after n own (labels_at 0 L us)).counts j (λ e. count_at j (omega arith) ∙ e)
       ∙ sym (replicate-at 0 n j))
 
 -- ---- a vertex's two parts: what the steps of `settle` ask, and what they give in the end

@@ -1,4 +1,6 @@
 // Layer kernels. CDLP: community detection by label propagation (document 000, 2.3.4).
+#![tactic(auto)]
+
 mod label;
 mod rounds;
 

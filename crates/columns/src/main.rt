@@ -1,14 +1,15 @@
 // A program beside the layers. Reads records on standard input, at most 65,536 bytes, and prints what the line readers answer of each: the
 // refusal's number and column, `0 0` of a good line, `end` where no line is left. A record is a byte for the kind of line, `v` vertex, `e`
-// edge, `c` claim, `l` claim of LCC, `d` claim of SSSP, `w` edge in a file with weights, `f` first edge of a file, and a line up to its LF.
-// With a capital the reader is lent the input up to that LF alone, so that the line ends with the file.
+// edge, `c` claim, `l` claim of LCC, and a line up to its LF. With a capital the reader is lent the input up to that LF alone, so that the
+// line ends with the file.
+#![tactic(auto)]
+
 ghost use Rattle.std.specs.Prelude.{◌≤◌, ◌<◌, length};
 
 use libc::{STDIN_FILENO, STDOUT_FILENO};
 use text::Cursor;
 use text::count::line_end;
-use text::distance::DistanceLine;
-use text::line::{CoefficientLine, EdgeLine, VertexLine, WeighedLine, has_weights};
+use text::line::{CoefficientLine, EdgeLine, VertexLine};
 
 // How many bytes are read.
 const MOST: usize = 65536;
@@ -50,31 +51,6 @@ fn shown_coefficient(line: CoefficientLine) {
     }
 }
 
-fn shown_weighed(line: WeighedLine) {
-    match line {
-        WeighedLine::End(_) => print_end(),
-        WeighedLine::Fault(number, column, _) => print_two(number, column),
-        WeighedLine::Line(_, _, _, _) => print_two(0, 0),
-    }
-}
-
-fn shown_distance(line: DistanceLine) {
-    match line {
-        DistanceLine::End(_) => print_end(),
-        DistanceLine::Fault(number, column, _) => print_two(number, column),
-        DistanceLine::Line(_, _, _) => print_two(0, 0),
-    }
-}
-
-// The line at a place as the first of an edge file, which says whether the file has weights.
-fn shown_first(s: &[u8], at: usize) {
-    if s.len() <= at {
-        return print_end();
-    }
-    let rest = &s[at..];
-    shown_weighed(Cursor { at: 0 }.listed_edge(rest, has_weights(rest)));
-}
-
 // The line of a kind at a place.
 fn read_line(s: &[u8], at: usize, kind: u8) {
     let place = Cursor { at };
@@ -82,9 +58,6 @@ fn read_line(s: &[u8], at: usize, kind: u8) {
         b'v' => shown_vertex(place.vertex(s)),
         b'e' => shown_edge(place.edge(s)),
         b'c' => shown_edge(place.claim(s)),
-        b'd' => shown_distance(place.distance_claim(s)),
-        b'w' => shown_weighed(place.listed_edge(s, true)),
-        b'f' => shown_first(s, at),
         _ => shown_coefficient(place.coefficient_claim(s)),
     }
 }

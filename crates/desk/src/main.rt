@@ -1,5 +1,7 @@
 // Layer desk. The desk program: reads a sheet on standard input and writes what `answer` prints for it. Of a sheet that is too long it
 // reads 65,537 bytes, one more than a sheet may have, and they print what the whole of it prints (`sheet` `Room.cut-prints`).
+#![tactic(auto)]
+
 ghost use Rattle.std.specs.Prelude.{◌≡◌, length};
 ghost use Rattle.desk.specs.Whole.{area_places, SheetAreas, Whole};
 

@@ -1,4 +1,6 @@
 // Layer kernels. What the kernels share: their answer and their numbers.
+#![tactic(auto)]
+
 ghost use Rattle.std.specs.Prelude.{◌≡◌};
 ghost use Rattle.basis.specs.Refusal.{refuses, plain};
 ghost use Rattle.kernels.specs.Answer.{says};

@@ -1,4 +1,6 @@
 // Layer kernels. LCC: the local clustering coefficient of every vertex (document 000, 2.3.5), as a fraction in lowest terms.
+#![tactic(auto)]
+
 mod coefficients;
 pub mod common;
 pub mod ratio;

@@ -1,4 +1,6 @@
 // A program beside the layers. Runs what the rules say to run at the library's limits; what it prints is stored beside it.
+#![tactic(auto)]
+
 use basis::Refusal;
 use basis::limits::MOST_VERTICES;
 use load::{Limits, Loaded};
@@ -19,7 +21,7 @@ fn number(n: usize) {
 
 fn shown(answer: Loaded) {
     match answer {
-        Loaded::Graph(size, _) => {
+        Loaded::Graph(size) => {
             words(b"loaded ");
             number(size.vertices);
             words(b" ");
@@ -46,8 +48,6 @@ fn run(vertices: &[u8]) {
     let mut out_targets = [0usize; 1];
     let mut in_offsets = [0usize; MOST_VERTICES + 1];
     let mut in_sources = [0usize; 1];
-    let mut out_weights = [0usize; 1];
-    let mut in_weights = [0usize; 1];
     shown(load::load(
         1,
         vertices,
@@ -57,8 +57,6 @@ fn run(vertices: &[u8]) {
         &mut out_targets,
         &mut in_offsets,
         &mut in_sources,
-        &mut out_weights,
-        &mut in_weights,
     ));
 }
 
@@ -92,8 +90,6 @@ fn run_above(vertices: &[u8]) {
     let mut out_targets = [0usize; 1];
     let mut in_offsets = [0usize; 1];
     let mut in_sources = [0usize; 1];
-    let mut out_weights = [0usize; 1];
-    let mut in_weights = [0usize; 1];
     shown(load::load_within(
         Limits {
             vertices: 70000,
@@ -107,8 +103,6 @@ fn run_above(vertices: &[u8]) {
         &mut out_targets,
         &mut in_offsets,
         &mut in_sources,
-        &mut out_weights,
-        &mut in_weights,
     ));
 }
 

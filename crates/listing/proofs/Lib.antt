@@ -1,3 +1,2 @@
--- Laws of the writers of lines, and what is printed of a distance.
+-- Laws of the writers of lines.
 pub mod Lines
-pub mod Distances

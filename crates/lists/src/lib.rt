@@ -1,4 +1,6 @@
 // Layer graph. The two lists of a graph, each text read once: what a line names is stored as it is read.
+#![tactic(auto)]
+
 pub mod edges;
 pub mod vertices;
 

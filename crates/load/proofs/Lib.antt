@@ -6,5 +6,4 @@ pub mod Loads
 pub mod Refused
 pub mod Accepts
 pub mod Meaning
-pub mod Weighted
 pub mod Examples

@@ -1,5 +1,7 @@
-// Layer graph. A graph from the bytes of its vertex file and its edge file, in seven lent areas: identifiers, outward offsets and targets,
-// inward offsets and sources, outward and inward weights.
+// Layer graph. A graph from the bytes of its vertex file and its edge file, in five lent areas: identifiers, outward offsets and targets,
+// inward offsets and sources.
+#![tactic(auto)]
+
 mod fill;
 
 ghost use Rattle.std.specs.Prelude.{◌≡◌};
@@ -20,35 +22,31 @@ pub struct Limits {
     pub edges: usize,
 }
 
-// A load answers how large the graph is that stands in the areas and whether it has weights, or why it was refused.
+// A load answers how large the graph is that stands in the areas, or why it was refused.
 #[derive(Drop)]
 pub enum Loaded {
-    Graph(Size, bool),
+    Graph(Size),
     Refused(Refusal),
 }
 
-// Seven areas are cleared.
+// Five areas are cleared.
 fn clear_all(
     ids: &mut [i64],
     out_offsets: &mut [usize],
     out_targets: &mut [usize],
     in_offsets: &mut [usize],
     in_sources: &mut [usize],
-    out_weights: &mut [usize],
-    in_weights: &mut [usize],
 )
     ensures { Emptied ids.old out_offsets.old out_targets.old in_offsets.old
-        in_sources.old out_weights.old in_weights.old
+        in_sources.old
         ids.new out_offsets.new out_targets.new in_offsets.new
-        in_sources.new out_weights.new in_weights.new }
+        in_sources.new }
 {
     clear_signed(ids);
     clear(out_offsets);
     clear(out_targets);
     clear(in_offsets);
     clear(in_sources);
-    clear(out_weights);
-    clear(in_weights);
 }
 
 // The limits of a load: one above the library's counts as the library's.
@@ -73,14 +71,12 @@ pub fn load_within(
     out_targets: &mut [usize],
     in_offsets: &mut [usize],
     in_sources: &mut [usize],
-    out_weights: &mut [usize],
-    in_weights: &mut [usize],
 ) -> Loaded
     ensures { outcome (says result) ids.new out_offsets.new out_targets.new in_offsets.new
-        in_sources.new out_weights.new in_weights.new
+        in_sources.new
         ≡ load_call (capped limits) mode
         (room_in ids.old out_offsets.old out_targets.old in_offsets.old
-        in_sources.old out_weights.old in_weights.old)
+        in_sources.old)
         vertices.now edges.now }
 {
     let filled = fill(
@@ -93,21 +89,11 @@ pub fn load_within(
         out_targets,
         in_offsets,
         in_sources,
-        out_weights,
-        in_weights,
     );
     match filled {
-        Loaded::Graph(size, weighted) => Loaded::Graph(size, weighted),
+        Loaded::Graph(size) => Loaded::Graph(size),
         Loaded::Refused(r) => {
-            clear_all(
-                ids,
-                out_offsets,
-                out_targets,
-                in_offsets,
-                in_sources,
-                out_weights,
-                in_weights,
-            );
+            clear_all(ids, out_offsets, out_targets, in_offsets, in_sources);
             Loaded::Refused(r)
         }
     }
@@ -123,14 +109,12 @@ pub fn load(
     out_targets: &mut [usize],
     in_offsets: &mut [usize],
     in_sources: &mut [usize],
-    out_weights: &mut [usize],
-    in_weights: &mut [usize],
 ) -> Loaded
     ensures { outcome (says result) ids.new out_offsets.new out_targets.new in_offsets.new
-        in_sources.new out_weights.new in_weights.new
+        in_sources.new
         ≡ load_call library mode
         (room_in ids.old out_offsets.old out_targets.old in_offsets.old
-        in_sources.old out_weights.old in_weights.old)
+        in_sources.old)
         vertices.now edges.now }
 {
     load_within(
@@ -146,7 +130,5 @@ pub fn load(
         out_targets,
         in_offsets,
         in_sources,
-        out_weights,
-        in_weights,
     )
 }

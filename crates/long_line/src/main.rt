@@ -1,4 +1,6 @@
 // A program beside the layers. Reads a vertex line of a million digits 9 and prints what is said of it: the refusal's number and the place.
+#![tactic(auto)]
+
 use libc::STDOUT_FILENO;
 use text::Cursor;
 use text::count::{LF, NINE};

@@ -1,4 +1,6 @@
 // Layer desk. A desk sheet, checked line by line: where its sections stand, or its first fault.
+#![tactic(auto)]
+
 pub mod job;
 pub mod line;
 pub mod sections;

@@ -1,4 +1,6 @@
 // Layer kernels. SSSP: least weights along outgoing arcs from a root.
+#![tactic(auto)]
+
 mod search;
 mod tree;
 

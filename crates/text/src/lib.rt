@@ -1,4 +1,6 @@
 // Layer text, its reading half. Counts, identifiers, decimals, weights, and the lines that are made of them.
+#![tactic(auto)]
+
 pub mod count;
 pub mod decimal;
 pub mod distance;

@@ -1,4 +1,6 @@
 // Layer graph. The neighbour view, and the same for whoever holds the target area itself.
+#![tactic(auto)]
+
 ghost use Rattle.std.specs.Prelude.{◌≡◌};
 ghost use Rattle.graph.specs.Part.{part_of};
 

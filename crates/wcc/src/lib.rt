@@ -1,4 +1,6 @@
 // Layer kernels. WCC: weakly connected components (document 000, 2.3.3), on the group book.
+#![tactic(auto)]
+
 mod groups;
 mod labels;
 

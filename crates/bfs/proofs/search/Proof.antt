@@ -3,8 +3,8 @@ use mathlib.Core.List.{List}
 use lib.ListN.{length}
 use mathlib.Core.Path.{sym, ◌∙◌}
 use native.Mathlib.Omega.{arith}
-use Rattle.basis.specs.Area.{infinity}
 use Rattle.graph.specs.Part.{part_of}
+use Rattle.bfs.specs.Depth.{infinity}
 use Rattle.bfs.specs.Steps.{board}
 use Rattle.bfs.proofs.Queue.{Base, Serving, serving-queued, serving-begin, serving-level, serving-room}
 use Rattle.bfs.proofs.Queue.{serving-tail, serving-deeper, serving-part, serving-more, serving-end}

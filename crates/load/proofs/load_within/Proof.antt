@@ -33,19 +33,19 @@ same-length-4 c = search rules
 same-length-5 : tie.Need-same-length-5
 same-length-5 c = search rules
 
+returns : tie.Need-returns
+returns c =
+    let a = c.before.before.before.before.before.before.before.before.before.before.before.before.before.before.before.before.before.before.before.before.before.before.before.before.before.args in
+    load-graph _ a.mode a.vertices.now a.edges.now a.ids.now a.out-offsets.now a.out-targets.now
+    a.in-offsets.now a.in-sources.now _ _ _ _ _ _
+    c.before.before.before.before.before.before.before.before.before.before.before.before.fill.ensures _
+    c.before.before.before.before.before.before.before.before.before.before.before.before.before.before.before.before.before.before.capped.ensures _ c.before.filled.given.1
+
 same-length-6 : tie.Need-same-length-6
 same-length-6 c = search rules
 
 same-length-7 : tie.Need-same-length-7
 same-length-7 c = search rules
-
-returns : tie.Need-returns
-returns c =
-    let a = c.before.before.before.before.before.before.before.before.before.before.before.before.before.before.before.before.before.before.before.before.before.before.before.before.before.before.before.before.before.before.before.before.before.args in
-    load-graph _ a.mode a.vertices.now a.edges.now a.ids.now a.out-offsets.now a.out-targets.now
-    a.in-offsets.now a.in-sources.now a.out-weights.now a.in-weights.now _ _ _ _ _ _ _ _
-    c.before.before.before.before.before.before.before.before.before.before.before.before.before.before.before.before.fill.ensures _ c.before.before.before.before.before.before.before.before.before.before.before.before.before.before.before.before.before.before.before.before.before.before.before.before.capped.ensures _ _
-    c.before.filled.given.1
 
 same-length-8 : tie.Need-same-length-8
 same-length-8 c = search rules
@@ -56,28 +56,15 @@ same-length-9 c = search rules
 same-length-10 : tie.Need-same-length-10
 same-length-10 c = search rules
 
-same-length-11 : tie.Need-same-length-11
-same-length-11 c = search rules
-
-same-length-12 : tie.Need-same-length-12
-same-length-12 c = search rules
-
-same-length-13 : tie.Need-same-length-13
-same-length-13 c = search rules
-
-same-length-14 : tie.Need-same-length-14
-same-length-14 c = search rules
-
 returns-2 : tie.Need-returns-2
 returns-2 c =
-    let a = c.before.before.before.before.before.before.before.before.before.before.before.before.before.before.before.before.before.before.before.before.before.before.before.before.before.before.before.before.before.before.before.before.before.before.before.before.before.before.before.before.before.before.before.before.before.before.before.before.before.before.before.before.before.before.args in
-    let k = c.before.before.before.before.before.before.before.before.before.before.before.before.before.before.before.before.before.before.before.before.before.before.before.before.before.before.before.before.before.before.before.before.before.before.before.before.before.fill.auto in
+    let a = c.before.before.before.before.before.before.before.before.before.before.before.before.before.before.before.before.before.before.before.before.before.before.before.before.before.before.before.before.before.before.before.before.before.before.before.before.before.before.before.before.args in
+    let k = c.before.before.before.before.before.before.before.before.before.before.before.before.before.before.before.before.before.before.before.before.before.before.before.before.before.before.before.fill.auto.1.1.1.1 in
     load-refused _ a.mode a.vertices.now a.edges.now a.ids.now a.out-offsets.now a.out-targets.now
-    a.in-offsets.now a.in-sources.now a.out-weights.now a.in-weights.now _ _ _ _ _ _ _ _
-    c.before.before.before.before.before.before.before.before.before.before.before.before.before.before.before.before.before.before.before.before.before.before.before.before.before.before.before.before.before.before.before.before.before.before.before.before.before.fill.ensures _ c.before.before.before.before.before.before.before.before.before.before.before.before.before.before.before.before.before.before.before.before.before.before.before.before.before.before.before.before.before.before.before.before.before.before.before.before.before.before.before.before.before.before.before.before.before.capped.ensures _ c.before.before.before.before.before.before.before.before.before.before.before.before.before.before.before.before.before.before.before.before.before.before.filled2.given.1
-    k.1.1.1.1.0 k.1.1.1.1.1.0 k.1.1.1.1.1.1.0 k.1.1.1.1.1.1.1.0
-    k.1.1.1.1.1.1.1.1.0 k.1.1.1.1.1.1.1.1.1.0 k.1.1.1.1.1.1.1.1.1.1.0
-    _ _ _ _ _ _ _ c.before.before.before.before.before.before.before.before.before.before.before.before.before.clear-all.ensures
+    a.in-offsets.now a.in-sources.now _ _ _ _ _ _
+    c.before.before.before.before.before.before.before.before.before.before.before.before.before.before.before.before.before.before.before.before.before.before.before.before.before.before.before.fill.ensures _
+    c.before.before.before.before.before.before.before.before.before.before.before.before.before.before.before.before.before.before.before.before.before.before.before.before.before.before.before.before.before.before.before.before.before.capped.ensures _ c.before.before.before.before.before.before.before.before.before.before.before.before.before.before.before.before.filled2.given.1 k.0 k.1.0 k.1.1.0 k.1.1.1.0 k.1.1.1.1.0 _ _ _ _ _
+    c.before.before.before.before.before.before.before.before.before.clear-all.ensures
 
 pub load-within-spec : {M : Type 1} → statement M
 load-within-spec =
@@ -93,14 +80,10 @@ load-within-spec =
     same-length-3
     same-length-4
     same-length-5
+    returns
     same-length-6
     same-length-7
-    returns
     same-length-8
     same-length-9
     same-length-10
-    same-length-11
-    same-length-12
-    same-length-13
-    same-length-14
     returns-2)

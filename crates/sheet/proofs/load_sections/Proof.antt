@@ -41,14 +41,9 @@ same-length-4 c = search rules
 same-length-5 : tie.Need-same-length-5
 same-length-5 c = search rules
 
-same-length-6 : tie.Need-same-length-6
-same-length-6 c = search rules
-
-same-length-7 : tie.Need-same-length-7
-same-length-7 c = search rules
-
 returns : tie.Need-returns
-returns c = rw c.before.before.before.before.before.before.before.before.before.before.before.before.before.before.before.before.before.before.before.before.before.before.before.mode-number.ensures at c.before.before.before.before.before.before.before.before.before.before.before.before.before.load-within.ensures
+returns c =
+    rw c.before.before.before.before.before.before.before.before.before.before.before.before.before.before.before.before.before.mode-number.ensures at c.before.before.before.before.before.before.before.before.before.load-within.ensures
 
 pub load-sections-spec : {M : Type 1} → statement M
 load-sections-spec =
@@ -67,6 +62,4 @@ load-sections-spec =
     same-length-3
     same-length-4
     same-length-5
-    same-length-6
-    same-length-7
     returns)

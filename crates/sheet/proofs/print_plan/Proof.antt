@@ -21,12 +21,6 @@ slice-aggregate-load-sections-4 c = search rules
 slice-aggregate-load-sections-5 : tie.Need-slice-aggregate-load-sections-5
 slice-aggregate-load-sections-5 c = search rules
 
-slice-aggregate-load-sections-6 : tie.Need-slice-aggregate-load-sections-6
-slice-aggregate-load-sections-6 c = search rules
-
-slice-aggregate-load-sections-7 : tie.Need-slice-aggregate-load-sections-7
-slice-aggregate-load-sections-7 c = search rules
-
 load-sections-requires : tie.Need-load-sections-requires
 load-sections-requires c κs = search rules
 
@@ -41,10 +35,11 @@ enum-known-x-2 c = search rules
 
 array-share-prefix-ids : tie.Need-array-share-prefix-ids
 array-share-prefix-ids c =
-    let a = c.before.before.before.before.before.before.before.before.before.before.before.before.before.before.before.before.before.before.before.before.before in
+    let a = c.before.before.before.before.before.before.before.before.before.before.before.before.before.before.before.before.before in
     omega (
       arith,
-      few-vertices a.args.s.now a.args.plan _ _ _ c.before.before.before.before.before.before.before.before.before.before.load-sections.ensures c.before.x2.given.1,
+      few-vertices a.args.s.now a.args.plan _ _
+          c.before.before.before.before.before.before.before.before.load-sections.ensures c.before.x2.given.1,
     )
 
 slice-aggregate-run-jobs : tie.Need-slice-aggregate-run-jobs
@@ -62,12 +57,6 @@ slice-aggregate-run-jobs-4 c = search rules
 slice-aggregate-run-jobs-5 : tie.Need-slice-aggregate-run-jobs-5
 slice-aggregate-run-jobs-5 c = search rules
 
-slice-aggregate-run-jobs-6 : tie.Need-slice-aggregate-run-jobs-6
-slice-aggregate-run-jobs-6 c = search rules
-
-slice-aggregate-run-jobs-7 : tie.Need-slice-aggregate-run-jobs-7
-slice-aggregate-run-jobs-7 c = search rules
-
 run-jobs-requires : tie.Need-run-jobs-requires
 run-jobs-requires c κs = search rules
 
@@ -76,8 +65,9 @@ same_length c = search rules
 
 returns : tie.Need-returns
 returns c =
-    let a = c.before.before.before.before.before.before.before.before.before.before.before.before.before.before.before.before.before.before.before.before.before.before.before.before.before in
-    load-refused a.args.s.now a.args.plan _ _ _ _ _ _ _ _ c.before.before.before.before.before.before.before.before.before.before.before.before.before.before.load-sections.ensures _ _ _ _
+    let a = c.before.before.before.before.before.before.before.before.before.before.before.before.before.before.before.before.before.before.before.before.before in
+    load-refused a.args.s.now a.args.plan _ _ _ _ _ _
+    c.before.before.before.before.before.before.before.before.before.before.before.before.load-sections.ensures _ _ _ _
     _ c.before.before.before.before.before.x.given.1 c.before.before.Put-refused.ensures
 
 same-length-2 : tie.Need-same-length-2
@@ -85,9 +75,11 @@ same-length-2 c = search rules
 
 returns-2 : tie.Need-returns-2
 returns-2 c =
-    let a = c.before.before.before.before.before.before.before.before.before.before.before.before.before.before.before.before.before.before.before.before.before.before.before.before.before.before.before.before.before.before.before.before in
-    load-good a.args.s.now a.args.plan _ _ _ _ _ _ _ _ c.before.before.before.before.before.before.before.before.before.before.before.before.before.before.before.before.before.before.before.before.before.load-sections.ensures _ _ _ _
-    _ _ c.before.before.before.before.before.before.before.before.before.before.before.before.x2.given.1 c.before.before.run-jobs.ensures
+    let a = c.before.before.before.before.before.before.before.before.before.before.before.before.before.before.before.before.before.before.before.before.before.before.before.before.before.before in
+    load-good a.args.s.now a.args.plan _ _ _ _ _ _
+    c.before.before.before.before.before.before.before.before.before.before.before.before.before.before.before.before.before.load-sections.ensures _ _ _ _ _
+    c.before.before.before.before.before.before.before.before.before.before.x2.given.1
+    c.before.before.run-jobs.ensures
 
 pub print-plan-spec : {M : Type 1} → statement M
 print-plan-spec =
@@ -98,8 +90,6 @@ print-plan-spec =
     slice-aggregate-load-sections-3
     slice-aggregate-load-sections-4
     slice-aggregate-load-sections-5
-    slice-aggregate-load-sections-6
-    slice-aggregate-load-sections-7
     load-sections-requires
     enum-known-x
     put-refused-requires
@@ -110,8 +100,6 @@ print-plan-spec =
     slice-aggregate-run-jobs-3
     slice-aggregate-run-jobs-4
     slice-aggregate-run-jobs-5
-    slice-aggregate-run-jobs-6
-    slice-aggregate-run-jobs-7
     run-jobs-requires
     same_length
     returns

@@ -2,11 +2,11 @@ use Prim.Native.Nat.{◌-◌}
 use mathlib.Core.Path.{◌≡◌, refl}
 use lib.ListN.{length, drop}
 use Rattle.write.specs.Put.{put_at}
-use Rattle.listing.specs.Listing.{pair_text, pair_lines}
+use Rattle.listing.specs.Listing.{pair_lines}
 use native.Mathlib.Omega.{arith}
 use borrow.Author.Rules.{rules}
 use Rattle.write.proofs.Puts.{putting-length}
-use Rattle.listing.proofs.Lines.{lines_end, lines-short, lines_more}
+use Rattle.listing.proofs.Lines.{pairs_end, pairs-short, pairs-more}
 use Rattle.listing.proofs.results.put_pairs.Statement.{statement}
 use Rattle.listing.proofs.results.put_pairs.Tie as tie
 
@@ -24,7 +24,7 @@ same_length : tie.Need-same-length invariant-loop decreases-loop
 same_length c = search putting-length
 
 returns : tie.Need-returns invariant-loop decreases-loop
-returns c = search (lines-short pair_text)
+returns c = search pairs-short
 
 mul-put-pair : tie.Need-overflow-mul-put-pair invariant-loop decreases-loop
 mul-put-pair c = omega arith
@@ -48,13 +48,13 @@ loop-less : tie.Need-loop-smaller invariant-loop decreases-loop
 loop-less c = omega arith
 
 loop-again : tie.Need-loop-preserved invariant-loop decreases-loop
-loop-again c = search (lines_more pair_text, rules)
+loop-again c = search (pairs-more, rules)
 
 same-length-2 : tie.Need-same-length-2 invariant-loop decreases-loop
 same-length-2 c = search putting-length
 
 returns-2 : tie.Need-returns-2 invariant-loop decreases-loop
-returns-2 c = search (lines_end pair_text)
+returns-2 c = search pairs_end
 
 pub put-pairs-spec : {M : Type 1} → statement M
 put-pairs-spec =

@@ -3,8 +3,8 @@ use borrow.Author.Rules.{rules}
 use Rattle.lists.proofs.edges.edge_step.Statement.{statement}
 use Rattle.lists.proofs.edges.edge_step.Tie as tie
 
-listed-edge-requires : tie.Need-listed-edge-requires
-listed-edge-requires c κs = search rules
+edge-requires : tie.Need-edge-requires
+edge-requires c κs = search rules
 
 enum_told : tie.Need-enum-told
 enum_told c = search rules
@@ -18,8 +18,8 @@ bad-line-requires c κs = search rules
 enum-known-line-2 : tie.Need-enum-known-line-2
 enum-known-line-2 c = search rules
 
-early-fault-requires : tie.Need-early-fault-requires
-early-fault-requires c κs = search rules
+order-fault-requires : tie.Need-order-fault-requires
+order-fault-requires c κs = search rules
 
 limited-requires : tie.Need-limited-requires
 limited-requires c κs = search rules
@@ -48,14 +48,14 @@ at-requires-2 c κs = search rules
 enum-known-joined : tie.Need-enum-known-joined
 enum-known-joined c = search rules
 
-add-t33 : tie.Need-overflow-add-t33
-add-t33 c = search rules
+add-t31 : tie.Need-overflow-add-t31
+add-t31 c = search rules
 
 returns-2 : tie.Need-returns-2
-returns-2 c = search (edge-end, rules)
+returns-2 c = search edge-end
 
 returns-3 : tie.Need-returns-3
-returns-3 c = search (edge-bad, rules)
+returns-3 c = search edge-bad
 
 returns-4 : tie.Need-returns-4
 returns-4 c = search (edge-unknown, rules)
@@ -67,12 +67,12 @@ pub edge-step-spec : {M : Type 1} → statement M
 edge-step-spec =
     tie.close
     (tie.spec
-    listed-edge-requires
+    edge-requires
     enum_told
     enum-known-line
     bad-line-requires
     enum-known-line-2
-    early-fault-requires
+    order-fault-requires
     limited-requires
     add_at
     at-requires
@@ -82,7 +82,7 @@ edge-step-spec =
     add-at-2
     at-requires-2
     enum-known-joined
-    add-t33
+    add-t31
     returns-2
     returns-3
     returns-4

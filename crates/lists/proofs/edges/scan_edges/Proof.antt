@@ -1,7 +1,6 @@
 use borrow.Author.Rules.{rules}
 use Rattle.lists.proofs.Gathers.{Gathering, gathering-start, gathering-few, gathering-more, gathering-less, gathering-stop}
 use Prim.Native.Nat.{◌-◌, ◌<◌, ◌^◌}
-use mathlib.Core.Path.{refl}
 use native.Mathlib.Omega.{arith}
 use lib.ListN.{length}
 use Rattle.graph.specs.Find.{bisected}
@@ -9,20 +8,17 @@ use Rattle.lists.proofs.edges.scan_edges.Statement.{statement}
 use Rattle.lists.proofs.edges.scan_edges.Tie as tie
 
 abbrev invariant-loop : tie.invariant-loop
-invariant-loop s most undirected ids counts₀ targets₀ weights₀ weighted c₀ counts targets weights c =
-    Gathering s most undirected (bisected ids) counts₀ targets₀ weights₀ c counts targets weights
+invariant-loop s most undirected ids counts₀ targets₀ c₀ counts targets c =
+    Gathering s most undirected (bisected ids) counts₀ targets₀ c counts targets
 
 abbrev decreases-loop : tie.decreases-loop
-decreases-loop s most undirected ids counts₀ targets₀ weights₀ weighted c₀ counts targets weights c = length s - c.at.at
-
-has-weights-requires : tie.Need-has-weights-requires invariant-loop decreases-loop
-has-weights-requires c κs = search rules
+decreases-loop s most undirected ids counts₀ targets₀ c₀ counts targets c = length s - c.at.at
 
 loop-holds : tie.Need-loop-init invariant-loop decreases-loop
 loop-holds c = search gathering-start
 
 edge-step-requires : tie.Need-edge-step-requires invariant-loop decreases-loop
-edge-step-requires c κs = (search rules, search rules)
+edge-step-requires c κs = search rules
 
 enum-known-step : tie.Need-enum-known-step invariant-loop decreases-loop
 enum-known-step c = search rules
@@ -32,7 +28,8 @@ number-at-requires c κs = search rules
 
 add-put : tie.Need-overflow-add-put invariant-loop decreases-loop
 add-put c =
-    let h : length c.before.before.before.before.before.before.before.before.before.before.before.before.before.args.s.now < 2 ^ 64 = omega arith in
+    let h : length c.before.before.before.before.before.before.before.before.before.before.before.args.s.now
+    < 2 ^ 64 = omega arith in
     record { fits = search gathering-few }
 
 put-requires : tie.Need-put-requires invariant-loop decreases-loop
@@ -41,19 +38,11 @@ put-requires c κs = search rules
 put-requires-2 : tie.Need-put-requires-2 invariant-loop decreases-loop
 put-requires-2 c κs = search rules
 
-put-requires-3 : tie.Need-put-requires-3 invariant-loop decreases-loop
-put-requires-3 c κs = search rules
-
 loop-less : tie.Need-loop-smaller invariant-loop decreases-loop
 loop-less c = search gathering-less
 
 loop-again : tie.Need-loop-preserved invariant-loop decreases-loop
-loop-again c =
-    gathering-more _ _ _ _ _ _ _ _ _ _ _ c.before.before.before.before.before.before.before.before.before.before.before.before.before.before.before.before.before.before.loop.invariant _ c.before.before.before.before.before.before.before.before.before.before.before.before.before.before.before.before.before.edge-step.ensures _ _ _
-    c.before.before.before.before.before.before.before.before.before.before.before.before.before.before.before.step.given.1 _
-    c.before.before.before.before.before.before.before.before.before.before.before.before.number_at.ensures _
-    c.before.before.before.before.before.before.before.before.before.before.put.ensures _
-    c.before.before.before.before.before.before.put2.ensures _ refl _ c.before.before.put3.ensures
+loop-again c = search gathering-more
 
 enum-known-step-2 : tie.Need-enum-known-step-2 invariant-loop decreases-loop
 enum-known-step-2 c = search rules
@@ -64,9 +53,6 @@ same_length c = search rules
 same-length-2 : tie.Need-same-length-2 invariant-loop decreases-loop
 same-length-2 c = search rules
 
-same-length-3 : tie.Need-same-length-3 invariant-loop decreases-loop
-same-length-3 c = search rules
-
 returns : tie.Need-returns invariant-loop decreases-loop
 returns c = search gathering-stop
 
@@ -76,7 +62,6 @@ scan-edges-spec =
     (tie.spec
     invariant-loop
     decreases-loop
-    has-weights-requires
     loop-holds
     edge-step-requires
     enum-known-step
@@ -84,11 +69,9 @@ scan-edges-spec =
     add-put
     put-requires
     put-requires-2
-    put-requires-3
     loop-less
     loop-again
     enum-known-step-2
     same_length
     same-length-2
-    same-length-3
     returns)

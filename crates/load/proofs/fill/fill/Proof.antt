@@ -1,6 +1,6 @@
-use lib.Seq.{length-take-le}
-use mathlib.Core.Path.{refl, sym}
 use Rattle.load.proofs.Loads.{fill-mode, fill-refused, fill-places, fill-short, fill-storing, fill_end}
+use mathlib.Core.Path.{refl, sym}
+use lib.Seq.{length-take-le}
 use borrow.Author.Rules.{rules}
 use Rattle.load.proofs.fill.fill.Statement.{statement}
 use Rattle.load.proofs.fill.fill.Tie as tie
@@ -25,35 +25,34 @@ has-places-requires c κs = search rules
 
 slice-reshare-prefix-store-edges : tie.Need-slice-reshare-prefix-store-edges
 slice-reshare-prefix-store-edges c =
-    let a = c.before.before.before.before.before.before.before.before.before.before.before.before.before.before.before.before.before.args in
+    let a = c.before.before.before.before.before.before.before.before.before.before.before.before.before.before.before.args in
     fill-places a.limits a.mode a.vertices.now a.edges.now a.ids.now a.out-offsets.now a.out-targets.now
-    a.in-offsets.now a.in-sources.now a.out-weights.now a.in-weights.now
-    c.before.before.before.before.before.before.before.before.if1.false _ _
+    a.in-offsets.now a.in-sources.now c.before.before.before.before.before.before.before.before.if1.false _ _
     c.before.before.before.before.before.before.read-vertices.ensures _ c.before.before.before.listed2.given.1 _
-    c.before.before.before.before.before.before.read-vertices.auto.1.1.0 _
-    c.before.has-places.ensures c.if2.true
+    c.before.before.before.before.before.before.read-vertices.auto.1.1.0 _ c.before.has-places.ensures c.if2.true
 
 slice-aggregate-store-edges : tie.Need-slice-aggregate-store-edges
 slice-aggregate-store-edges c =
-    let a = c.before.before.before.before.before.before.before.before.before.before.before.before.before.before.before.before.before.before.args in
+    let a = c.before.before.before.before.before.before.before.before.before.before.before.before.before.before.before.before.args in
     sym (length-take-le _ _ (fill-places a.limits a.mode a.vertices.now a.edges.now a.ids.now a.out-offsets.now
-    a.out-targets.now
-    a.in-offsets.now a.in-sources.now a.out-weights.now a.in-weights.now
+    a.out-targets.now a.in-offsets.now a.in-sources.now
     c.before.before.before.before.before.before.before.before.before.if1.false _ _
     c.before.before.before.before.before.before.before.read-vertices.ensures _
-    c.before.before.before.before.listed2.given.1 _ c.before.before.before.before.before.before.before.read-vertices.auto.1.1.0 _
-    c.before.before.has-places.ensures c.before.if2.true))
+    c.before.before.before.before.listed2.given.1 _
+    c.before.before.before.before.before.before.before.read-vertices.auto.1.1.0 _ c.before.before.has-places.ensures
+    c.before.if2.true))
 
 store-edges-requires : tie.Need-store-edges-requires
 store-edges-requires c κs =
-    let a = c.before.before.before.before.before.before.before.before.before.before.before.before.before.before.before.before.before.before.before.before.before.before.before.before.args in
+    let a = c.before.before.before.before.before.before.before.before.before.before.before.before.before.before.before.before.before.before.before.before.args in
     fill-storing a.limits a.mode a.vertices.now a.edges.now a.ids.now a.out-offsets.now a.out-targets.now
-    a.in-offsets.now a.in-sources.now a.out-weights.now a.in-weights.now
-    c.before.before.before.before.before.before.before.before.before.before.before.before.before.before.before.if1.false
-    _ _ c.before.before.before.before.before.before.before.before.before.before.before.before.before.read-vertices.ensures _ c.before.before.before.before.before.before.before.before.before.before.listed2.given.1 _
-    c.before.before.before.before.before.before.before.before.before.before.before.before.before.read-vertices.auto.1.1.0 _
-    c.before.before.before.before.before.before.before.before.has-places.ensures
-    c.before.before.before.before.before.before.before.if2.true _ refl
+    a.in-offsets.now a.in-sources.now
+    c.before.before.before.before.before.before.before.before.before.before.before.before.before.if1.false _ _
+    c.before.before.before.before.before.before.before.before.before.before.before.read-vertices.ensures _
+    c.before.before.before.before.before.before.before.before.listed2.given.1 _
+    c.before.before.before.before.before.before.before.before.before.before.before.read-vertices.auto.1.1.0 _
+    c.before.before.before.before.before.before.has-places.ensures c.before.before.before.before.before.if2.true _
+    refl
 
 same_length : tie.Need-same-length
 same_length c = search rules
@@ -70,48 +69,40 @@ same-length-4 c = search rules
 same-length-5 : tie.Need-same-length-5
 same-length-5 c = search rules
 
-same-length-6 : tie.Need-same-length-6
-same-length-6 c = search rules
-
-same-length-7 : tie.Need-same-length-7
-same-length-7 c = search rules
-
 returns-2 : tie.Need-returns-2
 returns-2 c =
-    let a = c.before.before.before.before.before.before.before.before.before.before.before.before.before.before.before.before.before.before.before.before.before.before.before.before.before.before.before.before.before.before.before.before.before.before.before.before.before.args in
-    let l = c.before.before.before.before.before.before.before.before.before.before.before.before.store-edges.new in
+    let a = c.before.before.before.before.before.before.before.before.before.before.before.before.before.before.before.before.before.before.before.before.before.before.before.before.before.before.before.before.before.args in
+    let l = c.before.before.before.before.before.before.before.before.store-edges.new in
     fill_end a.limits a.mode a.vertices.now a.edges.now a.ids.now a.out-offsets.now a.out-targets.now
-    a.in-offsets.now a.in-sources.now a.out-weights.now a.in-weights.now
-    c.before.before.before.before.before.before.before.before.before.before.before.before.before.before.before.before.before.before.before.before.before.before.before.before.before.before.before.before.if1.false _ _
-    c.before.before.before.before.before.before.before.before.before.before.before.before.before.before.before.before.before.before.before.before.before.before.before.before.before.before.read-vertices.ensures _
-    c.before.before.before.before.before.before.before.before.before.before.before.before.before.before.before.before.before.before.before.before.before.before.before.listed2.given.1 _
-    c.before.before.before.before.before.before.before.before.before.before.before.before.before.before.before.before.before.before.before.before.before.before.before.before.before.before.read-vertices.auto.1.1.0 _
-    c.before.before.before.before.before.before.before.before.before.before.before.before.before.before.before.before.before.before.before.before.before.has-places.ensures c.before.before.before.before.before.before.before.before.before.before.before.before.before.before.before.before.before.before.before.before.if2.true _ refl
-    c.before.before.before.before.before.before.before.before.before.before.before.before.store-edges.result
+    a.in-offsets.now a.in-sources.now
+    c.before.before.before.before.before.before.before.before.before.before.before.before.before.before.before.before.before.before.before.before.before.before.if1.false _ _
+    c.before.before.before.before.before.before.before.before.before.before.before.before.before.before.before.before.before.before.before.before.read-vertices.ensures _
+    c.before.before.before.before.before.before.before.before.before.before.before.before.before.before.before.before.before.listed2.given.1 _ c.before.before.before.before.before.before.before.before.before.before.before.before.before.before.before.before.before.before.before.before.read-vertices.auto.1.1.0 _
+    c.before.before.before.before.before.before.before.before.before.before.before.before.before.before.before.has-places.ensures c.before.before.before.before.before.before.before.before.before.before.before.before.before.before.if2.true _ refl c.before.before.before.before.before.before.before.before.store-edges.result
     l.1.1.1.1.0 l.1.1.1.1.1.0 l.1.1.1.1.1.1.0 l.1.1.1.1.1.1.1.0
-    l.1.1.1.1.1.1.1.1.0 l.1.1.1.1.1.1.1.1.1.0 c.before.before.before.before.before.before.before.before.before.before.before.before.store-edges.ensures
+    c.before.before.before.before.before.before.before.before.store-edges.ensures
 
 plain-requires-2 : tie.Need-plain-requires-2
 plain-requires-2 c κs = search rules
 
-same-length-8 : tie.Need-same-length-8
-same-length-8 c = search rules
+same-length-6 : tie.Need-same-length-6
+same-length-6 c = search rules
 
 returns-3 : tie.Need-returns-3
-returns-3 c = search (fill-refused, rules)
+returns-3 c = search fill-refused
 
-same-length-9 : tie.Need-same-length-9
-same-length-9 c = search rules
+same-length-7 : tie.Need-same-length-7
+same-length-7 c = search rules
 
 returns-4 : tie.Need-returns-4
 returns-4 c =
-    let a = c.before.before.before.before.before.before.before.before.before.before.before.before.before.before.before.before.before.before.args in
+    let a = c.before.before.before.before.before.before.before.before.before.before.before.before.before.before.before.before.args in
     fill-short a.limits a.mode a.vertices.now a.edges.now a.ids.now a.out-offsets.now a.out-targets.now
-    a.in-offsets.now a.in-sources.now a.out-weights.now a.in-weights.now
-    c.before.before.before.before.before.before.before.before.before.if1.false _ _
-    c.before.before.before.before.before.before.before.read-vertices.ensures _
-    c.before.before.before.before.listed2.given.1 _ c.before.before.before.before.before.before.before.read-vertices.auto.1.1.0 _
-    c.before.before.has-places.ensures c.before.if2.false _ c.plain2.ensures
+    a.in-offsets.now a.in-sources.now c.before.before.before.before.before.before.before.before.before.if1.false _
+    _ c.before.before.before.before.before.before.before.read-vertices.ensures _
+    c.before.before.before.before.listed2.given.1 _
+    c.before.before.before.before.before.before.before.read-vertices.auto.1.1.0 _ c.before.before.has-places.ensures
+    c.before.if2.false _ c.plain2.ensures
 
 pub fill_spec : {M : Type 1} → statement M
 fill_spec =
@@ -131,11 +122,9 @@ fill_spec =
     same-length-3
     same-length-4
     same-length-5
-    same-length-6
-    same-length-7
     returns-2
     plain-requires-2
-    same-length-8
+    same-length-6
     returns-3
-    same-length-9
+    same-length-7
     returns-4)

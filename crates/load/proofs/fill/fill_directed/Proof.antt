@@ -12,9 +12,6 @@ enum-known-listed c = search rules
 enum-known-listed-2 : tie.Need-enum-known-listed-2
 enum-known-listed-2 c = search rules
 
-has-weights-requires : tie.Need-has-weights-requires
-has-weights-requires c κs = search rules
-
 same_length : tie.Need-same-length
 same_length c = search rules
 
@@ -27,14 +24,14 @@ same-length-3 c = search rules
 same-length-4 : tie.Need-same-length-4
 same-length-4 c = search rules
 
+returns : tie.Need-returns
+returns c = search directed-refused
+
 same-length-5 : tie.Need-same-length-5
 same-length-5 c = search rules
 
 same-length-6 : tie.Need-same-length-6
 same-length-6 c = search rules
-
-returns : tie.Need-returns
-returns c = directed-refused _ _ _ _ _ _ _ _ _ _ _ _ _ _ _ _ c.before.before.before.before.before.before.before.before.before.before.before.before.before.before.before.arrange.ensures _ c.before.listed.given.1
 
 same-length-7 : tie.Need-same-length-7
 same-length-7 c = search rules
@@ -42,24 +39,8 @@ same-length-7 c = search rules
 same-length-8 : tie.Need-same-length-8
 same-length-8 c = search rules
 
-same-length-9 : tie.Need-same-length-9
-same-length-9 c = search rules
-
-same-length-10 : tie.Need-same-length-10
-same-length-10 c = search rules
-
-same-length-11 : tie.Need-same-length-11
-same-length-11 c = search rules
-
-same-length-12 : tie.Need-same-length-12
-same-length-12 c = search rules
-
 returns-2 : tie.Need-returns-2
-returns-2 c =
-    directed-lines _ _ _ _ _ _ _ _ _ _ _ _ _ _ _ _ c.before.before.before.before.before.before.before.before.before.before.before.before.before.before.before.before.arrange.ensures
-    c.before.before.before.before.before.before.before.before.before.before.before.before.before.before.before.before.before.before.before.before.before.before.before.before.before.before.before.before.before.before.requires.rise _
-    c.before.before.listed2.given.1 _
-    c.has-weights.ensures
+returns-2 c = search directed-lines
 
 pub fill-directed-spec : {M : Type 1} → statement M
 fill-directed-spec =
@@ -68,18 +49,13 @@ fill-directed-spec =
     arrange-requires
     enum-known-listed
     enum-known-listed-2
-    has-weights-requires
     same_length
     same-length-2
     same-length-3
     same-length-4
+    returns
     same-length-5
     same-length-6
-    returns
     same-length-7
     same-length-8
-    same-length-9
-    same-length-10
-    same-length-11
-    same-length-12
     returns-2)

@@ -1,7 +1,5 @@
-use Prim.Native.Nat.{◌≤◌}
-use lib.ListN.{length}
-use native.Mathlib.Omega.{arith}
 use Rattle.load.proofs.Fills.{undirected-refused, undirected-fits, undirected-lines}
+use native.Mathlib.Omega.{arith}
 use borrow.Author.Rules.{rules}
 use Rattle.load.proofs.fill.fill_undirected.Statement.{statement}
 use Rattle.load.proofs.fill.fill_undirected.Tie as tie
@@ -17,20 +15,21 @@ enum-known-listed-2 c = search rules
 
 add-arcs : tie.Need-overflow-add-arcs
 add-arcs c =
-    let p = c.before.before.before.before.before.before.before.before.before.before.before.before.before.before.before.before.before.before.before.before.before.before.before.before.before.before.before.before.before in
-    let g = p.good.1.1.1.1.1.1.0 in
-    let k : _ ≤ length p.args.in-sources.now = undirected-fits _ _ _ _ _ _ _ _ _ p.pre.rise _ _ _ _ _ _ _
-    c.before.before.before.before.before.before.before.before.before.before.before.before.before.before.before.arrange.ensures _ c.before.listed2.given.1 in
-    record { fits = omega (arith, g) }
+    omega (
+      arith,
+      undirected-fits _ _ _ _ _ _ _ c.before.before.before.before.before.before.before.before.before.before.before.before.before.before.before.before.before.before.before.before.before.requires.rise _ _ _ _ _
+          c.before.before.before.before.before.before.before.before.before.before.before.arrange.ensures _
+          c.before.listed2.given.1,
+    )
 
-add-copy-arcs : tie.Need-overflow-add-copy-arcs
-add-copy-arcs c = search rules
+add-copy : tie.Need-overflow-add-copy
+add-copy c = search rules
 
-copy-arcs-requires : tie.Need-copy-arcs-requires
-copy-arcs-requires c κs = search rules
+copy-requires : tie.Need-copy-requires
+copy-requires c κs = search rules
 
-has-weights-requires : tie.Need-has-weights-requires
-has-weights-requires c κs = search rules
+copy-requires-2 : tie.Need-copy-requires-2
+copy-requires-2 c κs = search rules
 
 same_length : tie.Need-same-length
 same_length c = search rules
@@ -44,14 +43,14 @@ same-length-3 c = search rules
 same-length-4 : tie.Need-same-length-4
 same-length-4 c = search rules
 
+returns : tie.Need-returns
+returns c = search undirected-refused
+
 same-length-5 : tie.Need-same-length-5
 same-length-5 c = search rules
 
 same-length-6 : tie.Need-same-length-6
 same-length-6 c = search rules
-
-returns : tie.Need-returns
-returns c = undirected-refused _ _ _ _ _ _ _ _ _ c.before.before.before.before.before.before.before.before.before.before.before.before.before.before.before.before.before.before.before.before.before.before.before.before.before.before.before.before.before.requires.rise _ _ _ _ _ _ _ c.before.before.before.before.before.before.before.before.before.before.before.before.before.before.before.arrange.ensures _ c.before.listed.given.1
 
 same-length-7 : tie.Need-same-length-7
 same-length-7 c = search rules
@@ -59,24 +58,8 @@ same-length-7 c = search rules
 same-length-8 : tie.Need-same-length-8
 same-length-8 c = search rules
 
-same-length-9 : tie.Need-same-length-9
-same-length-9 c = search rules
-
-same-length-10 : tie.Need-same-length-10
-same-length-10 c = search rules
-
-same-length-11 : tie.Need-same-length-11
-same-length-11 c = search rules
-
-same-length-12 : tie.Need-same-length-12
-same-length-12 c = search rules
-
 returns-2 : tie.Need-returns-2
-returns-2 c =
-    undirected-lines _ _ _ _ _ _ _ _ _ c.before.before.before.before.before.before.before.before.before.before.before.before.before.before.before.before.before.before.before.before.before.before.before.before.before.before.before.before.before.before.before.before.before.before.before.before.before.before.before.before.before.before.before.requires.rise
-    _ _ _ _ _ _ _ c.before.before.before.before.before.before.before.before.before.before.before.before.before.before.before.before.before.before.before.before.before.before.before.before.before.before.before.before.before.arrange.ensures _ c.before.before.before.before.before.before.before.before.before.before.before.before.before.before.before.listed2.given.1 _ _ _
-    c.before.before.before.before.before.before.before.before.before.before.before.before.before.before.before.before.before.before.before.before.before.before.before.before.before.before.before.before.before.before.before.before.before.before.before.before.before.before.before.before.before.before.before.requires.back_places
-    c.before.before.before.before.before.before.before.copy-arcs.ensures _ c.has-weights.ensures
+returns-2 c = search undirected-lines
 
 pub fill-undirected-spec : {M : Type 1} → statement M
 fill-undirected-spec =
@@ -86,20 +69,16 @@ fill-undirected-spec =
     enum-known-listed
     enum-known-listed-2
     add-arcs
-    add-copy-arcs
-    copy-arcs-requires
-    has-weights-requires
+    add-copy
+    copy-requires
+    copy-requires-2
     same_length
     same-length-2
     same-length-3
     same-length-4
+    returns
     same-length-5
     same-length-6
-    returns
     same-length-7
     same-length-8
-    same-length-9
-    same-length-10
-    same-length-11
-    same-length-12
     returns-2)

@@ -18,17 +18,17 @@ same-length-3 c = search rules
 same-length-4 : tie.Need-same-length-4
 same-length-4 c = search rules
 
+returns : tie.Need-returns
+returns c = search edges-both
+
+fill-directed-requires : tie.Need-fill-directed-requires
+fill-directed-requires c κs = search rules
+
 same-length-5 : tie.Need-same-length-5
 same-length-5 c = search rules
 
 same-length-6 : tie.Need-same-length-6
 same-length-6 c = search rules
-
-returns : tie.Need-returns
-returns c = search (edges-both, rules)
-
-fill-directed-requires : tie.Need-fill-directed-requires
-fill-directed-requires c κs = search rules
 
 same-length-7 : tie.Need-same-length-7
 same-length-7 c = search rules
@@ -36,20 +36,8 @@ same-length-7 c = search rules
 same-length-8 : tie.Need-same-length-8
 same-length-8 c = search rules
 
-same-length-9 : tie.Need-same-length-9
-same-length-9 c = search rules
-
-same-length-10 : tie.Need-same-length-10
-same-length-10 c = search rules
-
-same-length-11 : tie.Need-same-length-11
-same-length-11 c = search rules
-
-same-length-12 : tie.Need-same-length-12
-same-length-12 c = search rules
-
 returns-2 : tie.Need-returns-2
-returns-2 c = search (edges-one, rules)
+returns-2 c = search edges-one
 
 pub store-edges-spec : {M : Type 1} → statement M
 store-edges-spec =
@@ -60,14 +48,10 @@ store-edges-spec =
     same-length-2
     same-length-3
     same-length-4
-    same-length-5
-    same-length-6
     returns
     fill-directed-requires
+    same-length-5
+    same-length-6
     same-length-7
     same-length-8
-    same-length-9
-    same-length-10
-    same-length-11
-    same-length-12
     returns-2)

@@ -8,7 +8,7 @@ use Rattle.matching.proofs.close.scaled_up.Statement.{statement}
 use Rattle.matching.proofs.close.scaled_up.Tie as tie
 
 abbrev invariant-loop : tie.invariant-loop
-invariant-loop d k m₀ j₀ m j = (j ≤ k) × (m ≡ min (d * 10 ^ j) (10 ^ 19))
+invariant-loop d k m₀ j₀ m j = (j ≤ k) × (m ≡ min (d * 10 ^ j) (10 ^ 18))
 
 abbrev decreases-loop : tie.decreases-loop
 decreases-loop d k m₀ j₀ m j = k - j
@@ -19,8 +19,11 @@ capped-requires c κs = search rules
 loop-holds : tie.Need-loop-init invariant-loop decreases-loop
 loop-holds c = search rules
 
-ten-times-requires : tie.Need-ten-times-requires invariant-loop decreases-loop
-ten-times-requires c κs = search rules
+mul-capped : tie.Need-overflow-mul-capped invariant-loop decreases-loop
+mul-capped c = search rules
+
+capped-requires-2 : tie.Need-capped-requires-2 invariant-loop decreases-loop
+capped-requires-2 c κs = search rules
 
 add-j : tie.Need-overflow-add-j invariant-loop decreases-loop
 add-j c = search rules
@@ -33,9 +36,9 @@ loop-again c =
     let l = c.before.before.loop in
     let d = c.before.before.before.before.args.d in (
       search rules,
-      c.ten-times.ensures
+      c.capped2.ensures
           ∙ cap-next (d * 10 ^ l.j) l.m l.invariant.1
-          ∙ ap (λ (x : ℕ). min x (10 ^ 19)) (ten-more d l.j),
+          ∙ ap (λ (x : ℕ). min x (10 ^ 18)) (ten-more d l.j),
     )
 
 returns : tie.Need-returns invariant-loop decreases-loop
@@ -51,7 +54,8 @@ scaled-up-spec =
     decreases-loop
     capped-requires
     loop-holds
-    ten-times-requires
+    mul-capped
+    capped-requires-2
     add-j
     loop-less
     loop-again

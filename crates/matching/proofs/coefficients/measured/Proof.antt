@@ -1,6 +1,5 @@
 use native.Mathlib.Omega.{arith}
 use Rattle.matching.proofs.Records.{within-at, far_none, far-near, far-first, far-lesser}
-use Rattle.matching.proofs.DecimalLines.{near-at}
 use borrow.Author.Rules.{rules}
 use Rattle.matching.proofs.coefficients.measured.Statement.{statement}
 use Rattle.matching.proofs.coefficients.measured.Tie as tie
@@ -27,7 +26,7 @@ near-within-requires : tie.Need-near-within-requires
 near-within-requires c κs = search rules
 
 returns : tie.Need-returns
-returns c = search (far-near, near-at)
+returns c = search far-near
 
 add-here : tie.Need-overflow-add-here
 add-here c =
@@ -35,7 +34,7 @@ add-here c =
     c.before.before.before.before.before.vertex.given.1 in omega arith
 
 returns-2 : tie.Need-returns-2
-returns-2 c = search (far-first, near-at)
+returns-2 c = search far-first
 
 lesser-requires : tie.Need-lesser-requires
 lesser-requires c κs = search rules
@@ -44,7 +43,7 @@ returns-3 : tie.Need-returns-3
 returns-3 c = search far_none
 
 returns-4 : tie.Need-returns-4
-returns-4 c = search (far-lesser, near-at)
+returns-4 c = search far-lesser
 
 pub measured-spec : {M : Type 1} → statement M
 measured-spec =

@@ -2,8 +2,7 @@ use borrow.Author.Rules.{rules}
 use Prim.Native.Nat.{◌-◌}
 use lib.ListN.{length}
 use Rattle.matching.proofs.NumberLines.{named-within}
-use Rattle.matching.proofs.ValueLines.{values-far}
-use Rattle.matching.proofs.DecimalLines.{Decimals, decimals-none, decimals-next, decimals-end, decimals-fault}
+use Rattle.matching.proofs.DecimalLines.{Decimals, decimals-none, decimals-far, decimals-next, decimals-end, decimals-fault}
 use Rattle.matching.proofs.DecimalLines.{decimals-over, decimals-full}
 use Rattle.matching.proofs.coefficients.read_coefficients.Statement.{statement}
 use Rattle.matching.proofs.coefficients.read_coefficients.Tie as tie
@@ -28,7 +27,7 @@ ended-requires : tie.Need-ended-requires invariant-loop decreases-loop
 ended-requires c κs = search rules
 
 reported-requires : tie.Need-reported-requires invariant-loop decreases-loop
-reported-requires c κs = search (values-far, rules)
+reported-requires c κs = search (decimals-far, rules)
 
 verdict-of-requires : tie.Need-verdict-of-requires invariant-loop decreases-loop
 verdict-of-requires c κs = search rules
@@ -91,7 +90,7 @@ ended-requires-2 : tie.Need-ended-requires-2 invariant-loop decreases-loop
 ended-requires-2 c κs = search rules
 
 reported-requires-2 : tie.Need-reported-requires-2 invariant-loop decreases-loop
-reported-requires-2 c κs = search (values-far, rules)
+reported-requires-2 c κs = search (decimals-far, rules)
 
 verdict-of-requires-2 : tie.Need-verdict-of-requires-2 invariant-loop decreases-loop
 verdict-of-requires-2 c κs = search rules

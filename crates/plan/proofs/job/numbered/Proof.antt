@@ -1,4 +1,4 @@
-use Rattle.plan.proofs.Jobs.{numbered-bad, numbered-outside, numbered-good}
+use Rattle.plan.proofs.Jobs.{numbered-bad, numbered-outside, numbered-bfs, numbered-cdlp}
 use borrow.Author.Rules.{rules}
 use Rattle.plan.proofs.job.numbered.Statement.{statement}
 use Rattle.plan.proofs.job.numbered.Tie as tie
@@ -21,17 +21,17 @@ sheet-fault-requires-2 c κs = search rules
 enum-known-x : tie.Need-enum-known-x
 enum-known-x c = search rules
 
-job-by-requires : tie.Need-job-by-requires
-job-by-requires c κs = search rules
-
 returns : tie.Need-returns
-returns c = search numbered-bad
+returns c = search (numbered-bfs, rules)
 
 returns-2 : tie.Need-returns-2
-returns-2 c = search numbered-outside
+returns-2 c = search numbered-bad
 
 returns-3 : tie.Need-returns-3
-returns-3 c = search (numbered-good, rules)
+returns-3 c = search numbered-outside
+
+returns-4 : tie.Need-returns-4
+returns-4 c = search (numbered-cdlp, rules)
 
 pub numbered-spec : {M : Type 1} → statement M
 numbered-spec =
@@ -43,7 +43,7 @@ numbered-spec =
     enum-told-2
     sheet-fault-requires-2
     enum-known-x
-    job-by-requires
     returns
     returns-2
-    returns-3)
+    returns-3
+    returns-4)

@@ -1,4 +1,4 @@
-use Rattle.plan.proofs.Jobs.{job-bfs, job-cdlp, job-sssp, job-wcc, job-lcc, job-none}
+use Rattle.plan.proofs.Jobs.{job-bfs, job-cdlp, job-wcc, job-lcc, job-none}
 use Rattle.plan.proofs.Words.{word_at}
 use native.Mathlib.Omega.{arith}
 use borrow.Author.Rules.{rules}
@@ -51,19 +51,16 @@ slice-aggregate-begins-at-3 c = search rules
 begins-at-requires-3 : tie.Need-begins-at-requires-3
 begins-at-requires-3 c κs = search rules
 
-add-numbered-3 : tie.Need-overflow-add-numbered-3
-add-numbered-3 c =
+add-t19 : tie.Need-overflow-add-t19
+add-t19 c =
     omega (
       arith,
       let a = c.before.before.before.before.before.before.before.before.before.before in
           word_at a.args.s.now a.args.at _ _ _ c.before.begins-at3.ensures c.if3.true,
     )
 
-numbered-requires-3 : tie.Need-numbered-requires-3
-numbered-requires-3 c κs = search rules
-
 returns-3 : tie.Need-returns-3
-returns-3 c = search job-sssp
+returns-3 c = search job-wcc
 
 slice-aggregate-begins-at-4 : tie.Need-slice-aggregate-begins-at-4
 slice-aggregate-begins-at-4 c = search rules
@@ -71,8 +68,8 @@ slice-aggregate-begins-at-4 c = search rules
 begins-at-requires-4 : tie.Need-begins-at-requires-4
 begins-at-requires-4 c κs = search rules
 
-add-t27 : tie.Need-overflow-add-t27
-add-t27 c =
+add-t24 : tie.Need-overflow-add-t24
+add-t24 c =
     omega (
       arith,
       let a = c.before.before.before.before.before.before.before.before.before.before.before.before.before in
@@ -82,41 +79,16 @@ add-t27 c =
 returns-4 : tie.Need-returns-4
 returns-4 c =
     let a = c.before.before.before.before.before.before.before.before.before.before.before.before.before in
-    job-wcc a.args.s.now a.args.at _
-    c.before.before.before.before.before.before.before.before.before.before.begins-at.ensures c.before.before.before.before.before.before.before.before.before.if1.false _
-    c.before.before.before.before.before.before.before.begins-at2.ensures c.before.before.before.before.before.before.if2.false _
-    c.before.before.before.before.begins-at3.ensures c.before.before.before.if3.false _
-    c.before.begins-at4.ensures c.if4.true
-
-slice-aggregate-begins-at-5 : tie.Need-slice-aggregate-begins-at-5
-slice-aggregate-begins-at-5 c = search rules
-
-begins-at-requires-5 : tie.Need-begins-at-requires-5
-begins-at-requires-5 c κs = search rules
-
-add-t32 : tie.Need-overflow-add-t32
-add-t32 c =
-    omega (
-      arith,
-      let a = c.before.before.before.before.before.before.before.before.before.before.before.before.before.before.before.before in
-          word_at a.args.s.now a.args.at _ _ _ c.before.begins-at5.ensures c.if5.true,
-    )
-
-returns-5 : tie.Need-returns-5
-returns-5 c =
-    let a = c.before.before.before.before.before.before.before.before.before.before.before.before.before.before.before.before in
-    job-lcc a.args.s.now a.args.at _
-    c.before.before.before.before.before.before.before.before.before.before.before.before.before.begins-at.ensures c.before.before.before.before.before.before.before.before.before.before.before.before.if1.false _
-    c.before.before.before.before.before.before.before.before.before.before.begins-at2.ensures c.before.before.before.before.before.before.before.before.before.if2.false _
-    c.before.before.before.before.before.before.before.begins-at3.ensures c.before.before.before.before.before.before.if3.false _
-    c.before.before.before.before.begins-at4.ensures c.before.before.before.if4.false _
-    c.before.begins-at5.ensures c.if5.true
+    job-lcc a.args.s.now a.args.at _ c.before.before.before.before.before.before.before.before.before.before.begins-at.ensures c.before.before.before.before.before.before.before.before.before.if1.false _
+    c.before.before.before.before.before.before.before.begins-at2.ensures
+    c.before.before.before.before.before.before.if2.false _ c.before.before.before.before.begins-at3.ensures
+    c.before.before.before.if3.false _ c.before.begins-at4.ensures c.if4.true
 
 sheet-fault-requires : tie.Need-sheet-fault-requires
 sheet-fault-requires c κs = search rules
 
-returns-6 : tie.Need-returns-6
-returns-6 c = search job-none
+returns-5 : tie.Need-returns-5
+returns-5 c = search job-none
 
 pub read-job-spec : {M : Type 1} → statement M
 read-job-spec =
@@ -134,16 +106,11 @@ read-job-spec =
     returns-2
     slice-aggregate-begins-at-3
     begins-at-requires-3
-    add-numbered-3
-    numbered-requires-3
+    add-t19
     returns-3
     slice-aggregate-begins-at-4
     begins-at-requires-4
-    add-t27
+    add-t24
     returns-4
-    slice-aggregate-begins-at-5
-    begins-at-requires-5
-    add-t32
-    returns-5
     sheet-fault-requires
-    returns-6)
+    returns-5)

@@ -1,4 +1,4 @@
-use Rattle.sheet.proofs.Ran.{job-bfs, job-wcc, job-cdlp, job-lcc, job-sssp}
+use Rattle.sheet.proofs.Ran.{job-bfs, job-wcc, job-cdlp, job-lcc}
 use borrow.Author.Rules.{rules}
 use Rattle.sheet.proofs.jobs.run_job.Statement.{statement}
 use Rattle.sheet.proofs.jobs.run_job.Tie as tie
@@ -27,12 +27,6 @@ enum-told-2 c = search rules
 lcc-job-requires : tie.Need-lcc-job-requires
 lcc-job-requires c κs = search rules
 
-enum-known-job-3 : tie.Need-enum-known-job-3
-enum-known-job-3 c = search rules
-
-sssp-job-requires : tie.Need-sssp-job-requires
-sssp-job-requires c κs = search rules
-
 same_length : tie.Need-same-length
 same_length c = search rules
 
@@ -57,12 +51,6 @@ same-length-4 c = search rules
 returns-4 : tie.Need-returns-4
 returns-4 c = search job-lcc
 
-same-length-5 : tie.Need-same-length-5
-same-length-5 c = search rules
-
-returns-5 : tie.Need-returns-5
-returns-5 c = search (job-sssp, rules)
-
 pub run-job-spec : {M : Type 1} → statement M
 run-job-spec =
     tie.close
@@ -75,8 +63,6 @@ run-job-spec =
     cdlp-job-requires
     enum-told-2
     lcc-job-requires
-    enum-known-job-3
-    sssp-job-requires
     same_length
     returns
     same-length-2
@@ -84,6 +70,4 @@ run-job-spec =
     same-length-3
     returns-3
     same-length-4
-    returns-4
-    same-length-5
-    returns-5)
+    returns-4)

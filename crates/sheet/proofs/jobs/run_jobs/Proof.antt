@@ -2,7 +2,6 @@ use mathlib.Core.Path.{◌≡◌, refl}
 use native.Mathlib.Omega.{arith}
 use borrow.Author.Rules.{rules}
 use Rattle.graph.specs.Sound.{lent}
-use Rattle.graph.specs.Weights.{weighing}
 use Rattle.write.specs.Put.{put_at}
 use Rattle.write.proofs.Puts.{putting-length}
 use Rattle.sheet.specs.Jobs.{jobs_text}
@@ -11,12 +10,12 @@ use Rattle.sheet.proofs.jobs.run_jobs.Statement.{statement}
 use Rattle.sheet.proofs.jobs.run_jobs.Tie as tie
 
 abbrev invariant-loop : tie.invariant-loop
-invariant-loop size weighted ids oo ot io is ow iw s count from out₀ at next₀ place₀ left₀ out next place left =
-    put_at out next (jobs_text (weighing (lent size ids oo ot io is) weighted ow iw) s left place)
-    ≡ put_at out₀ at (jobs_text (weighing (lent size ids oo ot io is) weighted ow iw) s count from)
+invariant-loop size ids oo ot io is s count from out₀ at next₀ place₀ left₀ out next place left =
+    put_at out next (jobs_text (lent size ids oo ot io is) s left place)
+    ≡ put_at out₀ at (jobs_text (lent size ids oo ot io is) s count from)
 
 abbrev decreases-loop : tie.decreases-loop
-decreases-loop size weighted ids oo ot io is ow iw s count from out₀ at next₀ place₀ left₀ out next place left = left
+decreases-loop size ids oo ot io is s count from out₀ at next₀ place₀ left₀ out next place left = left
 
 loop-holds : tie.Need-loop-init invariant-loop decreases-loop
 loop-holds c = refl

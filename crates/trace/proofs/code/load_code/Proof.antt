@@ -10,20 +10,11 @@ use Rattle.trace.proofs.code.load_code.Tie as tie
 enum-known-a : tie.Need-enum-known-a
 enum-known-a c = search rules
 
-cast-result : tie.Need-overflow-cast-result
-cast-result c = search rules
-
 mul-result : tie.Need-overflow-mul-result
 mul-result c = omega (arith, c.before.before.before.requires.values _ (ap says c.before.a.given.1))
 
-mul-result-2 : tie.Need-overflow-mul-result-2
-mul-result-2 c = omega (arith, c.before.before.before.requires.values _ (ap says c.before.a.given.1))
-
 add-result : tie.Need-overflow-add-result
 add-result c = omega (arith, c.before.before.before.requires.values _ (ap says c.before.a.given.1))
-
-add-result-2 : tie.Need-overflow-add-result-2
-add-result-2 c = omega (arith, c.before.before.before.requires.values _ (ap says c.before.a.given.1))
 
 enum-known-a-2 : tie.Need-enum-known-a-2
 enum-known-a-2 c = search rules
@@ -42,11 +33,8 @@ load-code-spec =
     tie.close
     (tie.spec
     enum-known-a
-    cast-result
     mul-result
-    mul-result-2
     add-result
-    add-result-2
     enum-known-a-2
     refusal-code-requires
     returns

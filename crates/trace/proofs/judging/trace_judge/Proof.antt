@@ -32,8 +32,7 @@ same-length-6 : tie.Need-same-length-6
 same-length-6 c = search rules
 
 returns : tie.Need-returns
-returns c =
-    judge-told _ _ _ _ _ _ _ _ _ _ _ _ _ _ _ _ _ c.before.before.before.before.before.before.before.before.before.before.before.before.verdict.ensures _ c.before.as-refusal.ensures _ c.refusal-code.ensures _ (to_z-of_z c.before.before.before.before.before.before.before.before.before.before.before.before.before.before.before.before.before.before.before.before.before.before.before.before.before.before.before.before.before.before.ranges.parameter)
+returns c = search (judge-told, to_z-of_z)
 
 pub trace-judge-spec : {M : Type 1} → statement M
 trace-judge-spec =

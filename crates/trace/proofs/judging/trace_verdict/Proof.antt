@@ -33,12 +33,6 @@ slice-aggregate-load-within-4 c = search rules
 slice-aggregate-load-within-5 : tie.Need-slice-aggregate-load-within-5
 slice-aggregate-load-within-5 c = search rules
 
-slice-aggregate-load-within-6 : tie.Need-slice-aggregate-load-within-6
-slice-aggregate-load-within-6 c = search rules
-
-slice-aggregate-load-within-7 : tie.Need-slice-aggregate-load-within-7
-slice-aggregate-load-within-7 c = search rules
-
 load-within-requires : tie.Need-load-within-requires
 load-within-requires c κs = search rules
 
@@ -68,12 +62,6 @@ slice-aggregate-judge-loaded-4 c = search rules
 slice-aggregate-judge-loaded-5 : tie.Need-slice-aggregate-judge-loaded-5
 slice-aggregate-judge-loaded-5 c = search rules
 
-slice-aggregate-judge-loaded-6 : tie.Need-slice-aggregate-judge-loaded-6
-slice-aggregate-judge-loaded-6 c = search rules
-
-slice-aggregate-judge-loaded-7 : tie.Need-slice-aggregate-judge-loaded-7
-slice-aggregate-judge-loaded-7 c = search rules
-
 judge-loaded-requires : tie.Need-judge-loaded-requires
 judge-loaded-requires c κs = search rules
 
@@ -82,8 +70,10 @@ returns-2 c = search host-refused
 
 returns-3 : tie.Need-returns-3
 returns-3 c =
-    host-judged _ _ _ _ _ _ _ c.before.before.before.before.before.before.before.before.before.before.before.before.before.before.before.before.before.before.before.before.before.before.before.before.before.before.before.is_Known.ensures c.before.before.before.before.before.before.before.before.before.before.before.before.before.before.before.before.before.before.before.before.before.before.before.before.before.before.if1.false _ _ _ _ _ _ _ _ c.before.before.before.before.before.before.before.before.before.before.before.before.before.before.before.before.before.before.load-within.ensures _ _ c.before.before.before.before.before.before.before.before.before.loaded2.given.1 _ (to_z-of_z c.before.before.before.before.before.before.before.before.before.before.before.before.before.before.before.before.before.before.before.before.before.before.before.before.before.before.before.before.before.before.before.ranges.parameter) _
-    c.judge-loaded.ensures
+    host-judged _ _ _ _ _ _ _ c.before.before.before.before.before.before.before.before.before.before.before.before.before.before.before.before.before.before.before.before.before.is_Known.ensures
+    c.before.before.before.before.before.before.before.before.before.before.before.before.before.before.before.before.before.before.before.before.if1.false _ _ _ _ _ _
+    c.before.before.before.before.before.before.before.before.before.before.before.before.before.before.load-within.ensures _ c.before.before.before.before.before.before.before.loaded2.given.1 _
+    (to_z-of_z c.before.before.before.before.before.before.before.before.before.before.before.before.before.before.before.before.before.before.before.before.before.before.before.before.before.ranges.parameter) _ c.judge-loaded.ensures
 
 pub trace-verdict-spec : {M : Type 1} → statement M
 trace-verdict-spec =
@@ -98,8 +88,6 @@ trace-verdict-spec =
     slice-aggregate-load-within-3
     slice-aggregate-load-within-4
     slice-aggregate-load-within-5
-    slice-aggregate-load-within-6
-    slice-aggregate-load-within-7
     load-within-requires
     enum-known-loaded
     host-code-requires-2
@@ -109,8 +97,6 @@ trace-verdict-spec =
     slice-aggregate-judge-loaded-3
     slice-aggregate-judge-loaded-4
     slice-aggregate-judge-loaded-5
-    slice-aggregate-judge-loaded-6
-    slice-aggregate-judge-loaded-7
     judge-loaded-requires
     returns-2
     returns-3)

@@ -24,12 +24,6 @@ same-length-4 c = search rules
 same-length-5 : tie.Need-same-length-5
 same-length-5 c = search rules
 
-same-length-6 : tie.Need-same-length-6
-same-length-6 c = search rules
-
-same-length-7 : tie.Need-same-length-7
-same-length-7 c = search rules
-
 returns : tie.Need-returns
 returns c = search load_told_lem
 
@@ -44,6 +38,4 @@ trace-load-spec =
     same-length-3
     same-length-4
     same-length-5
-    same-length-6
-    same-length-7
     returns)

@@ -27,7 +27,7 @@ same-length-6 c = search rules
 returns : tie.Need-returns
 returns c =
     let w = c.before.before.before.before.before.before.before.before.before.before in
-    rw (to_z-of_z w.before.before.before.before.before.before.before.before.before.before.before.before.before.before.before.before.before.before.ranges.parameter) at w.verdict-within.ensures
+    rw (to_z-of_z w.before.before.before.before.before.before.before.before.before.before.before.before.before.before.before.before.ranges.parameter) at w.verdict-within.ensures
 
 pub verdict-spec : {M : Type 1} → statement M
 verdict-spec =

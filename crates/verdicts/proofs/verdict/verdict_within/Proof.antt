@@ -1,5 +1,5 @@
 use mir.Facts.{to_z-of_z}
-use Rattle.verdicts.proofs.Calls.{roomy, verdict-unknown, verdict-bfs, verdict-wcc, verdict-cdlp, verdict-lcc, verdict-sssp}
+use Rattle.verdicts.proofs.Calls.{roomy, verdict-unknown, verdict-bfs, verdict-wcc, verdict-cdlp, verdict-lcc}
 use borrow.Author.Rules.{rules}
 use Rattle.verdicts.proofs.verdict.verdict_within.Statement.{statement}
 use Rattle.verdicts.proofs.verdict.verdict_within.Tie as tie
@@ -42,7 +42,7 @@ returns c =
     let t = w.before.before.before.before.before.before.before in
     let s = t.before.before.before.before in
     let k = s.before.before in
-    verdict-bfs _ _ _ _ _ _ _ _ _ _ _ k.before.has_room.ensures (to_z-of_z k.before.before.before.before.before.before.before.before.before.before.before.before.before.ranges.parameter) k.if1.true
+    verdict-bfs _ _ _ _ _ _ _ _ _ _ _ k.before.has_room.ensures (to_z-of_z k.before.before.before.before.before.before.before.before.before.before.before.ranges.parameter) k.if1.true
     w.on-bfs.ensures.0 w.on-bfs.ensures.1 s.clear.ensures t.clear2.ensures
 
 clear-requires-3 : tie.Need-clear-requires-3
@@ -110,7 +110,8 @@ returns-3 : tie.Need-returns-3
 returns-3 c =
     let w = c.before.before.before.before.before.before.before.before.before.before in
     let k = w.before.before.before.before.before.before.before in
-    verdict-cdlp _ _ _ _ _ _ _ _ _ _ _ k.before.before.before.has_room.ensures (to_z-of_z k.before.before.before.before.before.before.before.before.before.before.before.before.before.before.before.ranges.parameter)
+    verdict-cdlp _ _ _ _ _ _ _ _ _ _ _ k.before.before.before.has_room.ensures (to_z-of_z
+    k.before.before.before.before.before.before.before.before.before.before.before.before.before.ranges.parameter)
     k.before.before.if1.false k.before.if2.false k.if3.true w.on-cdlp.ensures.0 w.on-cdlp.ensures.1
 
 clear-signed-requires : tie.Need-clear-signed-requires
@@ -148,13 +149,12 @@ returns-4 c =
     let t = w.before.before.before.before.before.before in
     let s = t.before.before.before in
     let k = s.before.before in
-    verdict-lcc _ _ _ _ _ _ _ _ _ _ _ k.before.before.before.before.has_room.ensures k.before.before.before.if1.false k.before.before.if2.false k.before.if3.false k.if4.true
-    w.on-lcc.ensures.0 s.clear-signed.ensures t.clear-signed2.ensures w.on-lcc.ensures.1
+    verdict-lcc _ _ _ _ _ _ _ _ _ _ _ k.before.before.before.before.has_room.ensures k.before.before.before.if1.false
+    k.before.before.if2.false k.before.if3.false k.if4.true w.on-lcc.ensures.0 s.clear-signed.ensures
+    t.clear-signed2.ensures w.on-lcc.ensures.1
 
-on-sssp-requires : tie.Need-on-sssp-requires
-on-sssp-requires c κs =
-    let h = roomy _ _ _ _ _ _ _ c.before.before.before.before.before.before.before.before.before.before.before.has_room.ensures in
-    ((h.0.0, h.2), h.1)
+refuse-unknown-requires : tie.Need-refuse-unknown-requires
+refuse-unknown-requires c κs = search rules
 
 same-length-25 : tie.Need-same-length-25
 same-length-25 c = search rules
@@ -176,38 +176,9 @@ same-length-30 c = search rules
 
 returns-5 : tie.Need-returns-5
 returns-5 c =
-    let w = c.before.before.before.before.before.before.before.before.before.before in
-    let k = w.before.before.before.before.before.before.before in
-    verdict-sssp _ _ _ _ _ _ _ _ _ _ _ k.before.before.before.before.before.has_room.ensures (to_z-of_z k.before.before.before.before.before.before.before.before.before.before.before.before.before.before.before.before.before.ranges.parameter)
-    k.before.before.before.before.if1.false k.before.before.before.if2.false k.before.before.if3.false k.before.if4.false k.if5.true w.on-sssp.ensures.0
-    w.on-sssp.ensures.1
-
-refuse-unknown-requires : tie.Need-refuse-unknown-requires
-refuse-unknown-requires c κs = search rules
-
-same-length-31 : tie.Need-same-length-31
-same-length-31 c = search rules
-
-same-length-32 : tie.Need-same-length-32
-same-length-32 c = search rules
-
-same-length-33 : tie.Need-same-length-33
-same-length-33 c = search rules
-
-same-length-34 : tie.Need-same-length-34
-same-length-34 c = search rules
-
-same-length-35 : tie.Need-same-length-35
-same-length-35 c = search rules
-
-same-length-36 : tie.Need-same-length-36
-same-length-36 c = search rules
-
-returns-6 : tie.Need-returns-6
-returns-6 c =
     let k = c.before.before.before.before.before.before.before.before.before.before.before.before.before.before.before.before.before in
-    verdict-unknown _ _ _ _ _ _ _ _ _ _ _ k.before.before.before.before.if1.left k.before.before.before.if2.left k.before.before.if3.left k.before.if4.left k.if5.left
-    c.before.before.before.before.before.before.before.before.before.before.refuse-unknown.ensures
+    verdict-unknown _ _ _ _ _ _ _ _ _ _ _ k.before.before.before.if1.left k.before.before.if2.left k.before.if3.left
+    k.if4.left c.before.before.before.before.before.before.before.before.before.before.refuse-unknown.ensures
 
 pub verdict-within-spec : {M : Type 1} → statement M
 verdict-within-spec =
@@ -252,19 +223,11 @@ verdict-within-spec =
     same-length-23
     same-length-24
     returns-4
-    on-sssp-requires
+    refuse-unknown-requires
     same-length-25
     same-length-26
     same-length-27
     same-length-28
     same-length-29
     same-length-30
-    returns-5
-    refuse-unknown-requires
-    same-length-31
-    same-length-32
-    same-length-33
-    same-length-34
-    same-length-35
-    same-length-36
-    returns-6)
+    returns-5)
