@@ -77,8 +77,8 @@ pub eqb_swap : (a b : ℕ) → eqb a b ≡ eqb b a
 eqb_swap a b = eqb-by a b b a sym sym
 
 -- after `if !f(..)`: what the answer t of a call says of the test b that it promises
-pub failed : (t b : Bool) → t ≡ b → not t ≡ true → b ≡ false
-failed t b e h = sym e ∙ not-true t h
+pub failed : (t b : Bool) → t ≡ b → t ≡ false → b ≡ false
+failed t b e h = sym e ∙ h
 
-pub held : (t b : Bool) → t ≡ b → not t ≡ false → b ≡ true
-held t b e h = sym e ∙ not-false t h
+pub held : (t b : Bool) → t ≡ b → t ≡ true → b ≡ true
+held t b e h = sym e ∙ h

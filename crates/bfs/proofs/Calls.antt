@@ -122,11 +122,11 @@ module _ (size : Size) (ids : List ℤ) (oo ot io is : List ℕ) (root : ℤ) (D
   over : bfs_call graph root D Q₁ ≡ bfs_call graph root D Q
   over = call-over graph root D Q Q₁ (check-area e)
 
-  pub call-unsound : not s ≡ true → o ≡ refusal unsound D Q₁ → o ≡ bfs_call graph root D Q
+  pub call-unsound : s ≡ false → o ≡ refusal unsound D Q₁ → o ≡ bfs_call graph root D Q
   unfolding bfs_call left_by
   call-unsound h q = ends-unsound left o (sound_graph graph) (is_there place) not_there roomy s (check-told e) h q ∙ over
 
-  module _ (h : not s ≡ false) (z : ℤ) (same : z ≡ root) (f : Found) (b : Searched (names graph) z f) where
+  module _ (h : s ≡ true) (z : ℤ) (same : z ≡ root) (f : Found) (b : Searched (names graph) z f) where
     -- a bisection of the names of a sound graph finds a vertex by its identifier
     found : f ≡ place
     found =
@@ -144,14 +144,14 @@ module _ (size : Size) (ids : List ℤ) (oo ot io is : List ℕ) (root : ℤ) (D
       given : not (is_there f) ≡ false
       given = ap (λ (x : Found). not (is_there x)) a
 
-      pub call-short : not r ≡ true → o ≡ refusal no_room D Q₁ → o ≡ bfs_call graph root D Q
+      pub call-short : r ≡ false → o ≡ refusal no_room D Q₁ → o ≡ bfs_call graph root D Q
       unfolding bfs_call left_by
       call-short l q =
           ends-short left o (sound_graph graph) (is_there place) not_there roomy s (check-told e) h (is_there f) (ap is_there found) given r i l
           q
           ∙ over
 
-      pub call-done : not r ≡ false → o ≡ left_by (gives tt) graph (At v) D Q₁ → o ≡ bfs_call graph root D Q
+      pub call-done : r ≡ true → o ≡ left_by (gives tt) graph (At v) D Q₁ → o ≡ bfs_call graph root D Q
       unfolding bfs_call
       call-done l q =
           ends-done left o (sound_graph graph) (is_there place) not_there roomy s (check-told e) h (is_there f) (ap is_there found) given r i l
@@ -160,8 +160,8 @@ module _ (size : Size) (ids : List ℤ) (oo ot io is : List ℕ) (root : ℤ) (D
 
 -- and with a root that is there and room, the areas can be filled
 pub call-ready : (size : Size) (ids : List ℤ) (oo ot io is : List ℕ) (root : ℤ) (D : List ℤ) (Q : List ℕ) (s : Bool)
-    → s ≡ sound_graph (lent size ids oo ot io is) → not s ≡ false → (f : Found) → Searched (names (lent size ids oo ot io is)) root f
-    → (v : ℕ) → f ≡ At v → (r : Bool) → r ≡ room_for size.vertices D Q → not r ≡ false → Ready (lent size ids oo ot io is) v D Q
+    → s ≡ sound_graph (lent size ids oo ot io is) → s ≡ true → (f : Found) → Searched (names (lent size ids oo ot io is)) root f
+    → (v : ℕ) → f ≡ At v → (r : Bool) → r ≡ room_for size.vertices D Q → r ≡ true → Ready (lent size ids oo ot io is) v D Q
 call-ready size ids oo ot io is root D Q s e h f b v a r i l =
     let g = lent size ids oo ot io is in
     let sound = held s (sound_graph g) e h in

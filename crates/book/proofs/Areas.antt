@@ -22,11 +22,11 @@ use Rattle.book.proofs.Calls.{size_below, size-large, size_is, limit-size}
 
 -- ---- an opening
 module _ (xs : List ℤ) (t : Bool) (e : t ≡ leb (length xs) most_vertices) where
-  pub open-unlent : (x : Refusal) → not t ≡ true → x ≡ plain no_room → outcome (refuses x) xs ≡ open_book one_book xs
+  pub open-unlent : (x : Refusal) → t ≡ false → x ≡ plain no_room → outcome (refuses x) xs ≡ open_book one_book xs
   unfolding open_book one
   open-unlent x f p = rw (failed t _ e f, p)
 
-  pub open-ready : (ys : List ℤ) → not t ≡ false → ys ≡ replicate (length xs) (negsuc 0) → outcome (gives tt) ys ≡ open_book one_book xs
+  pub open-ready : (ys : List ℤ) → t ≡ true → ys ≡ replicate (length xs) (negsuc 0) → outcome (gives tt) ys ≡ open_book one_book xs
   unfolding open_book one
   open-ready ys f p = rw (held t _ e f, p)
 

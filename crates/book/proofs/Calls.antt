@@ -37,16 +37,16 @@ module _ (w : View) (v : ℕ) where
       (l.0, ltb-true v w.count t.0, t.1)
 
   module _ (t : Bool) (e : t ≡ w.fit) where
-    pub head-unlent : (x : Refusal) → not t ≡ true → x ≡ plain no_room → refuses x ≡ head_of w v
+    pub head-unlent : (x : Refusal) → t ≡ false → x ≡ plain no_room → refuses x ≡ head_of w v
     unfolding head_of
     head-unlent x f p = ap refuses p ∙ sym (check-off w.fit no_room _ (failed t _ e f))
 
-    pub head-missing : (x : Refusal) → not t ≡ false → w.count ≤ v → x ≡ plain not_there → refuses x ≡ head_of w v
+    pub head-missing : (x : Refusal) → t ≡ true → w.count ≤ v → x ≡ plain not_there → refuses x ≡ head_of w v
     unfolding head_of
     head-missing x f l p =
         ap refuses p ∙ sym (check-on w.fit no_room _ (held t _ e f) ∙ check-off (ltb v w.count) not_there _ (le-ltb v w.count l))
 
-    pub head-walked : (s : Said WalkEnd) → not t ≡ false → v < w.count → s ≡ walk_from w.next w.count v → s ≡ head_of w v
+    pub head-walked : (s : Said WalkEnd) → t ≡ true → v < w.count → s ≡ walk_from w.next w.count v → s ≡ head_of w v
     head-walked s f l p = p ∙ sym (head_walk (held t _ e f) l)
 
 -- ---- the heads of two vertices
@@ -94,23 +94,23 @@ module _ (w : View) (u v : ℕ) where
       (a.0, a.1, b.0, b.1)
 
   module _ (t : Bool) (e : t ≡ w.fit) where
-    pub heads-unlent : (x : Refusal) → not t ≡ true → x ≡ plain no_room → refuses x ≡ heads_of w u v
+    pub heads-unlent : (x : Refusal) → t ≡ false → x ≡ plain no_room → refuses x ≡ heads_of w u v
     unfolding heads_of
     heads-unlent x f p = ap refuses p ∙ sym (check-off w.fit no_room _ (failed t _ e f))
 
-    pub heads-missing : (x : Refusal) → not t ≡ false → w.count ≤ u → x ≡ plain not_there → refuses x ≡ heads_of w u v
+    pub heads-missing : (x : Refusal) → t ≡ true → w.count ≤ u → x ≡ plain not_there → refuses x ≡ heads_of w u v
     unfolding heads_of
     heads-missing x f l p =
         ap refuses p ∙ sym (check-on w.fit no_room _ (held t _ e f) ∙ check-off (ltb u w.count) not_there _ (le-ltb u w.count l))
 
-    pub heads-missing2 : (x : Refusal) → not t ≡ false → u < w.count → w.count ≤ v → x ≡ plain not_there → refuses x ≡ heads_of w u v
+    pub heads-missing2 : (x : Refusal) → t ≡ true → u < w.count → w.count ≤ v → x ≡ plain not_there → refuses x ≡ heads_of w u v
     unfolding heads_of
     heads-missing2 x f d l p =
         ap refuses p
         ∙ sym (check-on w.fit no_room _ (held t _ e f) ∙ check-on (ltb u w.count) not_there _ (lt-ltb u w.count d)
         ∙ check-off (ltb v w.count) not_there _ (le-ltb v w.count l))
 
-    pub heads-walked : (s z : Said WalkEnd) → not t ≡ false → u < w.count → v < w.count → s ≡ walk_from w.next w.count u
+    pub heads-walked : (s z : Said WalkEnd) → t ≡ true → u < w.count → v < w.count → s ≡ walk_from w.next w.count u
         → z ≡ walk_from w.next w.count v
         → pair s z ≡ heads_of w u v
     heads-walked s z f a b p q = sym (heads-walks (held t _ e f) a b ∙ ap₂ pair (sym p) (sym q))
@@ -206,11 +206,11 @@ module _ (next : ℕ → Next) (i : ℕ) (t : Bool) (e : t ≡ is_stop (next i))
   count-other h = rw add-one (tally-no (λ v. is_stop (next v)) i (sym e ∙ h))
 
 module _ (w : View) (t : Bool) (e : t ≡ w.fit) where
-  pub count-unlent : (x : Refusal) → not t ≡ true → x ≡ plain no_room → refuses x ≡ group_count w
+  pub count-unlent : (x : Refusal) → t ≡ false → x ≡ plain no_room → refuses x ≡ group_count w
   unfolding group_count
   count-unlent x f p = ap refuses p ∙ sym (check-off w.fit no_room _ (failed t _ e f))
 
-  pub count-is : (i k : ℕ) → not t ≡ false → w.count ≤ i → i ≤ w.count → k ≡ tally (λ v. is_stop (w.next v)) i → gives k ≡ group_count w
+  pub count-is : (i k : ℕ) → t ≡ true → w.count ≤ i → i ≤ w.count → k ≡ tally (λ v. is_stop (w.next v)) i → gives k ≡ group_count w
   unfolding group_count
   count-is i k f a b p =
       let q : i ≡ w.count = omega arith in

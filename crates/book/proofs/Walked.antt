@@ -60,11 +60,11 @@ module _ (next : ℕ → Next) (n v at moves : ℕ) (e : walk_from next n v ≡ 
       e ∙ rw z (walk-move next n (most_moves - (moves + 1)) moves at p q l)
 
 -- an area of n places that is well lent has room for no head that the number cannot hold
-pub lent-within : (n : ℕ) (t : Bool) → t ≡ leb n most_vertices → not t ≡ false → n ≤ most_vertices
+pub lent-within : (n : ℕ) (t : Bool) → t ≡ leb n most_vertices → t ≡ true → n ≤ most_vertices
 lent-within n t e f = leb-true n most_vertices (held t _ e f)
 
 -- ---- the calls that walk
-module _ (w : View) (t : Bool) (e : t ≡ w.fit) (f : not t ≡ false) where
+module _ (w : View) (t : Bool) (e : t ≡ w.fit) (f : t ≡ true) where
   module _ (v : ℕ) (l : v < w.count) (a : ℕ) (p : says_walked a ≡ walk_from w.next w.count v) where
     pub head-late : (x : Refusal) → most_moves < a / most_vertices → x ≡ plain unsound → refuses x ≡ head_of w v
     head-late x m q = head-walked w v t e (refuses x) f l (ap refuses q ∙ sym (walked-late a m) ∙ p)

@@ -166,31 +166,31 @@ module _ (size : Size) (ids : List ℤ) (oo ot io is : List ℕ) (z : ℤ) (R : 
   over : cdlp_call graph z R L N C₁ ≡ cdlp_call graph z R L N C
   over = call-over graph z R L N C C₁ (check-area e)
 
-  pub call-unsound : not s ≡ true → o ≡ refusal unsound R L N C₁ → o ≡ cdlp_call graph z R L N C
+  pub call-unsound : s ≡ false → o ≡ refusal unsound R L N C₁ → o ≡ cdlp_call graph z R L N C
   unfolding cdlp_call left_by
   call-unsound h q = ends-unsound left o (sound_graph graph) (good_rounds z) bad_rounds roomy s (check-told e) h q ∙ over
 
-  module _ (h : not s ≡ false) (z' : ℤ) (same : z' ≡ z) (a : Bool) (f : a ≡ good_rounds z') where
+  module _ (h : s ≡ true) (z' : ℤ) (same : z' ≡ z) (a : Bool) (f : a ≡ good_rounds z') where
     good : a ≡ good_rounds z
     good = f ∙ ap good_rounds same
 
-    pub call-refused : not a ≡ true → o ≡ refusal bad_rounds R L N C₁ → o ≡ cdlp_call graph z R L N C
+    pub call-refused : a ≡ false → o ≡ refusal bad_rounds R L N C₁ → o ≡ cdlp_call graph z R L N C
     unfolding cdlp_call left_by
     call-refused k q = ends-refused left o (sound_graph graph) (good_rounds z) bad_rounds roomy s (check-told e) h a good k q ∙ over
 
-    module _ (k : not a ≡ false) (r : Bool) (i : r ≡ room_for size.vertices R L N C₁) where
-      pub call-short : not r ≡ true → o ≡ refusal no_room R L N C₁ → o ≡ cdlp_call graph z R L N C
+    module _ (k : a ≡ true) (r : Bool) (i : r ≡ room_for size.vertices R L N C₁) where
+      pub call-short : r ≡ false → o ≡ refusal no_room R L N C₁ → o ≡ cdlp_call graph z R L N C
       unfolding cdlp_call left_by
       call-short l q = ends-short left o (sound_graph graph) (good_rounds z) bad_rounds roomy s (check-told e) h a good k r i l q ∙ over
 
-      pub call-done : not r ≡ false → o ≡ left_by (gives tt) graph (nat_abs z') R L N C₁ → o ≡ cdlp_call graph z R L N C
+      pub call-done : r ≡ true → o ≡ left_by (gives tt) graph (nat_abs z') R L N C₁ → o ≡ cdlp_call graph z R L N C
       unfolding cdlp_call
       call-done l q =
           ends-done left o (sound_graph graph) (good_rounds z) bad_rounds roomy s (check-told e) h a good k r i l
           (q ∙ ap (λ (y : ℤ). left_by (gives tt) graph (nat_abs y) R L N C₁) same) ∙ over
 
 -- a number of rounds within the limit is a number
-pub rounds-cast : (z : ℤ) (a : Bool) → a ≡ good_rounds z → not a ≡ false → T (non_neg z) × Fits w64 (nat_abs z)
+pub rounds-cast : (z : ℤ) (a : Bool) → a ≡ good_rounds z → a ≡ true → T (non_neg z) × Fits w64 (nat_abs z)
 unfolding good_rounds
 rounds-cast (pos k) a e h =
     let l = ltb-false most_rounds k (not-true (ltb most_rounds k)

@@ -440,12 +440,12 @@ module _ (src : List ℕ) (out : ℕ → List ℕ) (cursors : List ℕ) where
         rw add-one (all-walked-on u (ap (λ (x : ArcsChecked). x.sound) k)
         ∙ ap₂ (λ (p : List ℕ) (x : ArcsChecked). arcs_walked src u p x.cursors) (sym q) k ∙ sym e)
 
-    pub all-walked-more : not t ≡ false → all_walked src out (u + 1) cursors ≡ arcs_checked true after
-    all-walked-more h = arcs-walked-to ∙ ap (λ (s : Bool). arcs_checked s after) (not-false t h)
+    pub all-walked-more : t ≡ true → all_walked src out (u + 1) cursors ≡ arcs_checked true after
+    all-walked-more h = arcs-walked-to ∙ ap (λ (s : Bool). arcs_checked s after) h
 
-    pub all-walked-stop : (n : ℕ) → u < n → not t ≡ true → arcs_checked false after ≡ all_walked src out n cursors
+    pub all-walked-stop : (n : ℕ) → u < n → t ≡ false → arcs_checked false after ≡ all_walked src out n cursors
     all-walked-stop n g h =
-        let s = arcs-walked-to ∙ ap (λ (s : Bool). arcs_checked s after) (not-true t h) in
+        let s = arcs-walked-to ∙ ap (λ (s : Bool). arcs_checked s after) h in
         let z : (u + 1) + (n - (u + 1)) ≡ n = omega arith in
         sym (ap (λ (j : ℕ). all_walked src out j cursors) (sym z) ∙ broken (u + 1) (n - (u + 1)) (ap (λ (x : ArcsChecked). x.sound) s) ∙ s)
 
@@ -511,11 +511,11 @@ module _ {n : ℕ} {out : ℕ → List ℕ} {off src : List ℕ} (s : Ways n out
         rw e (told-walk s b (walk_none s b (let x = ap length q ∙ copied-length n off d in omega arith)
         (λ w l. ap (λ (x : List ℕ). get_or x w 0) q ∙ copied_at n off d w 0 l (let x = ways-room in omega arith) room)) n (omega arith))
 
-    pub ways-stop : not t ≡ true → false ≡ both_ways n out (part_of n off src)
-    ways-stop h = sym (told.broke (not-true t h))
+    pub ways-stop : t ≡ false → false ≡ both_ways n out (part_of n off src)
+    ways-stop h = sym (told.broke h)
 
-    pub ways-told : not t ≡ false → (r : Bool) → r ≡ at_ends n off a → r ≡ both_ways n out (part_of n off src)
-    ways-told h r f = f ∙ walk_end s a (told.came (not-false t h))
+    pub ways-told : t ≡ true → (r : Bool) → r ≡ at_ends n off a → r ≡ both_ways n out (part_of n off src)
+    ways-told h r f = f ∙ walk_end s a (told.came h)
 
 -- ---- a scan of the cursors
 module _ (n : ℕ) (off cursors : List ℕ) (w : ℕ) where

@@ -234,11 +234,11 @@ module _ {n m : ℕ} {oo ot io is ow iw : List ℕ} (b : Beside n m oo ot io is 
         found-is : t ≡ has_leg u (get_or W i 0) (legs_of n io is iw (get_or M i 0))
         found-is = g ∙ ap₂ (λ a b. has_leg u (get_or W i 0) (legs a b)) e f
 
-        pub found-more : not t ≡ false → every i (answered_at (legs_of n io is iw) u M W) ≡ true
+        pub found-more : t ≡ true → every i (answered_at (legs_of n io is iw) u M W) ≡ true
             → every (i + 1) (answered_at (legs_of n io is iw) u M W) ≡ true
         found-more h k = every_more (answered_at (legs_of n io is iw) u M W) i k (held t _ found-is h)
 
-        pub found-stop : i < length M → not t ≡ true → false ≡ legs_answered (legs_of n io is iw) u (legs_of n oo ot ow u)
+        pub found-stop : i < length M → t ≡ false → false ≡ legs_answered (legs_of n io is iw) u (legs_of n oo ot ow u)
         found-stop l h =
             sym (answered-fail (legs_of n io is iw) u M W found-long i l (failed t _ found-is h))
             ∙ ap₂ (λ a b. legs_answered (legs_of n io is iw) u (legs a b)) p q
@@ -253,12 +253,12 @@ module _ {n m : ℕ} {oo ot io is ow iw : List ℕ} (b : Beside n m oo ot io is 
 
 -- ---- the arcs of every vertex
 module _ (n : ℕ) (from back : ℕ → List Leg) where
-  pub search-more : (u : ℕ) (t : Bool) → t ≡ legs_answered back u (from u) → not t ≡ false
+  pub search-more : (u : ℕ) (t : Bool) → t ≡ legs_answered back u (from u) → t ≡ true
       → every u (λ u. legs_answered back u (from u)) ≡ true
       → every (u + 1) (λ u. legs_answered back u (from u)) ≡ true
   search-more u t e h k = every_more (λ u. legs_answered back u (from u)) u k (held t (legs_answered back u (from u)) e h)
 
-  pub search-stop : (u : ℕ) (t : Bool) → u < n → t ≡ legs_answered back u (from u) → not t ≡ true → false ≡ legs_mirrored n from back
+  pub search-stop : (u : ℕ) (t : Bool) → u < n → t ≡ legs_answered back u (from u) → t ≡ false → false ≡ legs_mirrored n from back
   unfolding legs_mirrored
   search-stop u t l e h = sym (every-fail (λ u. legs_answered back u (from u)) n u l (failed t (legs_answered back u (from u)) e h))
 
@@ -515,13 +515,13 @@ module _ (size : Size) (ids : List ℤ) (oo ot io is ow iw : List ℕ) where
     weights-short-back h = rw (le-leb size.arcs (length ow) a, lt-leb size.arcs (length iw) h)
 
     module _ (b : size.arcs ≤ length iw) (t : Bool) (e : t ≡ all_light size.arcs ow) where
-      pub weights-heavy : not t ≡ true → false ≡ sound_weights lit
+      pub weights-heavy : t ≡ false → false ≡ sound_weights lit
       unfolding sound_weights
       weights-heavy h =
           rw (le-leb size.arcs (length ow) a, le-leb size.arcs (length iw) b, failed t (all_light size.arcs ow) e h)
 
-      module _ (f : not t ≡ false) (r : Bool) (g : r ≡ all_light size.arcs iw) where
-        pub weights-heavy-back : not r ≡ true → false ≡ sound_weights lit
+      module _ (f : t ≡ true) (r : Bool) (g : r ≡ all_light size.arcs iw) where
+        pub weights-heavy-back : r ≡ false → false ≡ sound_weights lit
         unfolding sound_weights
         weights-heavy-back h =
             rw (
@@ -531,7 +531,7 @@ module _ (size : Size) (ids : List ℤ) (oo ot io is ow iw : List ℕ) where
               failed r (all_light size.arcs iw) g h,
             )
 
-        pub weights-told : not r ≡ false → (x : Bool)
+        pub weights-told : r ≡ true → (x : Bool)
             → x ≡ legs_mirrored size.vertices (legs_of size.vertices oo ot ow) (legs_of size.vertices io is iw) → x ≡ sound_weights lit
         unfolding sound_weights
         weights-told h x q =
@@ -545,20 +545,20 @@ module _ (size : Size) (ids : List ℤ) (oo ot io is ow iw : List ℕ) where
 -- ---- the whole check: s is what the check of the graph answered, which left zeros in the area
 module _ (g : Graph) (weighted : Bool) (ow iw d e : List ℕ) (s : Bool) (told : arcs_checked s e ≡ arcs_checked (sound_graph g)
     (cleared d)) where
-  checked-graph : not s ≡ false → sound_graph g ≡ true
+  checked-graph : s ≡ true → sound_graph g ≡ true
   checked-graph h = held s (sound_graph g) (check-told told) h
 
-  pub checked-unsound : not s ≡ true → arcs_checked false e ≡ arcs_checked (sound_weighted (weighing g weighted ow iw)) (cleared d)
+  pub checked-unsound : s ≡ false → arcs_checked false e ≡ arcs_checked (sound_weighted (weighing g weighted ow iw)) (cleared d)
   unfolding sound_weighted
   checked-unsound h = rw (failed s (sound_graph g) (check-told told) h, check-area told)
 
-  module _ (h : not s ≡ false) (t : Bool) (f : t ≡ counts_weighted weighted g.arcs) where
-    pub checked-plain : not t ≡ true → arcs_checked true e ≡ arcs_checked (sound_weighted (weighing g weighted ow iw)) (cleared d)
+  module _ (h : s ≡ true) (t : Bool) (f : t ≡ counts_weighted weighted g.arcs) where
+    pub checked-plain : t ≡ false → arcs_checked true e ≡ arcs_checked (sound_weighted (weighing g weighted ow iw)) (cleared d)
     unfolding sound_weighted
     checked-plain k = rw (checked-graph h, failed t (counts_weighted weighted g.arcs) f k, check-area told)
 
     -- r is what the check of the weights answered, x what it left in the area, y what stands there once that is cleared
-    pub checked-weights : not t ≡ false → (r : Bool) (x y : List ℕ) → r ≡ sound_weights (weighing g true ow iw) → length x ≡ length e
+    pub checked-weights : t ≡ true → (r : Bool) (x y : List ℕ) → r ≡ sound_weights (weighing g true ow iw) → length x ≡ length e
         → y ≡ cleared x → arcs_checked r y ≡ arcs_checked (sound_weighted (weighing g weighted ow iw)) (cleared d)
     unfolding sound_weighted sound_weights
     checked-weights k r x y q l c =

@@ -9,7 +9,7 @@ pub mod walk;
 pub mod weights;
 
 // How many vertices and arcs a lent graph is said to have.
-#[derive(Drop)]
+#[derive(Clone, Copy)]
 pub struct Size {
     pub vertices: usize,
     pub arcs: usize,

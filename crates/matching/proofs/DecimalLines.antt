@@ -234,13 +234,13 @@ module _ (most : ℕ) (ids : List ℤ) (nums dens s : List ℕ) where
     wide : length before ≡ length lines
     wide = ap length c ∙ length-replicate (length lines) 0
 
-    pub coefficients-short : not t ≡ true → (r : Refusal) → r ≡ plain no_room
+    pub coefficients-short : t ≡ false → (r : Refusal) → r ≡ plain no_room
         → told (refuses r) before ≡ coefficients_call most ids nums dens s lines
     unfolding coefficients_call
     coefficients-short f r q = let k : room_in_three (length ids) (length nums) (length dens) (length lines) ≡ false
         = ap (room_in_three (length ids) (length nums) (length dens)) (sym wide) ∙ failed t _ e f in rw (k, q, c)
 
-    pub coefficients-done : not t ≡ false → (left : List ℕ) (j : Judged) → JudgedOf most ids nums dens s (length before) left (says j)
+    pub coefficients-done : t ≡ true → (left : List ℕ) (j : Judged) → JudgedOf most ids nums dens s (length before) left (says j)
         → (end : List ℕ) → end ≡ cleared left → told (says j) end ≡ coefficients_call most ids nums dens s lines
     unfolding coefficients_call
     coefficients-done f left j h end q =

@@ -112,7 +112,7 @@ module _ (n first second third : ℕ) where
   room-all p q = rw (q, p, leb-min n first (min second third), leb-min n second third)
 
   -- what the answer t of all tests says
-  module _ {t : Bool} (e : t ≡ room_in_three n first second third) (f : not t ≡ false) where
+  module _ {t : Bool} (e : t ≡ room_in_three n first second third) (f : t ≡ true) where
     pub room-first : n ≤ first
     room-first = leb-true n first (and_first (leb n first) _ (held t _ e f))
 

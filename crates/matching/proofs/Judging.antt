@@ -95,7 +95,7 @@ fault-inside rule a b lines h m q = let l = mismatch-bound rule a b h.0 in omega
 
 -- ---- what was read, where there was room in areas of these sizes
 module _ (most : ℕ) (ids reference : List ℤ) (s : List ℕ) (size width : ℕ) {t : Bool}
-    (e : t ≡ room_in_three (length ids) (length reference) size width) (f : not t ≡ false) (mid : List ℤ) (record' : List ℕ) (read : Read)
+    (e : t ≡ room_in_three (length ids) (length reference) size width) (f : t ≡ true) (mid : List ℤ) (record' : List ℕ) (read : Read)
     (h : ReadOf most ids s size width mid record' read) where
   pub judge-kept : length ids ≤ length mid
   judge-kept = omega (arith, room-second (length ids) (length reference) size width e f, h.kept)
@@ -119,12 +119,12 @@ module _ (rule : Rule) (most : ℕ) (ids reference : List ℤ) (s : List ℕ) (c
       ≡ room_in_three (length ids) (length reference) (length claimed) (length before)
   rooms = ap (room_in_three (length ids) (length reference) (length claimed)) (sym wide)
 
-  pub judge-short : not t ≡ true → (r : Refusal) → r ≡ plain no_room → (left : List ℤ) → left ≡ cleared_z claimed
+  pub judge-short : t ≡ false → (r : Refusal) → r ≡ plain no_room → (left : List ℤ) → left ≡ cleared_z claimed
       → outcome (refuses r) left before ≡ numbers_call rule most ids reference s claimed lines
   unfolding numbers_call
   judge-short f r q left g = rw (rooms ∙ failed t _ e f, q, g, c)
 
-  read_as : not t ≡ false → (mid : List ℤ) (record' : List ℕ) (read : Read)
+  read_as : t ≡ true → (mid : List ℤ) (record' : List ℕ) (read : Read)
       → ReadOf most ids s (length claimed) (length before) mid record' read
       → read_judged rule (take (length ids) reference) (take (length ids) mid) record' read
       ≡ judged_by (bisected ids) (length ids) (pos 0) (mismatch_vertex rule (take (length ids) reference)) (number_lines most s)
@@ -148,7 +148,7 @@ module _ (rule : Rule) (most : ℕ) (ids reference : List ℤ) (s : List ℕ) (c
           (omega (arith, mismatch-bound rule (take (length ids) reference) (take (length ids) mid) long))))
       by (suc i) p v = rw (← p)
 
-  pub judge-done : not t ≡ false → (mid : List ℤ) (record' : List ℕ) (read : Read)
+  pub judge-done : t ≡ true → (mid : List ℤ) (record' : List ℕ) (read : Read)
       → ReadOf most ids s (length claimed) (length before) mid record' read
       → (j : Judged) → says j ≡ read_judged rule (take (length ids) reference) (take (length ids) mid) record' read
       → (left : List ℤ) → left ≡ cleared_z mid → (end : List ℕ) → end ≡ cleared record'

@@ -23,11 +23,11 @@ module _ (a b : List ℤ) (e : length a ≡ length b) (i : ℕ) (h : unequal_ver
     test : t ≡ same_z (get_or a i (pos 0)) (get_or b i (pos 0))
     test = s ∙ ap₂ same_z p q
 
-    pub unequal-here : not t ≡ true → i + 1 ≡ unequal_vertex a b
-    unequal-here f = sym (h ∙ first-here same_z (pos 0) (pos 0) a b e i l (sym test ∙ not-true t f))
+    pub unequal-here : t ≡ false → i + 1 ≡ unequal_vertex a b
+    unequal-here f = sym (h ∙ first-here same_z (pos 0) (pos 0) a b e i l (sym test ∙ f))
 
-    pub unequal-later : not t ≡ false → unequal_vertex a b ≡ first_place same_z (i + 1 + 1) (drop (i + 1) a) (drop (i + 1) b)
-    unequal-later f = h ∙ first-later same_z (pos 0) (pos 0) a b e i l (sym test ∙ not-false t f)
+    pub unequal-later : t ≡ true → unequal_vertex a b ≡ first_place same_z (i + 1 + 1) (drop (i + 1) a) (drop (i + 1) b)
+    unequal-later f = h ∙ first-later same_z (pos 0) (pos 0) a b e i l (sym test ∙ f)
 
 -- ---- four numbers that went through the machine's bits: s and t are the tests of the first two and of the last two
 module _ (x y v w : ℤ) {x' y' v' w' : ℤ} (p : x' ≡ x) (q : y' ≡ y) (m : v' ≡ v) (n : w' ≡ w) {s t : Bool} (f : s ≡ same_z x' y')

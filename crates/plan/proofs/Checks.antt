@@ -121,13 +121,13 @@ module _ (s : List ℕ) (limit at : ℕ) where
         ∙ count-scanned
 
     module _ (n p : ℕ) (e : x ≡ T.Value n p) (t : Bool) (f : t ≡ has_at s p lf) where
-      pub count-open : not t ≡ true → (r : Refusal) → r ≡ sheet_fault s at bad_form → refuses r ≡ count_line limit s at
+      pub count-open : t ≡ false → (r : Refusal) → r ≡ sheet_fault s at bad_form → refuses r ≡ count_line limit s at
       count-open g r k = ap refuses k ∙ rw (failed t _ f g) at (count-value n p e)
 
-      pub count-over : not t ≡ false → limit < n → (r : Refusal) → r ≡ sheet_fault s at too_many → refuses r ≡ count_line limit s at
+      pub count-over : t ≡ true → limit < n → (r : Refusal) → r ≡ sheet_fault s at too_many → refuses r ≡ count_line limit s at
       count-over g l r k = ap refuses k ∙ rw (held t _ f g, lt-leb n limit l) at (count-value n p e)
 
-      pub count-good : not t ≡ false → n ≤ limit → gives (n, p + 1) ≡ count_line limit s at
+      pub count-good : t ≡ true → n ≤ limit → gives (n, p + 1) ≡ count_line limit s at
       count-good g l = rw (held t _ f g, le-leb n limit l) at (count-value n p e)
 
 -- ---- past a line

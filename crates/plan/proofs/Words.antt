@@ -30,17 +30,17 @@ module _ (s w : List ℕ) (p i : ℕ) (x : Bool) (inv : begins (drop i w) (drop 
   begins-step h =
       sym (begins-has s p (get_or w i 0) (drop (i + 1) w)) ∙ ap (λ l. begins l (drop p s)) (rw add-one (sym (drop-cons w i 0 h))) ∙ inv
 
-  pub begins-not : (t : Bool) → i < length w → t ≡ has_at s p (get_or w i 0) → not t ≡ true → false ≡ x
+  pub begins-not : (t : Bool) → i < length w → t ≡ has_at s p (get_or w i 0) → t ≡ false → false ≡ x
   begins-not t h e n = rw (failed t _ e n) at (begins-step h)
 
-  pub begins-more : (t : Bool) → i < length w → t ≡ has_at s p (get_or w i 0) → not t ≡ false → begins (drop (i + 1) w) (drop (p + 1) s) ≡ x
+  pub begins-more : (t : Bool) → i < length w → t ≡ has_at s p (get_or w i 0) → t ≡ true → begins (drop (i + 1) w) (drop (p + 1) s) ≡ x
   begins-more t h e n = rw (held t _ e n) at (begins-step h)
 
   pub begins-end : length w ≤ i → true ≡ x
   unfolding begins
   begins-end h = rw (drop_of_length-le w h) at inv
 
-pub has_in : (s : List ℕ) (p b : ℕ) (t : Bool) → t ≡ has_at s p b → not t ≡ false → p < length s
+pub has_in : (s : List ℕ) (p b : ℕ) (t : Bool) → t ≡ has_at s p b → t ≡ true → p < length s
 has_in s p b t e n = has-below s p b (held t _ e n)
 
 -- ---- what a list that begins with a word is

@@ -183,19 +183,19 @@ module _ (size : Size) (weighted : Bool) (ids : List ℤ) (oo ot io is ow iw : L
   over : sssp_call graph root D S W T₁ ≡ sssp_call graph root D S W T
   over = call-over graph root D S W T T₁ (check-area e)
 
-  pub call-unsound : not s ≡ true → o ≡ refusal unsound D S W T₁ → o ≡ sssp_call graph root D S W T
+  pub call-unsound : s ≡ false → o ≡ refusal unsound D S W T₁ → o ≡ sssp_call graph root D S W T
   unfolding sssp_call sssp_says left_by
   call-unsound h q = rw (failed s (sound_weighted graph) (check-told e) h) q ∙ over
 
-  module _ (h : not s ≡ false) (t : Bool) (f : t ≡ counts_weighted weighted size.arcs) where
+  module _ (h : s ≡ true) (t : Bool) (f : t ≡ counts_weighted weighted size.arcs) where
     sound : sound_weighted graph ≡ true
     sound = held s (sound_weighted graph) (check-told e) h
 
-    pub call-plain : not t ≡ true → o ≡ refusal unweighted D S W T₁ → o ≡ sssp_call graph root D S W T
+    pub call-plain : t ≡ false → o ≡ refusal unweighted D S W T₁ → o ≡ sssp_call graph root D S W T
     unfolding sssp_call sssp_says left_by
     call-plain k q = rw (sound, failed t (counts_weighted weighted size.arcs) f k) q ∙ over
 
-    module _ (k : not t ≡ false) (z : ℤ) (same : z ≡ root) (x : Found) (b : Searched (names graph.graph) z x) where
+    module _ (k : t ≡ true) (z : ℤ) (same : z ≡ root) (x : Found) (b : Searched (names graph.graph) z x) where
       weights : is_weighted graph ≡ true
       weights = held t (counts_weighted weighted size.arcs) f k
 
@@ -210,21 +210,21 @@ module _ (size : Size) (weighted : Bool) (ids : List ℤ) (oo ot io is ow iw : L
       call-missing a q = rw (sound, weights, found ∙ a) q ∙ over
 
       module _ (v : ℕ) (a : x ≡ At v) (r : Bool) (i : r ≡ room_for size.vertices D S W T₁) where
-        pub call-short : not r ≡ true → o ≡ refusal no_room D S W T₁ → o ≡ sssp_call graph root D S W T
+        pub call-short : r ≡ false → o ≡ refusal no_room D S W T₁ → o ≡ sssp_call graph root D S W T
         unfolding sssp_call sssp_says left_by
         call-short l q = rw (sound, weights, found ∙ a, failed r (room_for size.vertices D S W T₁) i l) q ∙ over
 
-        pub call-done : not r ≡ false → o ≡ left_by (gives tt) (weighing (lent size ids oo ot io is) true ow iw) (At v) D S W T₁
+        pub call-done : r ≡ true → o ≡ left_by (gives tt) (weighing (lent size ids oo ot io is) true ow iw) (At v) D S W T₁
             → o ≡ sssp_call graph root D S W T
         unfolding sssp_call sssp_says left_by
         call-done l q = rw (sound, weights, found ∙ a, held r (room_for size.vertices D S W T₁) i l) q ∙ over
 
 -- and with weights, a root that is there and room, the areas can be filled
 pub call-ready : (size : Size) (weighted : Bool) (ids : List ℤ) (oo ot io is ow iw : List ℕ) (root : ℤ) (D : List ℤ) (S W T : List ℕ)
-    (s : Bool) → s ≡ sound_weighted (weighing (lent size ids oo ot io is) weighted ow iw) → not s ≡ false
-    → (t : Bool) → t ≡ counts_weighted weighted size.arcs → not t ≡ false → (f : Found) → Searched (names (lent size ids oo ot io is))
+    (s : Bool) → s ≡ sound_weighted (weighing (lent size ids oo ot io is) weighted ow iw) → s ≡ true
+    → (t : Bool) → t ≡ counts_weighted weighted size.arcs → t ≡ true → (f : Found) → Searched (names (lent size ids oo ot io is))
     root f
-    → (v : ℕ) → f ≡ At v → (r : Bool) → r ≡ room_for size.vertices D S W T → not r ≡ false
+    → (v : ℕ) → f ≡ At v → (r : Bool) → r ≡ room_for size.vertices D S W T → r ≡ true
     → Ready (weighing (lent size ids oo ot io is) true ow iw) v D S W T
 call-ready size weighted ids oo ot io is ow iw root D S W T s e h t k j f b v a r i l =
     let g = weighing (lent size ids oo ot io is) weighted ow iw in

@@ -24,7 +24,7 @@ use Rattle.text.specs.Weight.{IsWeight}
 use Rattle.text.specs.Weighed.{weight_form, weighed_form, plain_form, weighed_line, listed_line, is_bad_form, has_weights}
 use Rattle.text.specs.Column.{PlainEdge, WeighedEdge, EdgeBy, AnyEdge, FirstLine}
 use Rattle.text.specs.Column.{Formed, IsDecimal, IsDistanceWord, TwoWords, GoodLine, CanGoOn, file_end, whole_line, Column}
-use Rattle.text.specs.Column.{TellsColumn, Columns}
+use Rattle.text.specs.Column.{TellsColumn, Columns, WeighedColumns}
 use Rattle.text.specs.Distance.{distance_form}
 use Rattle.text.proofs.Bytes.{up_to-none, mem-left, mem-cut, not-tail}
 use Rattle.text.proofs.Breaks.{RightStop, ident-right, decimal-formed, decimal-right, two-words, words-two, pair-right, edge-right}
@@ -366,6 +366,11 @@ columns =
       coefficient =
           tells (pair_form decimal_form) (pair-right decimal_form decimal-right) (TwoWords (Formed ident_of) IsDecimal)
           (two_formed decimal_form decimal-right IsDecimal decimal-formed);
+    }
+
+pub weighed_columns : WeighedColumns
+weighed_columns =
+    record {
       weighed = weighed-tells;
       listed = listed-tells;
       distance =

@@ -106,16 +106,16 @@ no_sign g k e = by (eqb g 43) (eqb g 45) e
 
 -- ---- two digits x and y after the sign g
 module _ (s : List ℕ) (at g x : ℕ) (X : x ≡ get_or s at 0) (t : Bool) (T : t ≡ is_digit x) where
-  pub digits-first : not t ≡ true → P.Wrong at ≡ power_word (digits_power s at g) (digits_stop s at)
+  pub digits-first : t ≡ false → P.Wrong at ≡ power_word (digits_power s at g) (digits_stop s at)
   unfolding digits_power digits_stop
   digits-first q = rw (← X, failed t (is_digit x) T q, and-off (eqb (length s) (at + 2)) false refl)
 
-  module _ (q : not t ≡ false) (y : ℕ) (Y : y ≡ get_or s (at + 1) 0) (u : Bool) (U : u ≡ is_digit y) where
-    pub digits-second : not u ≡ true → P.Wrong (at + 1) ≡ power_word (digits_power s at g) (digits_stop s at)
+  module _ (q : t ≡ true) (y : ℕ) (Y : y ≡ get_or s (at + 1) 0) (u : Bool) (U : u ≡ is_digit y) where
+    pub digits-second : u ≡ false → P.Wrong (at + 1) ≡ power_word (digits_power s at g) (digits_stop s at)
     unfolding digits_power digits_stop
     digits-second p = rw (← X, held t (is_digit x) T q, ← Y, failed u (is_digit y) U p, and-off (eqb (length s) (at + 2)) false refl)
 
-    module _ (p : not u ≡ false) where
+    module _ (p : u ≡ true) where
       pub digits_long : (length s ≡ at + 2 → ⊥) → P.Wrong (at + 2) ≡ power_word (digits_power s at g) (digits_stop s at)
       unfolding digits_power digits_stop
       digits_long n = rw (← X, held t (is_digit x) T q, ← Y, held u (is_digit y) U p, ne_eqb (length s) (at + 2) n)
@@ -150,7 +150,7 @@ module _ (s : List ℕ) (at : ℕ) where
     power-letter k = rw (ne_eqb (length s) at n, ← B, ne_eqb b 101 k, and-off (eqb (length s) (at + 4)) false refl)
 
     module _ (k : b ≡ 101) (g : ℕ) (G : g ≡ get_or s (at + 1) 0) (t : Bool) (T : t ≡ is_sign g) where
-      pub power-sign : not t ≡ true → P.Wrong (at + 1) ≡ power_word (power_at s at) (power_stop s at)
+      pub power-sign : t ≡ false → P.Wrong (at + 1) ≡ power_word (power_at s at) (power_stop s at)
       unfolding power_at power_stop
       power-sign q =
           let w = failed t (is_sign g) T q in
@@ -164,7 +164,7 @@ module _ (s : List ℕ) (at : ℕ) where
             either_way,
           )
 
-      pub power-signed : not t ≡ false → (r : Power) → r ≡ power_word (digits_power s (at + 2) g) (digits_stop s (at + 2))
+      pub power-signed : t ≡ true → (r : Power) → r ≡ power_word (digits_power s (at + 2) g) (digits_stop s (at + 2))
           → r ≡ power_word (power_at s at) (power_stop s at)
       unfolding power_at power_stop digits_power
       power-signed q r h =
@@ -190,11 +190,11 @@ module _ (s : List ℕ) (w p f n : ℕ) where
   parts_none e = rw (eq-eqb w 0 e, ← whole-none s w (λ q. omega arith) (omega arith))
 
   module _ (z : w ≡ 0 → ⊥) (t : Bool) (h : t ≡ whole_is_good s w) where
-    pub parts_whole : not t ≡ true → scanned malformed 1 ≡ scanned (parts_of s w p f n) (parts_stop s w p f)
+    pub parts_whole : t ≡ false → scanned malformed 1 ≡ scanned (parts_of s w p f n) (parts_stop s w p f)
     unfolding parts_of parts_stop
     parts_whole e = rw (ne_eqb w 0 z, failed t (whole_is_good s w) h e)
 
-    module _ (e : not t ≡ false) where
+    module _ (e : t ≡ true) where
       pub parts-long : digit_limit < p → scanned malformed digit_limit ≡ scanned (parts_of s w p f n) (parts_stop s w p f)
       unfolding parts_of parts_stop
       parts-long l = rw (ne_eqb w 0 z, held t (whole_is_good s w) h e, lt-ltb digit_limit p l, too_long)

@@ -57,10 +57,10 @@ module _ (s w : List ℕ) (p i x : ℕ) (inv : i + shared_front (drop i w) (drop
       (sym (shared_has s p (get_or w i 0) (drop (i + 1) w)) ∙ ap (λ l. shared_front l (drop p s)) (rw add-one (sym (drop-cons w i 0 h))))
       ∙ inv
 
-  pub shared-not : (t : Bool) → i < length w → t ≡ has_at s p (get_or w i 0) → not t ≡ true → i ≡ x
+  pub shared-not : (t : Bool) → i < length w → t ≡ has_at s p (get_or w i 0) → t ≡ false → i ≡ x
   shared-not t h e n = let z = rw (failed t _ e n) at (shared_step h) in omega (arith, z)
 
-  pub shared-more : (t : Bool) → i < length w → t ≡ has_at s p (get_or w i 0) → not t ≡ false
+  pub shared-more : (t : Bool) → i < length w → t ≡ has_at s p (get_or w i 0) → t ≡ true
       → (i + 1) + shared_front (drop (i + 1) w) (drop (p + 1) s) ≡ x
   shared-more t h e n = let z = rw (held t _ e n) at (shared_step h) in omega (arith, z)
 
@@ -68,7 +68,7 @@ module _ (s w : List ℕ) (p i x : ℕ) (inv : i + shared_front (drop i w) (drop
   unfolding shared_front
   shared-end h = let z = rw (drop_of_length-le w h) at inv in omega (arith, z)
 
-pub shared-in : (s : List ℕ) (p b : ℕ) (t : Bool) → t ≡ has_at s p b → not t ≡ false → p < length s
+pub shared-in : (s : List ℕ) (p b : ℕ) (t : Bool) → t ≡ has_at s p b → t ≡ true → p < length s
 shared-in s p b t e n = has-below s p b (held t _ e n)
 
 -- ---- the first byte of a line's rest, and what is scanned of it
@@ -118,10 +118,10 @@ module _ (s : List ℕ) (at : ℕ) (i : has_at s at infinity_mark ≡ true) (n :
       )
 
   module _ (h : 8 ≤ n) (t : Bool) (f : t ≡ has_at s (at + n) lf) where
-    pub infinity-open : not t ≡ true → scanned malformed (at + n) ≡ distance_at s at
+    pub infinity-open : t ≡ false → scanned malformed (at + n) ≡ distance_at s at
     infinity-open k = rw whole_is (closed-off s lf (at + n) (distance_of (line_from s at)) (failed t _ f k))
 
-    pub infinity-whole : not t ≡ false → scanned (value D.Infinity) (at + n + 1) ≡ distance_at s at
+    pub infinity-whole : t ≡ true → scanned (value D.Infinity) (at + n + 1) ≡ distance_at s at
     unfolding mem distance_of same_bytes
     infinity-whole k =
         let g : has_at s (at + n) lf ≡ true = held t _ f k in

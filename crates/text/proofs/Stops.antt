@@ -39,7 +39,7 @@ sign-in s at e =
     (λ h. clash e (ap is_sign (nothing-past s at (ltb-false at (length s) h))))
 
 -- past a sign g
-pub sign-on : (s : List ℕ) (at g : ℕ) (t : Bool) → g ≡ get_or s (at + 1) 0 → t ≡ is_sign g → not t ≡ false → at + 2 ≤ length s
+pub sign-on : (s : List ℕ) (at g : ℕ) (t : Bool) → g ≡ get_or s (at + 1) 0 → t ≡ is_sign g → t ≡ true → at + 2 ≤ length s
 sign-on s at g t e f h = omega (arith, sign-in s (at + 1) (ap is_sign (sym e) ∙ held t (is_sign g) f h))
 
 -- ---- never past the end
@@ -127,7 +127,7 @@ module _ (s : List ℕ) (n f : ℕ) where
   scaled-says stop k wrong h = refl
 
   -- the last way out of the parts: with their power
-  module _ (w p : ℕ) (z : w ≡ 0 → ⊥) (t : Bool) (h : t ≡ whole_is_good s w) (e : not t ≡ false) (l : p ≤ digit_limit) (k : p ≤ w + f)
+  module _ (w p : ℕ) (z : w ≡ 0 → ⊥) (t : Bool) (h : t ≡ whole_is_good s w) (e : t ≡ true) (l : p ≤ digit_limit) (k : p ≤ w + f)
       (m : w + f ≤ digit_limit) where
     pub parts-good : (y : Power) → y ≡ power_word (power_at s (p + f)) (power_stop s (p + f)) → (r : DecimalWord) → r ≡ scaled_word n f y
         → decimal_says (length s) r ≡ scanned (parts_of s w p f n) (parts_stop s w p f)

@@ -78,13 +78,15 @@ EdgeBy false = PlainEdge
 abbrev pub AnyEdge : List ℕ → Type 0
 AnyEdge w = PlainEdge w ⊎ WeighedEdge w
 
--- "The line reader must answer the column": of a vertex line, of an edge line, of a claim line with a number, of one with a decimal, of an
--- edge line with a weight, of those of a file with weights or without, of a claim line with a distance
+-- "The line reader must answer the column": of a vertex line, of an edge line, of a claim line with a number, of one with a decimal
 pub record Columns : Type 0 where
   pub vertex : TellsColumn (Formed ident_of) vertex_line
-  pub edge : TellsColumn PlainEdge edge_line
-  pub claim : TellsColumn PlainEdge claim_line
+  pub edge : TellsColumn (TwoWords (Formed ident_of) (Formed ident_of)) edge_line
+  pub claim : TellsColumn (TwoWords (Formed ident_of) (Formed ident_of)) claim_line
   pub coefficient : TellsColumn (TwoWords (Formed ident_of) IsDecimal) coefficient_line
+
+-- the same of an edge line with a weight, of those of a file with weights or without, of a claim line with a distance
+pub record WeighedColumns : Type 0 where
   pub weighed : TellsColumn WeighedEdge weighed_line
   pub listed : (weighted : Bool) → TellsColumn (EdgeBy weighted) (listed_line weighted)
   pub distance : TellsColumn (TwoWords (Formed ident_of) IsDistanceWord) distance_line

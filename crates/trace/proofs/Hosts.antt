@@ -189,12 +189,12 @@ module _ (vertices edges claim : List ℕ) (mode kernel : ℕ) (parameter : ℤ)
 
 -- ---- each return of the call
 module _ (vertices edges claim : List ℕ) (mode kernel : ℕ) (parameter : ℤ) (t : Bool) (p : t ≡ is_known mode kernel) where
-  pub host-unknown : not t ≡ true → (r : Refusal) → r ≡ plain unknown_number → (k : ℕ) → k ≡ host_code r
+  pub host-unknown : t ≡ false → (r : Refusal) → r ≡ plain unknown_number → (k : ℕ) → k ≡ host_code r
       → k ≡ host_verdict vertices edges claim mode kernel parameter
   unfolding host_verdict host_says
   host-unknown h r e k f = rw (f, e, failed t (is_known mode kernel) p h)
 
-  module _ (h : not t ≡ false) (a : Loaded) (ids : List ℤ) (oo ot io is : List ℕ)
+  module _ (h : t ≡ true) (a : Loaded) (ids : List ℤ) (oo ot io is : List ℕ)
       (e : outcome (says a) ids oo ot io is ≡ load_call desk mode desk_room vertices edges) where
     answered : says a ≡ mapped size_of (loaded desk mode desk_room vertices edges)
     unfolding load_call outcome_of

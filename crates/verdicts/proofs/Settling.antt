@@ -33,10 +33,10 @@ module _ {A : Type 0} (x : Said Verdict) (z : A) (l : List A) {t : Bool} (e : t 
   goes (gives v) h = clash h refl
   goes (refuses r) h = refl
 
-  pub area-stays : not t ≡ true → l ≡ unless_refused x z l
+  pub area-stays : t ≡ false → l ≡ unless_refused x z l
   area-stays h = stays x (failed t (is_refused x) e h)
 
-  pub area-goes : not t ≡ false → {left : List A} → left ≡ replicate (length l) z → left ≡ unless_refused x z l
+  pub area-goes : t ≡ true → {left : List A} → left ≡ replicate (length l) z → left ≡ unless_refused x z l
   area-goes h q = q ∙ goes x (held t (is_refused x) e h)
 
 pub all-numbers : {x y : Said Verdict} {a b c d : List ℤ} {e f : List ℕ} → x ≡ y → a ≡ b → c ≡ d → e ≡ f → numbers x a c e ≡ numbers y b d f
@@ -57,20 +57,20 @@ module _ (answer : Answer) (room : Bool) (rule : Rule) (most n : ℕ) (ids : Lis
   numbers-refused r e q = rw e q
 
   module _ (e : answer ≡ A.Done) where
-    pub numbers-short : not room ≡ true → (r : Refusal) → r ≡ plain no_room → {x : Numbers}
+    pub numbers-short : room ≡ false → (r : Refusal) → r ≡ plain no_room → {x : Numbers}
         → x ≡ numbers (refuses r) (cleared_z R) (cleared_z C) (cleared L)
         → x ≡ numbers_on (answers answer) room rule most n ids s R C L
     unfolding numbers_on numbers_says
-    numbers-short h r p q = rw (e, not-true room h) (q ∙ ap (λ (y : Refusal). numbers (refuses y) (cleared_z R) (cleared_z C) (cleared L)) p)
+    numbers-short h r p q = rw (e, h) (q ∙ ap (λ (y : Refusal). numbers (refuses y) (cleared_z R) (cleared_z C) (cleared L)) p)
 
     module _ (known : Known (answers answer) n (length ids)) where
-      pub numbers-done : not room ≡ false → Roomy room n (length R) × Roomy room n (length C) × Roomy room n (length L)
+      pub numbers-done : room ≡ true → Roomy room n (length R) × Roomy room n (length C) × Roomy room n (length L)
           → (j : Judged) (C' : List ℤ) (L' : List ℕ) → calls.outcome (says j) C' L' ≡ calls.numbers_call rule most (take n ids) R s C L
           → (i : Judged) (R' : List ℤ) → (i ≡ j) × (R' ≡ unless_refused (says j) (pos 0) R)
           → numbers (says i) R' C' L' ≡ numbers_on (answers answer) room rule most n ids s R C L
       unfolding numbers_on numbers_says calls.numbers_call
       numbers-done h roomy j C' L' q i R' p =
-          let t = not-false room h in
+          let t = h in
           let l = length-take-le n ids (known-ids answer n (length ids) e known) in
           let f : says j ≡ judged_by (bisected (take n ids)) (length (take n ids)) (pos 0) (mismatch_vertex rule (take n R))
           (number_lines most s) =
@@ -87,20 +87,20 @@ module _ (answer : Answer) (room : Bool) (most n : ℕ) (ids : List ℤ) (s F S 
   terms-refused r e q = rw e q
 
   module _ (e : answer ≡ A.Done) where
-    pub terms-short : not room ≡ true → (r : Refusal) → r ≡ plain no_room → {x : Terms}
+    pub terms-short : room ≡ false → (r : Refusal) → r ≡ plain no_room → {x : Terms}
         → x ≡ terms (refuses r) (cleared F) (cleared S) (cleared L)
         → x ≡ terms_on (answers answer) room most n ids s F S L
     unfolding terms_on terms_says
-    terms-short h r p q = rw (e, not-true room h) (q ∙ ap (λ (y : Refusal). terms (refuses y) (cleared F) (cleared S) (cleared L)) p)
+    terms-short h r p q = rw (e, h) (q ∙ ap (λ (y : Refusal). terms (refuses y) (cleared F) (cleared S) (cleared L)) p)
 
     module _ (known : Known (answers answer) n (length ids)) where
-      pub terms-done : not room ≡ false → Roomy room n (length F) × Roomy room n (length S) × Roomy room n (length L)
+      pub terms-done : room ≡ true → Roomy room n (length F) × Roomy room n (length S) × Roomy room n (length L)
           → (j : Judged) (L' : List ℕ) → calls.told (says j) L' ≡ calls.coefficients_call most (take n ids) F S s L
           → (i : Judged) (F' S' : List ℕ) → (i ≡ j) × (F' ≡ unless_refused (says j) 0 F) × (S' ≡ unless_refused (says j) 0 S)
           → terms (says i) F' S' L' ≡ terms_on (answers answer) room most n ids s F S L
       unfolding terms_on terms_says calls.coefficients_call
       terms-done h roomy j L' q i F' S' p =
-          let t = not-false room h in
+          let t = h in
           let l = length-take-le n ids (known-ids answer n (length ids) e known) in
           let f : says j
           ≡ judged_by (bisected (take n ids)) (length (take n ids)) calls.no_decimal (calls.far_within (calls.fractions n F S))

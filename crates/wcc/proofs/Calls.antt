@@ -113,17 +113,17 @@ module _ (size : Size) (ids : List ℤ) (oo ot io is : List ℕ) (R : List ℤ) 
   over : wcc_call graph R H₁ ≡ wcc_call graph R H
   over = call-over graph R H H₁ (check-area e)
 
-  pub call-unsound : not s ≡ true → o ≡ refusal unsound R H₁ → o ≡ wcc_call graph R H
+  pub call-unsound : s ≡ false → o ≡ refusal unsound R H₁ → o ≡ wcc_call graph R H
   unfolding wcc_call left_by
   call-unsound h q = ends-unsound left o (sound_graph graph) true 0 (room_for size.vertices R H₁) s (check-told e) h q ∙ over
 
-  module _ (h : not s ≡ false) (r : Bool) (i : r ≡ room_for size.vertices R H₁) where
-    pub call-short : not r ≡ true → o ≡ refusal no_room R H₁ → o ≡ wcc_call graph R H
+  module _ (h : s ≡ true) (r : Bool) (i : r ≡ room_for size.vertices R H₁) where
+    pub call-short : r ≡ false → o ≡ refusal no_room R H₁ → o ≡ wcc_call graph R H
     unfolding wcc_call left_by
     call-short l q =
         ends-short left o (sound_graph graph) true 0 (room_for size.vertices R H₁) s (check-told e) h true refl refl r i l q ∙ over
 
-    pub call-done : not r ≡ false → o ≡ left_by (gives tt) graph R H₁ → o ≡ wcc_call graph R H
+    pub call-done : r ≡ true → o ≡ left_by (gives tt) graph R H₁ → o ≡ wcc_call graph R H
     unfolding wcc_call
     call-done l q =
         ends-done left o (sound_graph graph) true 0 (room_for size.vertices R H₁) s (check-told e) h true refl refl r i l q ∙ over

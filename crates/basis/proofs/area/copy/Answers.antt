@@ -1,0 +1,17 @@
+use mathlib.Core.Path.{◌≡◌}
+use Prim.Native.Nat.{◌≤◌, ◌-◌}
+use native.Mathlib.Omega.{arith}
+use borrow.Author.Rules.{rules}
+use lib.ListN.{length}
+use Rattle.basis.specs.Area.{copied}
+use Rattle.basis.proofs.Areas.{copied_none, copied_more, copied-end}
+use Rattle.basis.proofs.area.copy.Goals as goal
+
+pub loop-i-init : goal.loop-i-init
+loop-i-init c = (omega arith, search rules, search copied_none)
+
+pub loop-i-preserved : goal.loop-i-preserved
+loop-i-preserved c = (search rules, search rules, search copied_more)
+
+pub returns : goal.returns
+returns c = search copied-end

@@ -1,0 +1,25 @@
+use mathlib.Core.Path.{◌≡◌, refl, ap, ◌∙◌}
+use mathlib.Core.List.{◌++◌}
+use Prim.Native.Nat.{◌≤◌, ◌-◌}
+use native.Mathlib.Omega.{arith}
+use borrow.Author.Rules.{rules}
+use mir.Syntax.{w64}
+use mir.Val.{to_z}
+use mir.Facts.{to_z-of_z}
+use lib.ListN.{length, drop, replicate, length-set}
+use Rattle.basis.specs.Area.{column}
+use Rattle.basis.proofs.Areas.{column-none, column-more, fill_end}
+use Rattle.basis.proofs.area.fill_signed.Goals as goal
+
+pub loop-i-init : goal.loop-i-init
+loop-i-init c = (omega arith, refl, column-none _ _)
+
+pub loop-i-preserved : goal.loop-i-preserved
+loop-i-preserved c =
+    let l = c.loop-i in
+    (omega arith, rw length-set l.invariant.1, column-more _ l.i _ l.area _ (omega arith) l.invariant.2 refl)
+
+pub returns : goal.returns
+returns c =
+    fill_end _ c.loop-i.i _ _ (omega arith) (omega arith) c.loop-i.invariant.2
+    ∙ ap (replicate (length c.args.area.now)) (to_z-of_z c.ranges.value)

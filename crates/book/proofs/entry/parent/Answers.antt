@@ -1,0 +1,9 @@
+use Rattle.book.proofs.Entries.{parent-cast, parent_is}
+use borrow.Author.Rules.{rules}
+use Rattle.book.proofs.entry.parent.Goals as goal
+
+pub overflow_cast-result : goal.overflow_cast-result
+overflow_cast-result c = parent-cast _ _ c.result-1.given c.requires.1
+
+pub returns : goal.returns
+returns c = search parent_is

@@ -1,0 +1,20 @@
+use borrow.Author.Rules.{rules}
+use mathlib.Core.Path.{◌≡◌, refl}
+use Prim.Native.Nat.{◌≤◌, ◌-◌}
+use native.Mathlib.Omega.{arith}
+use lib.ListN.{length, drop}
+use Rattle.book.specs.Rules.{behind, join_each}
+use Rattle.book.specs.One.{one_book}
+use Rattle.book.specs.Steps.{Walking}
+use Rattle.book.proofs.Walked.{lent-within}
+use Rattle.book.proofs.Each.{each_none, each-unlent, each-missing, walking_start, walking_on}
+use Rattle.book.proofs.Each.{walking-stays, behind-none, each-merged, each-already, each-refused, each-end}
+use Rattle.book.proofs.joining.join_each.Given as goal
+
+abbrev pub invariant-loop-i : goal.invariant-loop-i
+invariant-loop-i l =
+    (l.i ≤ length l.others) × (l.merges ≤ l.i) × (length l.entries ≡ length l.initial.entries) × Walking l.entries l.u l.at
+    × (behind l.i l.merges (join_each one_book l.entries l.u (drop l.i l.others)) ≡ join_each one_book l.initial.entries l.u l.others)
+
+abbrev pub decreases-loop-i : goal.decreases-loop-i
+decreases-loop-i l = length l.others - l.i

@@ -1,0 +1,26 @@
+use Prim.Native.Nat.{◌-◌, ◌≤◌}
+use mathlib.Core.Path.{◌≡◌}
+use native.Mathlib.Omega.{arith}
+use borrow.Author.Rules.{rules}
+use lib.ListN.{length, drop}
+use Rattle.graph.specs.Sound.{sound_part}
+use Rattle.graph.proofs.Steps.{fitting, part-begin, part_low, part-wide, part-self, part-more, part_end}
+use Rattle.graph.proofs.sound.part_sound.Goals as goal
+
+pub loop-i-init : goal.loop-i-init
+loop-i-init c = (omega arith, search part-begin)
+
+pub returns-then-w-least : goal.returns-then-w-least
+returns-then-w-least c = search part_low
+
+pub returns-then-n-w : goal.returns-then-n-w
+returns-then-n-w c = search part-wide
+
+pub returns-then-w-v : goal.returns-then-w-v
+returns-then-w-v c = search part-self
+
+pub loop-i-preserved : goal.loop-i-preserved
+loop-i-preserved c = (omega arith, search part-more)
+
+pub returns : goal.returns
+returns c = search part_end

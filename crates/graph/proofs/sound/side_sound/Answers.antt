@@ -1,0 +1,16 @@
+use Rattle.graph.proofs.Steps.{side-offsets, side-targets, side-stop, side-rest}
+use Rattle.basis.proofs.Tests.{failed, held}
+use borrow.Author.Rules.{rules}
+use Rattle.graph.proofs.sound.side_sound.Goals as goal
+
+pub returns-then-offsets-n : goal.returns-then-offsets-n
+returns-then-offsets-n c = search side-offsets
+
+pub returns-then-targets-m : goal.returns-then-targets-m
+returns-then-targets-m c = search side-targets
+
+pub returns-then-not-offsets_sound : goal.returns-then-not-offsets_sound
+returns-then-not-offsets_sound c = search (side-stop, failed)
+
+pub returns : goal.returns
+returns c = search (side-rest, held)

@@ -1,0 +1,36 @@
+use Prim.Native.Nat.{◌≤◌, ◌-◌}
+use mathlib.Core.Path.{◌≡◌}
+use mathlib.Core.Bool.{true}
+use native.Mathlib.Omega.{arith}
+use lib.ListN.{length}
+use borrow.Author.Rules.{rules}
+use Rattle.basis.specs.Scan.{every}
+use Rattle.basis.proofs.Scans.{every-none}
+use Rattle.graph.specs.Weights.{legs_of}
+use Rattle.graph.proofs.Weighings.{answered_at, found-long, found-rises, found-beside, found-more, found-stop, found-end}
+use Rattle.graph.proofs.weights.legs_answered.Goals as goal
+
+pub loop-i-init : goal.loop-i-init
+loop-i-init c = (omega arith, every-none _)
+
+pub bounds-weights-i : goal.bounds-weights-i
+bounds-weights-i c = search (found-long, rules)
+
+pub has_leg-requires : goal.has_leg-requires
+has_leg-requires c = (search found-rises, search found-beside)
+
+pub returns-then-not-has_leg : goal.returns-then-not-has_leg
+returns-then-not-has_leg c = search found-stop
+
+pub loop-i-preserved : goal.loop-i-preserved
+loop-i-preserved c = (
+  omega arith,
+  found-more c.requires _ _ _ c.part-members.ensures
+      c.part-weights.ensures _ _ _
+      c.part-back.ensures
+      c.part.ensures _ c.has_leg.ensures c.if-not-has_leg.false
+      c.loop-i.invariant.1,
+)
+
+pub returns : goal.returns
+returns c = search found-end

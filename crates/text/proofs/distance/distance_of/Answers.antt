@@ -1,0 +1,12 @@
+use Rattle.text.proofs.DistanceTails.{beside-no-tail, beside-distance, bad-tail-behind}
+use borrow.Author.Rules.{rules}
+use Rattle.text.proofs.distance.distance_of.Goals as goal
+
+pub column-requires : goal.column-requires
+column-requires c = search bad-tail-behind
+
+pub returns-in-Bad : goal.returns-in-Bad
+returns-in-Bad c = search beside-no-tail
+
+pub returns-in-Value : goal.returns-in-Value
+returns-in-Value c = search (beside-distance, rules)

@@ -1,0 +1,30 @@
+use native.Mathlib.Omega.{arith}
+use mathlib.Core.Path.{sym, ◌∙◌}
+use Rattle.text.proofs.Bytes.{has-below}
+use Rattle.text.proofs.Lines.{rest_end, rest-inside, rest-bad, rest-value, rest-open}
+use borrow.Author.Rules.{rules}
+use Rattle.text.proofs.line.decimal_rest.Goals as goal
+
+pub slice_bounds-decimal_of-end : goal.slice_bounds-decimal_of-end
+slice_bounds-decimal_of-end c = search rest_end
+
+pub overflow_add-result : goal.overflow_add-result
+overflow_add-result c =
+    omega (
+      arith,
+      rest-inside _ _ _ c.line_end-end.ensures _
+          c.decimal_of-x.ensures c.requires _
+          c.x-1.given.1,
+    )
+
+pub overflow_add-result-then-has : goal.overflow_add-result-then-has
+overflow_add-result-then-has c = omega (arith, has-below _ _ _ (sym c.has.ensures ∙ c.if-has.true))
+
+pub returns-then-has : goal.returns-then-has
+returns-then-has c = search rest-value
+
+pub returns-in-Bad : goal.returns-in-Bad
+returns-in-Bad c = search rest-bad
+
+pub returns-else-has : goal.returns-else-has
+returns-else-has c = search rest-open

@@ -1,0 +1,40 @@
+use native.Mathlib.Omega.{arith}
+use mathlib.Core.Path.{sym, ◌∙◌}
+use Rattle.text.proofs.Bytes.{has-below}
+use Rattle.text.proofs.Lines.{rest_end}
+use Rattle.text.proofs.Tails.{weight-bad-within, weight-value-within, last-bad, last-value, last-open}
+use borrow.Author.Rules.{rules}
+use Rattle.text.proofs.weight.weight_rest.Goals as goal
+
+pub slice_bounds-weight_of-end : goal.slice_bounds-weight_of-end
+slice_bounds-weight_of-end c = search rest_end
+
+pub overflow_add-result : goal.overflow_add-result
+overflow_add-result c =
+    omega (
+      arith,
+      weight-bad-within _ _ _ c.line_end-end.ensures _
+          c.weight_of-x.ensures
+          c.requires _ c.x-1.given.1,
+    )
+
+pub overflow_add-q : goal.overflow_add-q
+overflow_add-q c =
+    omega (
+      arith,
+      weight-value-within _ _ _ c.line_end-end.ensures _
+          c.weight_of-x.ensures
+          c.requires _ _ c.x-in-Value-1.given.1,
+    )
+
+pub overflow_add-result-then-has : goal.overflow_add-result-then-has
+overflow_add-result-then-has c = omega (arith, has-below _ _ _ (sym c.has.ensures ∙ c.if-has.true))
+
+pub returns-then-has : goal.returns-then-has
+returns-then-has c = search last-value
+
+pub returns-in-Bad : goal.returns-in-Bad
+returns-in-Bad c = search last-bad
+
+pub returns-else-has : goal.returns-else-has
+returns-else-has c = search last-open
