@@ -23,7 +23,10 @@ pub returns-then-cursors-size : goal.returns-then-cursors-size
 returns-then-cursors-size c = search weights-told
 
 pub legs_walked-requires : goal.legs_walked-requires
-legs_walked-requires c = (search weights-beside, omega arith)
+legs_walked-requires c = record {
+      beside = search weights-beside;
+      vertices_in_bounds = omega arith;
+    }
 
 pub returns : goal.returns
 returns c = search weights-told

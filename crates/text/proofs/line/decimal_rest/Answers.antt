@@ -1,5 +1,5 @@
 use native.Mathlib.Omega.{arith}
-use mathlib.Core.Path.{sym, ◌∙◌}
+use mathlib.Core.Path.{sym, refl, ◌∙◌}
 use Rattle.text.proofs.Bytes.{has-below}
 use Rattle.text.proofs.Lines.{rest_end, rest-inside, rest-bad, rest-value, rest-open}
 use borrow.Author.Rules.{rules}
@@ -12,9 +12,7 @@ pub overflow_add-result : goal.overflow_add-result
 overflow_add-result c =
     omega (
       arith,
-      rest-inside _ _ _ c.line_end-end.ensures _
-          c.decimal_of-x.ensures c.requires _
-          c.x-1.given.1,
+      rest-inside _ _ _ c.line_end-end.ensures _ c.in-Bad.ensures c.requires _ refl,
     )
 
 pub overflow_add-result-then-has : goal.overflow_add-result-then-has

@@ -1,5 +1,5 @@
 use native.Mathlib.Omega.{arith}
-use mathlib.Core.Path.{sym, ◌∙◌}
+use mathlib.Core.Path.{sym, refl, ◌∙◌}
 use Rattle.text.proofs.Bytes.{has-below}
 use Rattle.text.proofs.Lines.{rest_end}
 use Rattle.text.proofs.Tails.{weight-bad-within, weight-value-within, last-bad, last-value, last-open}
@@ -14,8 +14,7 @@ overflow_add-result c =
     omega (
       arith,
       weight-bad-within _ _ _ c.line_end-end.ensures _
-          c.weight_of-x.ensures
-          c.requires _ c.x-1.given.1,
+          c.in-Bad.ensures c.requires _ refl,
     )
 
 pub overflow_add-q : goal.overflow_add-q
@@ -23,8 +22,7 @@ overflow_add-q c =
     omega (
       arith,
       weight-value-within _ _ _ c.line_end-end.ensures _
-          c.weight_of-x.ensures
-          c.requires _ _ c.x-in-Value-1.given.1,
+          c.in-Value.ensures c.requires _ _ refl,
     )
 
 pub overflow_add-result-then-has : goal.overflow_add-result-then-has
