@@ -1,0 +1,14 @@
+use Prim.Native.Nat.{◌-◌}
+use mathlib.Core.Path.{◌≡◌, refl}
+use native.Mathlib.Omega.{arith}
+use borrow.Author.Rules.{rules}
+use lib.ListN.{length, drop}
+use Rattle.plan.specs.Lines.{begins}
+use Rattle.plan.proofs.Words.{begins-not, begins-more, begins-end, has_in}
+use Rattle.plan.proofs.line.begins_at.Given as goal
+
+abbrev pub invariant-loop-i : goal.invariant-loop-i
+invariant-loop-i l = begins (drop l.i l.word) (drop l.p l.s) ≡ begins l.word (drop l.at l.s)
+
+abbrev pub decreases-loop-i : goal.decreases-loop-i
+decreases-loop-i l = length l.word - l.i

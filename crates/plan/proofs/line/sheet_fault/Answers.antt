@@ -1,0 +1,5 @@
+use borrow.Author.Rules.{rules}
+use Rattle.plan.proofs.line.sheet_fault.Goals as goal
+
+pub returns : goal.returns
+returns c = cc
