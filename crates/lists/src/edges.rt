@@ -16,7 +16,7 @@ use graph::find::{Found, find};
 use text::line::{Cursor, EdgeLine};
 
 // A reader of edge lines: its place, the lines passed, and the ends of the last edge.
-#[derive(Drop)]
+#[derive(Clone, Copy)]
 struct Edges {
     at: Cursor,
     lines: usize,

@@ -14,7 +14,7 @@ use basis::refusal::{NOT_ABOVE, TOO_MANY, VERTEX_FILE};
 use text::line::{Cursor, VertexLine};
 
 // A reader of vertex lines: its place, the lines passed, and the last of them (0 before the first).
-#[derive(Drop)]
+#[derive(Clone, Copy)]
 struct Vertices {
     at: Cursor,
     lines: usize,

@@ -11,7 +11,7 @@ use crate::ident::{Scan, field};
 use basis::refusal::{BAD_FORM, OUT_OF_RANGE};
 
 // A reader's place in a file.
-#[derive(Drop)]
+#[derive(Clone, Copy)]
 pub struct Cursor {
     pub at: usize,
 }

@@ -1,0 +1,18 @@
+use Prim.Native.Nat.{ℕ, ◌+◌, ◌-◌, ◌<◌}
+use mathlib.Core.List.{List}
+use lib.ListN.{length}
+use mathlib.Core.Path.{sym, ◌∙◌}
+use native.Mathlib.Omega.{arith}
+use Rattle.graph.specs.Part.{part_of}
+use Rattle.bfs.specs.Depth.{infinity}
+use Rattle.bfs.specs.Steps.{board}
+use Rattle.bfs.proofs.Queue.{Base, Serving, serving-queued, serving-begin, serving-level, serving-room}
+use Rattle.bfs.proofs.Queue.{serving-tail, serving-deeper, serving-part, serving-more, serving-end}
+use Rattle.bfs.proofs.search.Given as goal
+
+abbrev pub invariant-loop-head : goal.invariant-loop-head
+invariant-loop-head l =
+    Serving l.n (part_of l.n l.offsets l.targets) l.root (board l.depth l.queue l.tail) l.ring l.head
+
+abbrev pub decreases-loop-head : goal.decreases-loop-head
+decreases-loop-head l = l.n - l.head

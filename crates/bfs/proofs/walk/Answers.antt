@@ -1,0 +1,35 @@
+use Prim.Native.Nat.{◌≤◌, ◌-◌}
+use mathlib.Core.Path.{refl}
+use native.Mathlib.Omega.{arith}
+use lib.ListN.{length}
+use borrow.Author.Rules.{rules}
+use Rattle.bfs.specs.Steps.{board}
+use Rattle.bfs.proofs.Boards.{Walking, walking-low, walking-more, walking-end}
+use Rattle.bfs.proofs.walk.Goals as goal
+
+pub loop-i-init : goal.loop-i-init
+loop-i-init c = (omega arith, record { queued = c.requires.queued; depth_len = refl; queue_len = refl; rest = refl })
+
+pub relax-end-requires : goal.relax-end-requires
+relax-end-requires c =
+    record {
+      queued = c.loop-i.invariant.1.queued;
+      w_in_bounds = (walking-low _ _ _ _ _ c.loop-i.invariant.1 c.requires.next_value.0 (omega arith), c.requires.next_value.1);
+    }
+
+pub loop-i-preserved : goal.loop-i-preserved
+loop-i-preserved c =
+    (
+      omega arith,
+      walking-more _ _ _ _ _ c.loop-i.invariant.1 _ c.requires.next_value.0 c.requires.next_value.1
+          (omega arith) c.relax-end.ensures,
+    )
+
+pub shape_of-depth : goal.shape_of-depth
+shape_of-depth c = c.loop-i.invariant.1.depth_len
+
+pub shape_of-queue : goal.shape_of-queue
+shape_of-queue c = c.loop-i.invariant.1.queue_len
+
+pub returns : goal.returns
+returns c = walking-end _ _ _ _ _ c.loop-i.invariant.1 c.loop-i-test.false

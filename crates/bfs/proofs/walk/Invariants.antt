@@ -1,0 +1,15 @@
+use Prim.Native.Nat.{◌≤◌, ◌-◌}
+use mathlib.Core.Path.{refl}
+use native.Mathlib.Omega.{arith}
+use lib.ListN.{length}
+use borrow.Author.Rules.{rules}
+use Rattle.bfs.specs.Steps.{board}
+use Rattle.bfs.proofs.Boards.{Walking, walking-low, walking-more, walking-end}
+use Rattle.bfs.proofs.walk.Given as goal
+
+abbrev pub invariant-loop-i : goal.invariant-loop-i
+invariant-loop-i l =
+    (l.i ≤ length l.next) × Walking l.d l.next (board l.initial.depth l.initial.queue l.tail) (board l.depth l.queue l.end) l.i
+
+abbrev pub decreases-loop-i : goal.decreases-loop-i
+decreases-loop-i l = length l.next - l.i

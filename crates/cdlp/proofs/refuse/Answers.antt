@@ -1,0 +1,6 @@
+use borrow.Author.Rules.{rules}
+use Rattle.cdlp.proofs.Calls.{refuse-all}
+use Rattle.cdlp.proofs.refuse.Goals as goal
+
+pub returns : goal.returns
+returns c = search refuse-all

@@ -1,0 +1,6 @@
+use borrow.Author.Rules.{rules}
+use Rattle.cdlp.proofs.Calls.{room-all}
+use Rattle.cdlp.proofs.room.Goals as goal
+
+pub returns : goal.returns
+returns c = search room-all

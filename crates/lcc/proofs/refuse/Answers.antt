@@ -1,0 +1,6 @@
+use Rattle.lcc.proofs.Calls.{refuse-all}
+use borrow.Author.Rules.{rules}
+use Rattle.lcc.proofs.refuse.Goals as goal
+
+pub returns : goal.returns
+returns c = search refuse-all
