@@ -14,9 +14,9 @@ returns-in-Graph c =
 pub returns-in-Refused : goal.returns-in-Refused
 returns-in-Refused c =
     let a = c.args in
-    let k = c.fill-filled.auto.1.1.1.1 in
-    load-refused _ a.mode a.vertices.now a.edges.now a.ids.now a.out-offsets.now a.out-targets.now
-    a.in-offsets.now a.in-sources.now _ _ _ _ _ _
-    c.fill-filled.ensures _
-    c.capped.ensures _ c.filled-in-Refused-1.given.1 k.0 k.1.0 k.1.1.0 k.1.1.1.0 k.1.1.1.1.0 _ _ _ _ _
+    let k = c.fill-filled.auto in
+    load-refused _ a.mode a.vertices.now a.edges.now a.ids.now a.out_offsets.now a.out_targets.now
+    a.in_offsets.now a.in_sources.now _ _ _ _ _ _
+    c.in-Refused.ensures _
+    c.capped.ensures _ refl k.ids k.out_offsets k.out_targets k.in_offsets k.in_sources _ _ _ _ _
     c.clear_all.ensures

@@ -48,7 +48,7 @@ returns-then-has_places c =
     c.in-Lines.ensures _
     refl _ c.read_vertices-listed.auto.ids _
     c.has_places.ensures c.if-has_places.true _ refl c.store_edges.result
-    l.1.1.1.1.0 l.1.1.1.1.1.0 l.1.1.1.1.1.1.0 l.1.1.1.1.1.1.1.0
+    l.out_offsets l.out_targets l.in_offsets l.in_sources
     c.store_edges.ensures
 
 pub returns-in-Refused : goal.returns-in-Refused
