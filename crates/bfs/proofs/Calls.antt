@@ -1,7 +1,7 @@
 -- Laws of the call: one for each way that a function of it ends, its premises the code's tests. Assumes nothing.
 use Prim.Native.Nat.{ℕ, ◌-◌, ◌≤◌, ◌<◌, min}
 use mathlib.Core.Path.{◌≡◌, refl, sym, ap, ◌∙◌, subst}
-use mathlib.Core.Bool.{Bool, true, false, not}
+use mathlib.Core.Bool.{Bool, true, false}
 use mathlib.Core.List.{List, ◌++◌}
 use native.Mathlib.Omega.{arith}
 use lib.IntN.{ℤ, pos}
@@ -137,12 +137,12 @@ module _ (size : Size) (ids : List ℤ) (oo ot io is : List ℕ) (root : ℤ) (D
     unfolding bfs_call left_by
     call-refused m q =
         ends-refused left o (sound_graph graph) (is_there place) not_there roomy s (check-told e) h (is_there f) (ap is_there found)
-        (ap (λ (x : Found). not (is_there x)) m) q
+        (ap is_there m) q
         ∙ over
 
     module _ (v : ℕ) (a : f ≡ At v) (r : Bool) (i : r ≡ room_for size.vertices D Q₁) where
-      given : not (is_there f) ≡ false
-      given = ap (λ (x : Found). not (is_there x)) a
+      given : is_there f ≡ true
+      given = ap is_there a
 
       pub call-short : r ≡ false → o ≡ refusal no_room D Q₁ → o ≡ bfs_call graph root D Q
       unfolding bfs_call left_by

@@ -233,11 +233,11 @@ module _ (n : ℕ) (out : ℕ → List ℕ) (s : ℕ) where
       → Met S (relaxed_all (r.level + 1) ws S) r h (λ w. mem w ws ≡ true)
   unfolding relaxed_all
   met {S} [] k ok = record { serving = k; kept = kept_refl S; near = λ w t. absurd (mem-none-of w t) }
-  met {r = r} (w ∷ ws) k ok =
+  met {S = S} {r = r} (w ∷ ws) k ok =
       let a = ok w (mem-head w ws) in
       let b = serving-level k in
       let m = one k w a.0 a.1 in
-      let q = met ws m.serving (λ x t. ok x (mem-tail x w ws t)) in
+      let q = met {S = relaxed (r.level + 1) w S} ws m.serving (λ x t. ok x (mem-tail x w ws t)) in
       record {
         serving = q.serving;
         kept = kept_trans m.kept q.kept;

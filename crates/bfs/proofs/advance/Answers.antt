@@ -1,6 +1,5 @@
 use borrow.Author.Tests.{eq-eqb, ne_eqb}
 use Rattle.bfs.specs.Steps.{advanced}
-use borrow.Author.Rules.{rules}
 use Rattle.bfs.proofs.advance.Goals as goal
 
 pub returns-then-head-end : goal.returns-then-head-end

@@ -5,7 +5,6 @@ use Rattle.basis.proofs.Tests.{held}
 use Rattle.graph.proofs.Sounds.{sound-of}
 use Rattle.graph.proofs.Walks.{check-told}
 use Rattle.bfs.proofs.Calls.{call-unsound, call-refused, call-short, call-ready, call-done}
-use borrow.Author.Rules.{rules}
 use Rattle.bfs.proofs.bfs.Goals as goal
 
 pub returns-then-not-sound_over : goal.returns-then-not-sound_over
@@ -24,7 +23,7 @@ returns-in-Missing c =
     c.if-not-sound_over.false _
     (to_z-of_z c.ranges.root) _
     c.find.ensures
-    c.enum_told-1.given.1 c.refuse-in-Missing.ensures
+    c.in-Missing.is c.refuse-in-Missing.ensures
 
 pub returns-then-not-room : goal.returns-then-not-room
 returns-then-not-room c =
@@ -32,7 +31,7 @@ returns-then-not-room c =
     c.if-not-sound_over.false _
     (to_z-of_z c.ranges.root) _
     c.find.ensures _
-    c.v-1.given.1 _
+    c.in-At.is _
     c.room.ensures
     c.if-not-room.true c.refuse-then-not-room.ensures
 
@@ -42,7 +41,7 @@ fill-requires c =
     (check-told c.sound_over.ensures)
     c.if-not-sound_over.false _
     c.find.ensures _
-    c.v-1.given.1 _ c.room.ensures
+    c.in-At.is _ c.room.ensures
     c.if-not-room.false
 
 pub returns : goal.returns
@@ -51,6 +50,6 @@ returns c =
     c.if-not-sound_over.false _
     (to_z-of_z c.ranges.root) _
     c.find.ensures _
-    c.v-1.given.1 _
+    c.in-At.is _
     c.room.ensures
     c.if-not-room.false c.fill.ensures

@@ -2,13 +2,7 @@ use Prim.Native.Nat.{◌≤◌}
 use native.Mathlib.Omega.{arith}
 use lib.ListN.{length}
 use Rattle.bfs.proofs.Calls.{lent-depth, lent-queue, taken-depth, taken-queue, search-inside, search-there, search-room, fill-all}
-use borrow.Author.Rules.{rules}
 use Rattle.bfs.proofs.fill.Goals as goal
-
--- the places behind the graph's
-fits : (s : tie.Start) → s.args.size.vertices ≤ length s.args.depth.now
-
-fits s = lent-depth _ _ _ _ _ _ _ _ _ s.requires
 
 pub slice_bounds-search-end : goal.slice_bounds-search-end
 slice_bounds-search-end c = search lent-depth
@@ -24,18 +18,18 @@ slice_bounds-search-end-4 c = search taken-queue
 
 pub search-requires : goal.search-requires
 search-requires c = record {
-      inside = search search-inside;
-      root_in_bounds = (search search-there, search search-room);
-    }
+  inside = search search-inside;
+  root_in_bounds = (search search-there, search search-room);
+}
 
 pub offset_bounds-depth-n : goal.offset_bounds-depth-n
-offset_bounds-depth-n c = omega (arith, fits c.before.before.before.before.before.before.before.before.before.before.before)
+offset_bounds-depth-n c = let fits : c.args.size.vertices ≤ length c.args.depth.now = search lent-depth in omega arith
 
 pub slice_bounds-clear_signed-count : goal.slice_bounds-clear_signed-count
-slice_bounds-clear_signed-count c = omega (arith, fits c.before.before.before.before.before.before.before.before.before.before.before)
+slice_bounds-clear_signed-count c = let fits : c.args.size.vertices ≤ length c.args.depth.now = search lent-depth in omega arith
 
 pub slice_bounds-clear_signed-start : goal.slice_bounds-clear_signed-start
-slice_bounds-clear_signed-start c = omega (arith, fits c.before.before.before.before.before.before.before.before.before.before.before)
+slice_bounds-clear_signed-start c = let fits : c.args.size.vertices ≤ length c.args.depth.now = search lent-depth in omega arith
 
 pub returns : goal.returns
 returns c = search fill-all

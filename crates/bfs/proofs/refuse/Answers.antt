@@ -1,5 +1,4 @@
 use Rattle.bfs.proofs.Calls.{refuse-all}
-use borrow.Author.Rules.{rules}
 use Rattle.bfs.proofs.refuse.Goals as goal
 
 pub returns : goal.returns

@@ -1,10 +1,11 @@
 use Prim.Native.Nat.{◌<◌, ◌+◌}
+use mathlib.Core.Bool.{Bool}
 use mathlib.Core.Path.{◌≡◌, sym, ap, ◌∙◌}
 use native.Mathlib.Omega.{arith}
 use lib.IntN.{ℤ, pos}
 use lib.ListN.{length, get_or, set}
 use mir.Syntax.{w64}
-use mir.Val.{to_z, of_z}
+use mir.Val.{to_z, of_z, SFits}
 use mir.Facts.{to_z-of_z, to_z_pos}
 use Rattle.bfs.specs.Steps.{board, is_far}
 use Rattle.bfs.proofs.Boards.{relaxed-new, relaxed-old, room-more}
@@ -12,36 +13,43 @@ use borrow.Author.Rules.{rules}
 use Rattle.bfs.proofs.relax.Goals as goal
 
 -- the code's test is the definition's
-told : (c : tie.After-same) → c.same.result ≡ is_far
-    (get_or c.args.depth.now c.args.w (pos 0))
-
-told c =
-    let a = c.args in
-    c.same.ensures
-    ∙ ap is_far (to_z-of_z {w = w64} {z = get_or a.depth.now a.w (pos 0)} (record { sfits = c.same-arg-1.given }))
-
-room : (c : tie.After-signed) → c.args.tail
-    < length c.args.queue.now
-
-room c =
-    room-more (board c.args.depth.now c.args.queue.now c.args.tail) c.args.w c.requires.0 c.requires.1.0
-    (sym (told c.before.before) ∙ c.if-same.true)
+told : {t : Bool} (z : ℤ) → t ≡ is_far (to_z w64 (of_z w64 z)) → SFits w64 z → t ≡ is_far z
+told z e f = e ∙ ap is_far (to_z-of_z f)
 
 pub offset_bounds-queue-tail : goal.offset_bounds-queue-tail
-offset_bounds-queue-tail c = omega (arith, room c)
+offset_bounds-queue-tail c =
+    let a = c.args in
+    let e = told (get_or a.depth.now a.w (pos 0)) c.same.ensures (record { sfits = search rules }) in
+    let room : a.tail < length a.queue.now =
+    room-more (board a.depth.now a.queue.now a.tail) a.w c.requires.queued c.requires.w_in_bounds.0 (sym e ∙ c.if-same.true) in
+    omega arith
 
 pub bounds-queue-tail : goal.bounds-queue-tail
-bounds-queue-tail c = room c
+bounds-queue-tail c =
+    let a = c.args in
+    let e = told (get_or a.depth.now a.w (pos 0)) c.same.ensures (record { sfits = search rules }) in
+    let room : a.tail < length a.queue.now =
+    room-more (board a.depth.now a.queue.now a.tail) a.w c.requires.queued c.requires.w_in_bounds.0 (sym e ∙ c.if-same.true) in
+    room
 
 pub overflow_add-result : goal.overflow_add-result
-overflow_add-result c = omega (arith, room c)
+overflow_add-result c =
+    let a = c.args in
+    let e = told (get_or a.depth.now a.w (pos 0)) c.same.ensures (record { sfits = search rules }) in
+    let room : a.tail < length a.queue.now =
+    room-more (board a.depth.now a.queue.now a.tail) a.w c.requires.queued c.requires.w_in_bounds.0 (sym e ∙ c.if-same.true) in
+    omega arith
 
 pub returns-then-same : goal.returns-then-same
 returns-then-same c =
     let a = c.args in
+    let e = told (get_or a.depth.now a.w (pos 0)) c.same.ensures (record { sfits = search rules }) in
     ap (λ (z : ℤ). board (set a.depth.now a.w z) (set a.queue.now a.tail a.w) (a.tail + 1))
-    (ap (λ (z : ℤ). (of_z w64 z)) c.signed.ensures ∙ to_z_pos w64 (omega arith))
-    ∙ sym (relaxed-new _ _ _ (sym (told c.before.before) ∙ c.if-same.true))
+    (ap (λ (z : ℤ). to_z w64 (of_z w64 z)) c.signed.ensures ∙ to_z_pos w64 (omega arith))
+    ∙ sym (relaxed-new _ _ _ (sym e ∙ c.if-same.true))
 
 pub returns-else-same : goal.returns-else-same
-returns-else-same c = sym (relaxed-old _ _ _ (sym (told c.before) ∙ c.if-same.false))
+returns-else-same c =
+    let a = c.args in
+    let e = told (get_or a.depth.now a.w (pos 0)) c.same.ensures (record { sfits = search rules }) in
+    sym (relaxed-old _ _ _ (sym e ∙ c.if-same.false))

@@ -1,4 +1,3 @@
-use borrow.Author.Rules.{rules}
 use Rattle.bfs.proofs.Calls.{room-all}
 use Rattle.bfs.proofs.room.Goals as goal
 

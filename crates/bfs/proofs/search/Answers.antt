@@ -1,37 +1,28 @@
-use Prim.Native.Nat.{ℕ, ◌+◌, ◌-◌, ◌<◌}
-use mathlib.Core.List.{List}
 use lib.ListN.{length}
 use mathlib.Core.Path.{sym, ◌∙◌}
 use native.Mathlib.Omega.{arith}
 use Rattle.graph.specs.Part.{part_of}
-use Rattle.bfs.specs.Depth.{infinity}
-use Rattle.bfs.specs.Steps.{board}
-use Rattle.bfs.proofs.Queue.{Base, Serving, serving-queued, serving-begin, serving-level, serving-room}
+use Rattle.bfs.proofs.Queue.{Base, serving-queued, serving-begin, serving-level, serving-room}
 use Rattle.bfs.proofs.Queue.{serving-tail, serving-deeper, serving-part, serving-more, serving-end}
 use Rattle.bfs.proofs.search.Goals as goal
-
-abbrev out_of : tie.Start invariant-loop decreases-loop → ℕ → List ℕ
-
-out_of s = part_of (length s.args.depth.now) s.args.offsets.now s.args.targets.now
-
-base : (s : tie.Start invariant-loop decreases-loop) → Base (length s.args.depth.now) (out_of s) s.args.root
-
-base s = record { inside = s.requires.0; root = s.requires.1.0; few = omega arith }
-
-deeper : (c : tie.After-advance invariant-loop decreases-loop) → c.advance-ring.result.level + 1 < infinity
-
-deeper c = serving-deeper _ _ _ c.loop-head.invariant c.loop-head-test.true c.advance-ring.ensures
 
 pub fill_signed-requires : goal.fill_signed-requires
 fill_signed-requires c = tt
 
 pub relax-tail-requires : goal.relax-tail-requires
 relax-tail-requires c =
-    (serving-queued _ _ _ (base s) _ _ c.fill_signed.ensures c.requires.1.1, (omega (arith, c.fill_signed.auto.0), omega arith))
+    let base : Base (length c.args.depth.now) (part_of (length c.args.depth.now) c.args.offsets.now c.args.targets.now) c.args.root =
+    record { inside = c.requires.inside; root = c.requires.root_in_bounds.0; few = omega arith } in
+    record {
+      queued = serving-queued _ _ _ base _ _ c.fill_signed.ensures c.requires.root_in_bounds.1;
+      w_in_bounds = (omega arith, omega arith);
+    }
 
 pub loop-head-init : goal.loop-head-init
 loop-head-init c =
-    serving-begin _ _ _ (base s) _ _ c.fill_signed.ensures c.requires.1.1 c.relax-tail.ensures
+    let base : Base (length c.args.depth.now) (part_of (length c.args.depth.now) c.args.offsets.now c.args.targets.now) c.args.root =
+    record { inside = c.requires.inside; root = c.requires.root_in_bounds.0; few = omega arith } in
+    serving-begin _ _ _ base _ _ c.fill_signed.ensures c.requires.root_in_bounds.1 c.relax-tail.ensures
 
 pub advance-ring-requires : goal.advance-ring-requires
 advance-ring-requires c = omega (arith, serving-level _ _ _ c.loop-head.invariant)
@@ -46,18 +37,17 @@ pub neighbours-next-requires : goal.neighbours-next-requires
 neighbours-next-requires c = tt
 
 pub overflow_add-level : goal.overflow_add-level
-overflow_add-level c = omega (arith, deeper c.before.before.before.before)
+overflow_add-level c = omega (arith, serving-deeper _ _ _ c.loop-head.invariant c.loop-head-test.true c.advance-ring.ensures)
 
 pub walk-tail-requires : goal.walk-tail-requires
 walk-tail-requires c =
-    (
-      c.loop-head.invariant.queued,
-      (
-        rw c.neighbours-next.ensures
-            (serving-part _ _ _ c.loop-head.invariant c.loop-head-test.true c.advance-ring.ensures),
-        deeper a,
-      ),
-    )
+    record {
+      queued = c.loop-head.invariant.queued;
+      next_value = (
+        rw c.neighbours-next.ensures (serving-part _ _ _ c.loop-head.invariant c.loop-head-test.true c.advance-ring.ensures),
+        serving-deeper _ _ _ c.loop-head.invariant c.loop-head-test.true c.advance-ring.ensures,
+      );
+    }
 
 pub overflow_add-head : goal.overflow_add-head
 overflow_add-head c =

@@ -1,13 +1,7 @@
-use Prim.Native.Nat.{ℕ, ◌+◌, ◌-◌, ◌<◌}
-use mathlib.Core.List.{List}
-use lib.ListN.{length}
-use mathlib.Core.Path.{sym, ◌∙◌}
-use native.Mathlib.Omega.{arith}
+use Prim.Native.Nat.{◌-◌}
 use Rattle.graph.specs.Part.{part_of}
-use Rattle.bfs.specs.Depth.{infinity}
 use Rattle.bfs.specs.Steps.{board}
-use Rattle.bfs.proofs.Queue.{Base, Serving, serving-queued, serving-begin, serving-level, serving-room}
-use Rattle.bfs.proofs.Queue.{serving-tail, serving-deeper, serving-part, serving-more, serving-end}
+use Rattle.bfs.proofs.Queue.{Serving}
 use Rattle.bfs.proofs.search.Given as goal
 
 abbrev pub invariant-loop-head : goal.invariant-loop-head

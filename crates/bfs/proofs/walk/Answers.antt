@@ -1,10 +1,6 @@
-use Prim.Native.Nat.{◌≤◌, ◌-◌}
 use mathlib.Core.Path.{refl}
 use native.Mathlib.Omega.{arith}
-use lib.ListN.{length}
-use borrow.Author.Rules.{rules}
-use Rattle.bfs.specs.Steps.{board}
-use Rattle.bfs.proofs.Boards.{Walking, walking-low, walking-more, walking-end}
+use Rattle.bfs.proofs.Boards.{walking-low, walking-more, walking-end}
 use Rattle.bfs.proofs.walk.Goals as goal
 
 pub loop-i-init : goal.loop-i-init
@@ -18,12 +14,11 @@ relax-end-requires c =
     }
 
 pub loop-i-preserved : goal.loop-i-preserved
-loop-i-preserved c =
-    (
-      omega arith,
-      walking-more _ _ _ _ _ c.loop-i.invariant.1 _ c.requires.next_value.0 c.requires.next_value.1
-          (omega arith) c.relax-end.ensures,
-    )
+loop-i-preserved c = (
+  omega arith,
+  walking-more _ _ _ _ _ c.loop-i.invariant.1 _ c.requires.next_value.0 c.requires.next_value.1
+      (omega arith) c.relax-end.ensures,
+)
 
 pub shape_of-depth : goal.shape_of-depth
 shape_of-depth c = c.loop-i.invariant.1.depth_len

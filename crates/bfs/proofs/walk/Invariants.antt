@@ -1,10 +1,7 @@
 use Prim.Native.Nat.{◌≤◌, ◌-◌}
-use mathlib.Core.Path.{refl}
-use native.Mathlib.Omega.{arith}
 use lib.ListN.{length}
-use borrow.Author.Rules.{rules}
 use Rattle.bfs.specs.Steps.{board}
-use Rattle.bfs.proofs.Boards.{Walking, walking-low, walking-more, walking-end}
+use Rattle.bfs.proofs.Boards.{Walking}
 use Rattle.bfs.proofs.walk.Given as goal
 
 abbrev pub invariant-loop-i : goal.invariant-loop-i

@@ -1,0 +1,21 @@
+use mathlib.Core.Path.{refl}
+use native.Mathlib.Omega.{arith}
+use lib.ListN.{length-set}
+use Rattle.basis.specs.Area.{infinity}
+use Rattle.basis.proofs.Areas.{column-none, column-more, fill_end}
+use Rattle.sssp.proofs.search.all_far.Goals as goal
+
+pub loop-i-init : goal.loop-i-init
+loop-i-init c = (omega arith, refl, column-none (λ k. infinity) c.args.area.now)
+
+pub loop-i-preserved : goal.loop-i-preserved
+loop-i-preserved c =
+    let l = c.loop-i in (
+      omega arith,
+      rw length-set l.invariant.1,
+      column-more (λ k. infinity) l.i _ l.area _ (omega arith)
+          l.invariant.2 refl,
+    )
+
+pub returns : goal.returns
+returns c = fill_end _ c.loop-i.i _ _ (omega arith) (omega arith) c.loop-i.invariant.2
