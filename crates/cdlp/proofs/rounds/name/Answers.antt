@@ -14,7 +14,8 @@ pub loop-v-init : goal.loop-v-init
 loop-v-init c = (refl, omega arith, column-none (look (pos 0) c.args.ids.now c.args.labels.now) c.args.res.now)
 
 pub offset_bounds-ids-l : goal.offset_bounds-ids-l
-offset_bounds-ids-l c = omega (arith, below_at (length c.args.ids.now) c.args.labels.now c.requires.low_labels c.loop-v.v c.loop-v-test.true)
+offset_bounds-ids-l c =
+    omega (arith, below_at (length c.args.ids.now) c.args.labels.now c.requires.low_labels c.loop-v.v c.loop-v-test.true)
 
 pub bounds-ids-l : goal.bounds-ids-l
 bounds-ids-l c =
