@@ -40,7 +40,7 @@ pub const CLAIM_FILE: usize = 3;
 
 pub const SHEET_FILE: usize = 4;
 
-#[derive(Drop)]
+#[derive(Clone, Copy)]
 pub struct Refusal {
     pub number: usize,
     pub file: usize,

@@ -2,7 +2,7 @@
 use basis::Refusal;
 
 // It matches; it is incomplete, or a mismatch, at a line; or it was refused.
-#[derive(Drop)]
+#[derive(Clone, Copy)]
 pub enum Judged {
     Match,
     Incomplete(usize),

@@ -18,7 +18,7 @@ pub const MOST_JOBS: usize = 16;
 pub const MOST_BYTES: usize = 65536;
 
 // How many lines a section has, where they begin, and the place past them.
-#[derive(Drop)]
+#[derive(Clone, Copy)]
 pub struct Block {
     pub count: usize,
     pub from: usize,

@@ -180,7 +180,7 @@ module _ (P : ℤ → Type 0) (none : P (pos 0)) where
   smallest-all : (a : ℤ) (cs : List ℤ) → P a → All P cs → P (smallest lt_z a cs)
   unfolding smallest
   smallest-all a [] g h = g
-  smallest-all a (c ∷ cs) g h = smallest-all _ cs (by (lt_z c a)) h.1
+  smallest-all a (c ∷ cs) g h = smallest-all (cond (lt_z c a) c a) cs (by (lt_z c a)) h.1
     where
       by : (t : Bool) → P (cond t c a)
       by true = h.0

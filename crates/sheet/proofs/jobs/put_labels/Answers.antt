@@ -1,0 +1,9 @@
+use Rattle.sheet.proofs.Ran.{ran-refused, ran-done}
+use borrow.Author.Rules.{rules}
+use Rattle.sheet.proofs.jobs.put_labels.Goals as goal
+
+pub returns-in-Refused : goal.returns-in-Refused
+returns-in-Refused c = search ran-refused
+
+pub returns-in-Done : goal.returns-in-Done
+returns-in-Done c = search ran-done

@@ -1,0 +1,6 @@
+use borrow.Author.Rules.{rules}
+use Rattle.sheet.proofs.load_sections.Goals as goal
+
+pub returns : goal.returns
+returns c =
+    rw c.mode_number.ensures at c.load_within.ensures

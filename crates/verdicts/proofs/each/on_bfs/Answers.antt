@@ -1,0 +1,16 @@
+use mir.Facts.{to_z-of_z}
+use Rattle.verdicts.proofs.Kernels.{bfs-known, bfs-roomy, bfs-cleared, bfs-verdict}
+use borrow.Author.Rules.{rules}
+use Rattle.verdicts.proofs.each.on_bfs.Goals as goal
+
+pub numbers_on-requires : goal.numbers_on-requires
+numbers_on-requires c =
+    let e = c.bfs-answer.ensures in
+    let p = to_z-of_z c.fits.root in
+    (bfs-known _ _ p _ _ e, (bfs-roomy _ _ p _ _ e c.pre.0.0, c.pre.0.1, c.pre.0.2))
+
+pub returns : goal.returns
+returns c = record {
+      lines_after = search (bfs-verdict, to_z-of_z);
+      queue_after = search (bfs-cleared, to_z-of_z);
+    }
