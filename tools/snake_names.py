@@ -17,7 +17,14 @@ CAMEL = re.compile(r"(?<=[a-z0-9ℕ])(?=[A-Z])")
 # a bound variable, which is no definition
 KEPT = {"hL"}
 # Lemmas whose names fall together with the snake case of a definition: "a lemma that would have its function's name gets `_lem`".
-LEMMAS = {"head_in": "headIn", "is_word": "isWord", "labels_at": "labelsAt", "load_told": "loadTold", "count_at": "countAt", "own_room": "ownRoom"}
+LEMMAS = {
+    "head_in": "headIn",
+    "is_word": "isWord",
+    "labels_at": "labelsAt",
+    "load_told": "loadTold",
+    "count_at": "countAt",
+    "own_room": "ownRoom",
+}
 
 
 def snake(word):

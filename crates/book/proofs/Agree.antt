@@ -12,7 +12,7 @@ use Rattle.basis.specs.Limits.{most_vertices}
 use Rattle.basis.specs.Refusal.{Said, gives, refuses, no_room, not_there, unsound, check, onward}
 use Rattle.basis.proofs.Tests.{clash, no-case}
 use Rattle.basis.proofs.Saids.{check-on, check-off, onward-passed}
-use Rattle.book.specs.Rules.{most_moves, Next, stop, to, View, WalkEnd, Heads, heads, Step, already, merge, Joining, merged, same}
+use Rattle.book.specs.Rules.{most_moves, Next, stop, to, View, WalkEnd, Heads, Step, already, merge, Joining, merged, same}
 use Rattle.book.specs.Rules.{Machine, EachOutcome, counted, behind, and_on, walk, walk_from, is_stop, tally}
 use Rattle.book.specs.Rules.{head_of, pair, heads_of, one_head, same_group, size_at, group_size, group_count, limit_of, step_limit}
 use Rattle.book.specs.Rules.{link_heads, decide, open_book, write_book, join_book, join_each}

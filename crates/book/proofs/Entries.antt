@@ -42,7 +42,7 @@ module _ (xs : List ℤ) (v : ℕ) (f : mag (get_or xs v (pos 0)) < 2 ^ 63) wher
   z = get_or xs v (pos 0)
 
   again : to_z w64 (of_z w64 z) ≡ z
-  again = to_z-of_z (record { sfits = f })
+  again = to_z-of_z {w = w64} (record { sfits = f })
 
   pub head-test : lt_z (to_z w64 (of_z w64 z)) (pos 0) ≡ is_stop (next_here xs v)
   unfolding next_here

@@ -1,104 +1,106 @@
 // What the cases print, on standard output.
 use basis::Refusal;
 use book::{Compared, Headed, Joined, JoinedEach, Opened, Reading};
+use std::io;
 
-pub fn words(text: &[u8]) {
-    io::write_all(1, text);
+pub fn words(rt: &impl Print, text: &[u8]) -> io::Result<()> {
+    rt.write_all(text)
 }
 
-pub fn number(n: usize) {
-    io::print_decimal(1, n as u64);
+pub fn number(rt: &impl Print, n: usize) -> io::Result<()> {
+    rt.print(n)
 }
 
-fn refused(r: Refusal) {
-    words(b"refused ");
-    number(r.number);
-    words(b" ");
-    number(r.file);
-    words(b" ");
-    number(r.line);
+fn refused(rt: &impl Print, r: Refusal) -> io::Result<()> {
+    words(rt, b"refused ")?;
+    number(rt, r.number)?;
+    words(rt, b" ")?;
+    number(rt, r.file)?;
+    words(rt, b" ")?;
+    number(rt, r.line)
 }
 
-pub fn opened(answer: Opened) {
+pub fn opened(rt: &impl Print, answer: Opened) -> io::Result<()> {
     match answer {
-        Opened::Ready => words(b"ready"),
-        Opened::Refused(r) => refused(r),
+        Opened::Ready => words(rt, b"ready"),
+        Opened::Refused(r) => refused(rt, r),
     }
 }
 
-pub fn joined(answer: Joined) {
+pub fn joined(rt: &impl Print, answer: Joined) -> io::Result<()> {
     match answer {
-        Joined::Merged => words(b"merged"),
-        Joined::Already => words(b"one group already"),
-        Joined::Refused(r) => refused(r),
+        Joined::Merged => words(rt, b"merged"),
+        Joined::Already => words(rt, b"one group already"),
+        Joined::Refused(r) => refused(rt, r),
     }
 }
 
-pub fn joined_each(answer: JoinedEach) {
+pub fn joined_each(rt: &impl Print, answer: JoinedEach) -> io::Result<()> {
     match answer {
         JoinedEach::All(merges) => {
-            words(b"all, ");
-            number(merges);
-            words(b" merged");
+            words(rt, b"all, ")?;
+            number(rt, merges)?;
+            words(rt, b" merged")
         }
         JoinedEach::Stopped(before, merges, r) => {
-            words(b"stopped after ");
-            number(before);
-            words(b", ");
-            number(merges);
-            words(b" merged: ");
-            refused(r);
+            words(rt, b"stopped after ")?;
+            number(rt, before)?;
+            words(rt, b", ")?;
+            number(rt, merges)?;
+            words(rt, b" merged: ")?;
+            refused(rt, r)
         }
     }
 }
 
-pub fn headed(answer: Headed) {
+pub fn headed(rt: &impl Print, answer: Headed) -> io::Result<()> {
     match answer {
         Headed::Head(h, moves) => {
-            number(h);
-            words(b" in ");
-            number(moves);
+            number(rt, h)?;
+            words(rt, b" in ")?;
+            number(rt, moves)
         }
-        Headed::Refused(r) => refused(r),
+        Headed::Refused(r) => refused(rt, r),
     }
 }
 
-pub fn compared(answer: Compared) {
+pub fn compared(rt: &impl Print, answer: Compared) -> io::Result<()> {
     match answer {
-        Compared::Together => words(b"one group"),
-        Compared::Apart => words(b"two groups"),
-        Compared::Refused(r) => refused(r),
+        Compared::Together => words(rt, b"one group"),
+        Compared::Apart => words(rt, b"two groups"),
+        Compared::Refused(r) => refused(rt, r),
     }
 }
 
-pub fn reading(answer: Reading) {
+pub fn reading(rt: &impl Print, answer: Reading) -> io::Result<()> {
     match answer {
-        Reading::Value(k) => number(k),
-        Reading::Refused(r) => refused(r),
+        Reading::Value(k) => number(rt, k),
+        Reading::Refused(r) => refused(rt, r),
     }
 }
 
 // The first bytes of a text.
-fn front(text: &[u8], end: usize) {
+fn front(rt: &impl Print, text: &[u8], end: usize) -> io::Result<()> {
     if end <= text.len() {
-        words(&text[..end]);
+        words(rt, &text[..end])?;
     }
+    Ok(())
 }
 
 // A space and a signed number, which has at most 20 bytes.
-fn signed(n: i64) {
+fn signed(rt: &impl Print, n: i64) -> io::Result<()> {
     let mut text = [0u8; 20];
     let end = write::numbers::put_signed(&mut text, 0, n);
-    words(b" ");
-    front(&text, end);
+    words(rt, b" ")?;
+    front(rt, &text, end)
 }
 
 // The numbers of an area, each after a space.
-pub fn area(a: [i64; 4]) {
-    signed(a[0]);
-    signed(a[1]);
-    signed(a[2]);
-    signed(a[3]);
+pub fn area(rt: &impl Print, a: [i64; 4]) -> io::Result<()> {
+    signed(rt, a[0])?;
+    signed(rt, a[1])?;
+    signed(rt, a[2])?;
+    signed(rt, a[3])
 }
 
 // Whether two areas hold the same.
@@ -118,10 +120,10 @@ pub fn filled(a: &[i64], value: i64) -> bool {
     true
 }
 
-pub fn stayed(yes: bool) {
+pub fn stayed(rt: &impl Print, yes: bool) -> io::Result<()> {
     if yes {
-        words(b", area as it was\n");
+        words(rt, b", area as it was\n")
     } else {
-        words(b", area changed\n");
+        words(rt, b", area changed\n")
     }
 }

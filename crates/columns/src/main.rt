@@ -4,9 +4,10 @@
 // line ends with the file.
 #![tactic(auto)]
 
-ghost use Rattle.std.specs.Prelude.{◌≤◌, ◌<◌, length};
+ghost use Rattle.std.specs.Prelude.{◌≤◌, ◌<◌, IfOk, length};
 
-use libc::{STDIN_FILENO, STDOUT_FILENO};
+use std::io;
+use std::io::Read;
 use text::Cursor;
 use text::count::line_end;
 use text::line::{CoefficientLine, EdgeLine, VertexLine};
@@ -15,77 +16,90 @@ use text::line::{CoefficientLine, EdgeLine, VertexLine};
 const MOST: usize = 65536;
 
 // A refusal's number and column on a line of their own.
-fn print_two(number: usize, column: usize) {
-    io::print_decimal(STDOUT_FILENO, number as u64);
-    io::write_all(STDOUT_FILENO, b" ");
-    io::print_decimal(STDOUT_FILENO, column as u64);
-    io::write_all(STDOUT_FILENO, b"\n");
+fn print_two(rt: &impl Print, number: usize, column: usize) -> io::Result<()> {
+    println!(rt; "{number} {column}")
 }
 
 // No line is left.
-fn print_end() {
-    io::write_all(STDOUT_FILENO, b"end\n");
+fn print_end(rt: &impl Print) -> io::Result<()> {
+    println!(rt; "end")
 }
 
-fn shown_vertex(line: VertexLine) {
+fn shown_vertex(rt: &impl Print, line: VertexLine) -> io::Result<()> {
     match line {
-        VertexLine::End(_) => print_end(),
-        VertexLine::Fault(number, column, _) => print_two(number, column),
-        VertexLine::Line(_, _) => print_two(0, 0),
+        VertexLine::End(_) => print_end(rt),
+        VertexLine::Fault(number, column, _) => print_two(rt, number, column),
+        VertexLine::Line(_, _) => print_two(rt, 0, 0),
     }
 }
 
-fn shown_edge(line: EdgeLine) {
+fn shown_edge(rt: &impl Print, line: EdgeLine) -> io::Result<()> {
     match line {
-        EdgeLine::End(_) => print_end(),
-        EdgeLine::Fault(number, column, _) => print_two(number, column),
-        EdgeLine::Line(_, _, _) => print_two(0, 0),
+        EdgeLine::End(_) => print_end(rt),
+        EdgeLine::Fault(number, column, _) => print_two(rt, number, column),
+        EdgeLine::Line(_, _, _) => print_two(rt, 0, 0),
     }
 }
 
-fn shown_coefficient(line: CoefficientLine) {
+fn shown_coefficient(rt: &impl Print, line: CoefficientLine) -> io::Result<()> {
     match line {
-        CoefficientLine::End(_) => print_end(),
-        CoefficientLine::Fault(number, column, _) => print_two(number, column),
-        CoefficientLine::Line(_, _, _) => print_two(0, 0),
+        CoefficientLine::End(_) => print_end(rt),
+        CoefficientLine::Fault(number, column, _) => print_two(rt, number, column),
+        CoefficientLine::Line(_, _, _) => print_two(rt, 0, 0),
     }
 }
 
 // The line of a kind at a place.
-fn read_line(s: &[u8], at: usize, kind: u8) {
+fn read_line(rt: &impl Print, s: &[u8], at: usize, kind: u8) -> io::Result<()> {
     let place = Cursor { at };
     match kind {
-        b'v' => shown_vertex(place.vertex(s)),
-        b'e' => shown_edge(place.edge(s)),
-        b'c' => shown_edge(place.claim(s)),
-        _ => shown_coefficient(place.coefficient_claim(s)),
+        b'v' => shown_vertex(rt, place.vertex(s)),
+        b'e' => shown_edge(rt, place.edge(s)),
+        b'c' => shown_edge(rt, place.claim(s)),
+        _ => shown_coefficient(rt, place.coefficient_claim(s)),
     }
 }
 
 // The record from `at` to the LF at `end`.
-fn read_record(s: &[u8], at: usize, end: usize)
+fn read_record(rt: &impl Print, s: &[u8], at: usize, end: usize) -> io::Result<()>
     requires { (at < length s.now) × (end ≤ length s.now) }
 {
     let kind = s[at];
     if kind < b'a' {
-        read_line(&s[..end], at + 1, kind + 32);
+        read_line(rt, &s[..end], at + 1, kind + 32)
     } else {
-        read_line(s, at + 1, kind);
+        read_line(rt, s, at + 1, kind)
     }
 }
 
 // All records, one after the other.
-fn read_records(s: &[u8]) {
+fn read_records(rt: &impl Print, s: &[u8]) -> io::Result<()> {
     let mut at = 0;
     while at < s.len() {
         let end = line_end(s, at);
-        read_record(s, at, end);
+        read_record(rt, s, at, end)?;
         at = end + 1;
     }
+    Ok(())
 }
 
-fn main() {
+// Reads until `bytes` is full or the input ends, and says how many bytes it put at the start of `bytes`.
+fn read_full(input: &mut impl Read, bytes: &mut [u8]) -> io::Result<usize>
+    ensures { IfOk result (λ n. n ≤ length bytes.new) }
+{
+    let mut done = 0;
+    while done < bytes.len() {
+        let n = input.read(&mut bytes[done..])?;
+        if n == 0 {
+            break;
+        }
+        done += n;
+    }
+    Ok(done)
+}
+
+fn main(rt: HostRuntime) -> io::Result<()> {
     let mut bytes = [0u8; MOST];
-    let n = io::read_full(STDIN_FILENO, &mut bytes);
-    read_records(&bytes[..n]);
+    let n = read_full(&mut rt.stdin(), &mut bytes)?;
+    read_records(&rt, &bytes[..n])
 }

@@ -2,11 +2,13 @@
 // reads 65,537 bytes, one more than a sheet may have, and they print what the whole of it prints (`sheet` `Room.cut-prints`).
 #![tactic(auto)]
 
-ghost use Rattle.std.specs.Prelude.{◌≡◌, length};
+ghost use Rattle.std.specs.Prelude.{◌≡◌, ◌≤◌, IfOk, length};
 ghost use Rattle.desk.specs.Whole.{area_places, SheetAreas, Whole};
 
 use plan::sections::MOST_BYTES;
 use sheet::answer;
+use std::io;
+use std::io::Read;
 
 // How many places the area for the output has: enough for the longest output of a sheet.
 const AREA: usize = 760000;
@@ -28,9 +30,24 @@ fn output<'b, 'o>(bytes: &'b [u8], n: usize, out: &'o mut [u8]) -> &'o [u8]
     &whole[..m]
 }
 
-fn main() {
+// Reads until `bytes` is full or the input ends, and says how many bytes it put at the start of `bytes`.
+fn read_full(input: &mut impl Read, bytes: &mut [u8]) -> io::Result<usize>
+    ensures { IfOk result (λ n. n ≤ length bytes.new) }
+{
+    let mut done = 0;
+    while done < bytes.len() {
+        let n = input.read(&mut bytes[done..])?;
+        if n == 0 {
+            break;
+        }
+        done += n;
+    }
+    Ok(done)
+}
+
+fn main(rt: HostRuntime) -> io::Result<()> {
     let mut bytes = [0u8; MOST_BYTES + 1];
     let mut out = area();
-    let n = io::read_full(0, &mut bytes);
-    io::write_all(1, output(&bytes, n, &mut out));
+    let n = read_full(&mut rt.stdin(), &mut bytes)?;
+    rt.write_all(output(&bytes, n, &mut out))
 }

@@ -2,7 +2,7 @@
 ghost use Rattle.graph.specs.Find.{Searched};
 
 // The place of an identifier in a list, or that it isn't there.
-#[derive(Drop)]
+#[derive(Clone, Copy)]
 pub enum Found {
     At(usize),
     Missing,

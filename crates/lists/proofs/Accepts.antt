@@ -115,7 +115,7 @@ module _ (undirected : Bool) (ids : List ℤ) where
   chain-cons first e es = refl
   chain-cons (after d) e es = refl
 
-  not-off : (t : Bool) → t ≡ false → t ≡ false
+  not-off : (t : Bool) → t ≡ false → not t ≡ true
   not-off t h = rw h
 
   clauses-of : (before : Before (ℤ × ℤ)) (es : List (ℤ × ℤ)) → Passes (edge_test undirected (place_in ids)) before es → Clauses before es

@@ -51,9 +51,9 @@ module _ (a b : ℕ) (s : Decimal) where
   unfolding near_within
   near-below h = rw (le-ltb b (2 ^ 32) (omega arith)) (sym (and-off (ltb a (2 ^ 32)) false refl))
 
-  pub near_within : a ≤ 4294967295 → b ≤ 4294967295 → (r : Bool) → r ≡ is_close a b s → r ≡ near_within (a, b) s
+  pub near_within_lem : a ≤ 4294967295 → b ≤ 4294967295 → (r : Bool) → r ≡ is_close a b s → r ≡ near_within (a, b) s
   unfolding near_within
-  near_within h g r e = rw (lt-ltb a (2 ^ 32) (omega arith), lt-ltb b (2 ^ 32) (omega arith)) e
+  near_within_lem h g r e = rw (lt-ltb a (2 ^ 32) (omega arith), lt-ltb b (2 ^ 32) (omega arith)) e
 
 -- ---- the lines: k of them are done, up to a place
 -- a vertex has no claim line yet, or its decimal is near

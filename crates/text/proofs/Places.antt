@@ -18,7 +18,8 @@ use Rattle.basis.proofs.Minus.{mag-minus}
 use Rattle.text.specs.Word.{Word, malformed, outside, value, well_formed, ranged_of, count_of, signed_of, after_minus, ident_of}
 use Rattle.text.specs.Bytes.{lf, space}
 use Rattle.text.specs.Line.{LineSaid, line, none, fault, up_to, past, Form, column_in}
-use Rattle.text.specs.Line.{line_says, line_by, both, two_of, ident_form, pair_form, edge_line}
+use Rattle.text.specs.Line.{line_says, line_by, both, two_of, ident_form, pair_form, decimal_form, edge_line, coefficient_line}
+use Rattle.text.specs.declared.decimal.Decimal.{Decimal}
 use Rattle.text.specs.Scan.{Scanned, has_at, ident_at, closed, field_at, scan_says}
 use Rattle.text.specs.declared.ident.Scan.{Scan}
 use Rattle.text.specs.declared.ident.Scan.TheVariants as S
@@ -199,3 +200,6 @@ module _ (s : List ℕ) (at : ℕ) where
       let h : mag u < 2 ^ 63
       × Unit {0} = rw e at (line-has (Pairs Small Any) (pair_form form) s at (two-has Any form.word (λ bs. any-has (form.word bs)))) in
       h.0
+
+  pub coefficient-range : (u : ℤ) (d : Decimal) (q : ℕ) → coefficient_line s at ≡ line (u, d) q → mag u < 2 ^ 63
+  coefficient-range u d q e = pair-range decimal_form u d q e

@@ -1,10 +1,7 @@
 use borrow.Author.Rules.{rules}
-use mathlib.Core.Path.{◌≡◌, refl, sym, ◌∙◌}
-use Prim.Native.Nat.{◌≤◌, ◌<◌, ◌-◌}
+use mathlib.Core.Path.{refl, sym, ◌∙◌}
 use native.Mathlib.Omega.{arith}
-use lib.ListN.{length}
-use Rattle.book.specs.Rules.{most_moves, walk, walk_from}
-use Rattle.book.specs.One.{next_here}
+use Rattle.book.specs.Rules.{walk_from}
 use Rattle.book.proofs.Walked.{loop-found, loop-late, loop-out, loop-moves}
 use Rattle.book.proofs.walk.Goals as goal
 

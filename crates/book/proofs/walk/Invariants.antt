@@ -1,11 +1,8 @@
-use borrow.Author.Rules.{rules}
-use mathlib.Core.Path.{◌≡◌, refl, sym, ◌∙◌}
+use mathlib.Core.Path.{◌≡◌}
 use Prim.Native.Nat.{◌≤◌, ◌<◌, ◌-◌}
-use native.Mathlib.Omega.{arith}
 use lib.ListN.{length}
 use Rattle.book.specs.Rules.{most_moves, walk, walk_from}
 use Rattle.book.specs.One.{next_here}
-use Rattle.book.proofs.Walked.{loop-found, loop-late, loop-out, loop-moves}
 use Rattle.book.proofs.walk.Given as goal
 
 abbrev pub invariant-loop-v : goal.invariant-loop-v

@@ -2,7 +2,6 @@ use mir.Facts.{to_z-of_z}
 use Rattle.basis.proofs.Tests.{held}
 use Rattle.graph.proofs.Walks.{check-told}
 use Rattle.cdlp.proofs.Calls.{call-unsound, call-refused, call-short, call-done, rounds-cast}
-use borrow.Author.Rules.{rules}
 use Rattle.cdlp.proofs.cdlp.Goals as goal
 
 pub returns-then-not-sound_over : goal.returns-then-not-sound_over

@@ -1,4 +1,3 @@
-use borrow.Author.Rules.{rules}
 use Rattle.cdlp.proofs.Calls.{works}
 use Rattle.cdlp.proofs.clear_work.Goals as goal
 

@@ -1,4 +1,3 @@
-use borrow.Author.Rules.{rules}
 use Rattle.cdlp.proofs.Calls.{lent-result, lent-labels, lent-next, lent-counts, taken-result}
 use Rattle.cdlp.proofs.Calls.{taken-labels, taken_next, taken-counts, fitting-of, fill-all}
 use Rattle.cdlp.proofs.fill.Goals as goal

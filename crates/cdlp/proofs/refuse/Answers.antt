@@ -1,4 +1,3 @@
-use borrow.Author.Rules.{rules}
 use Rattle.cdlp.proofs.Calls.{refuse-all}
 use Rattle.cdlp.proofs.refuse.Goals as goal
 

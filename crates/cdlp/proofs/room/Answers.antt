@@ -1,4 +1,3 @@
-use borrow.Author.Rules.{rules}
 use Rattle.cdlp.proofs.Calls.{room-all}
 use Rattle.cdlp.proofs.room.Goals as goal
 

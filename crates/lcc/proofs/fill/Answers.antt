@@ -1,5 +1,4 @@
 use Rattle.lcc.proofs.Calls.{writable-of, fill-all}
-use borrow.Author.Rules.{rules}
 use Rattle.lcc.proofs.fill.Goals as goal
 
 pub coefficients-requires : goal.coefficients-requires

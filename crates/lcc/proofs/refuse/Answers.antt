@@ -1,5 +1,4 @@
 use Rattle.lcc.proofs.Calls.{refuse-all}
-use borrow.Author.Rules.{rules}
 use Rattle.lcc.proofs.refuse.Goals as goal
 
 pub returns : goal.returns

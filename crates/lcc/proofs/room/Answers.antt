@@ -1,4 +1,3 @@
-use borrow.Author.Rules.{rules}
 use Rattle.lcc.proofs.Calls.{room-all}
 use Rattle.lcc.proofs.room.Goals as goal
 

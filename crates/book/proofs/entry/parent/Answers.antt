@@ -3,7 +3,7 @@ use borrow.Author.Rules.{rules}
 use Rattle.book.proofs.entry.parent.Goals as goal
 
 pub overflow_cast-result : goal.overflow_cast-result
-overflow_cast-result c = parent-cast _ _ c.result-1.given c.requires.1
+overflow_cast-result c = search (rules, parent-cast)
 
 pub returns : goal.returns
 returns c = search parent_is

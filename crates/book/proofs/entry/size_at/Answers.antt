@@ -12,7 +12,7 @@ pub overflow_sub-result : goal.overflow_sub-result
 overflow_sub-result c = search size_fits
 
 pub overflow_cast-result : goal.overflow_cast-result
-overflow_cast-result c = size-cast _ _ c.entry-1.given c.requires c.if-entry-entries.false
+overflow_cast-result c = search (rules, size-cast)
 
 pub returns : goal.returns
 returns c = search size-read

@@ -1,5 +1,4 @@
 use Rattle.book.proofs.Joins.{one-refused, one-linked, one-first, one-second}
-use borrow.Author.Rules.{rules}
 use Rattle.book.proofs.joining.join.Goals as goal
 
 pub link-requires : goal.link-requires

@@ -1,14 +1,9 @@
-use borrow.Author.Rules.{rules}
-use mathlib.Core.Path.{◌≡◌, refl}
+use mathlib.Core.Path.{◌≡◌}
 use Prim.Native.Nat.{◌≤◌, ◌-◌}
-use native.Mathlib.Omega.{arith}
 use lib.ListN.{length, drop}
 use Rattle.book.specs.Rules.{behind, join_each}
 use Rattle.book.specs.One.{one_book}
 use Rattle.book.specs.Steps.{Walking}
-use Rattle.book.proofs.Walked.{lent-within}
-use Rattle.book.proofs.Each.{each_none, each-unlent, each-missing, walking_start, walking_on}
-use Rattle.book.proofs.Each.{walking-stays, behind-none, each-merged, each-already, each-refused, each-end}
 use Rattle.book.proofs.joining.join_each.Given as goal
 
 abbrev pub invariant-loop-i : goal.invariant-loop-i

@@ -7,9 +7,8 @@ returns-then-g-h c = search one-already
 
 pub returns-then-entries-a : goal.returns-then-entries-a
 returns-then-entries-a c =
-    let i = c.before.before.before.before.before.before in
-    let p = i.before.requires in
-    one-unsound _ _ _ p.0 p.1 i.if1.false _ _ c.size_at-a.ensures
+    let p = c.requires in
+    one-unsound _ _ _ p.0 p.1 c.if-g-h.false _ _ c.size_at-a.ensures
     c.size_at-b.ensures _ c.if-entries-a.true c.plain.ensures
 
 pub hang-requires : goal.hang-requires

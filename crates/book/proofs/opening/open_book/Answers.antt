@@ -1,5 +1,4 @@
 use Rattle.book.proofs.Areas.{open-unlent, open-ready}
-use borrow.Author.Rules.{rules}
 use Rattle.book.proofs.opening.open_book.Goals as goal
 
 pub returns-then-not-well_lent : goal.returns-then-not-well_lent

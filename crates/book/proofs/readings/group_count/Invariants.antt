@@ -1,12 +1,7 @@
-use borrow.Author.Rules.{rules}
-use mathlib.Core.Path.{◌≡◌, refl}
-use mathlib.Core.Logic.{⊎_elim}
+use mathlib.Core.Path.{◌≡◌}
 use Prim.Native.Nat.{◌≤◌, ◌-◌}
-use native.Mathlib.Omega.{arith}
 use Rattle.book.specs.Rules.{tally, is_stop}
-use Rattle.book.specs.One.{next_here, one}
-use Rattle.book.proofs.Tally.{tally-le}
-use Rattle.book.proofs.Calls.{count-unlent, count_head, count-other, count-is}
+use Rattle.book.specs.One.{next_here}
 use Rattle.book.proofs.readings.group_count.Given as goal
 
 abbrev pub invariant-loop-i : goal.invariant-loop-i

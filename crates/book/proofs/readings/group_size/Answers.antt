@@ -1,6 +1,5 @@
 use Rattle.book.proofs.Calls.{size-refused}
 use Rattle.book.proofs.Areas.{head_read, read-large, read_is}
-use borrow.Author.Rules.{rules}
 use Rattle.book.proofs.readings.group_size.Goals as goal
 
 pub size_at-s-requires : goal.size_at-s-requires

@@ -1,6 +1,5 @@
 use native.Mathlib.Omega.{arith}
 use Rattle.book.proofs.Powers.{largest-leading}
-use borrow.Author.Rules.{rules}
 use Rattle.book.proofs.readings.power_below.Goals as goal
 
 pub overflow_sub-result : goal.overflow_sub-result

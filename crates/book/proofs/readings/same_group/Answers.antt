@@ -1,5 +1,4 @@
 use Rattle.book.proofs.Calls.{same-yes, same-no, same-refused}
-use borrow.Author.Rules.{rules}
 use Rattle.book.proofs.readings.same_group.Goals as goal
 
 pub returns-then-g-h : goal.returns-then-g-h

@@ -1,6 +1,5 @@
 use Rattle.book.proofs.Calls.{limit_is, limit-refused}
 use Rattle.book.proofs.Areas.{limit-positive, limit-within}
-use borrow.Author.Rules.{rules}
 use Rattle.book.proofs.readings.step_limit.Goals as goal
 
 pub power_below-requires : goal.power_below-requires

@@ -1,13 +1,8 @@
-use Prim.Native.Nat.{ℕ, ◌-◌, ◌≤◌, ◌<◌}
-use mathlib.Core.List.{List}
-use mathlib.Core.Path.{◌≡◌, ◌∙◌}
-use borrow.Author.Rules.{rules}
-use native.Mathlib.Omega.{arith}
-use lib.ListN.{length, get_or, drop, length-set}
-use Rattle.basis.proofs.Scans.{below_at}
+use Prim.Native.Nat.{◌-◌, ◌≤◌}
+use mathlib.Core.Path.{◌≡◌}
+use lib.ListN.{length, drop}
 use Rattle.cdlp.specs.Rounds.{labels_at}
 use Rattle.cdlp.specs.Steps.{forgotten}
-use Rattle.cdlp.proofs.Polls.{forget-more, forget-end}
 use Rattle.cdlp.proofs.label.forget.Given as goal
 
 abbrev pub invariant-loop-i : goal.invariant-loop-i

@@ -1,14 +1,9 @@
-use Prim.Native.Nat.{ℕ, ◌+◌, ◌-◌, ◌≤◌, ◌<◌}
-use mathlib.Core.List.{List}
-use mathlib.Core.Path.{◌≡◌, ◌∙◌}
-use borrow.Author.Rules.{rules}
-use native.Mathlib.Omega.{arith}
-use lib.ListN.{length, get_or, drop, length-set}
-use Rattle.basis.proofs.Scans.{below_at}
+use Prim.Native.Nat.{◌+◌, ◌-◌, ◌≤◌}
+use mathlib.Core.Path.{◌≡◌}
+use lib.ListN.{length, drop}
 use Rattle.cdlp.specs.Rounds.{labels_at}
 use Rattle.basis.specs.Limits.{most_vertices}
 use Rattle.cdlp.specs.Steps.{Under, poll, polled_all}
-use Rattle.cdlp.proofs.Polls.{hear-more, hear-end, under_more}
 use Rattle.cdlp.proofs.label.hear.Given as goal
 
 abbrev pub invariant-loop-i : goal.invariant-loop-i

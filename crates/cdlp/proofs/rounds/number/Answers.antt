@@ -1,17 +1,9 @@
-use Prim.Native.Nat.{ℕ, ◌-◌, ◌≤◌}
-use mathlib.Core.List.{◌++◌}
-use mathlib.Core.Path.{◌≡◌, refl, ◌∙◌}
-use borrow.Author.Rules.{rules}
+use mathlib.Core.Path.{refl, ◌∙◌}
 use native.Mathlib.Omega.{arith}
-use lib.ListN.{length, drop, length-set}
-use Rattle.basis.specs.Area.{column}
+use lib.ListN.{length, length-set}
 use Rattle.basis.proofs.Areas.{column-none, column-more, column-end}
+use Rattle.cdlp.proofs.rounds.number.Invariants.{own}
 use Rattle.cdlp.proofs.rounds.number.Goals as goal
-
--- a vertex's own number
-abbrev own : ℕ → ℕ
-
-own v = v
 
 pub loop-v-init : goal.loop-v-init
 loop-v-init c = (refl, omega arith, column-none own c.args.labels.now)

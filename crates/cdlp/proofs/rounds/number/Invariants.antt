@@ -1,12 +1,13 @@
 use Prim.Native.Nat.{ℕ, ◌-◌, ◌≤◌}
 use mathlib.Core.List.{◌++◌}
-use mathlib.Core.Path.{◌≡◌, refl, ◌∙◌}
-use borrow.Author.Rules.{rules}
-use native.Mathlib.Omega.{arith}
-use lib.ListN.{length, drop, length-set}
+use mathlib.Core.Path.{◌≡◌}
+use lib.ListN.{length, drop}
 use Rattle.basis.specs.Area.{column}
-use Rattle.basis.proofs.Areas.{column-none, column-more, column-end}
 use Rattle.cdlp.proofs.rounds.number.Given as goal
+
+-- a vertex's own number
+abbrev pub own : ℕ → ℕ
+own v = v
 
 abbrev pub invariant-loop-v : goal.invariant-loop-v
 invariant-loop-v l =

@@ -1,4 +1,3 @@
-use borrow.Author.Rules.{rules}
 use Rattle.cdlp.proofs.Runs.{run-runnable, run-nameable, run-named}
 use Rattle.cdlp.proofs.rounds.propagate.Goals as goal
 

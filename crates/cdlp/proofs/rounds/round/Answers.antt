@@ -1,9 +1,7 @@
-use Prim.Native.Nat.{◌-◌, ◌≤◌}
-use mathlib.Core.Path.{◌≡◌, refl, ap, ◌∙◌}
-use borrow.Author.Rules.{rules}
+use mathlib.Core.Path.{refl, ap, ◌∙◌}
 use native.Mathlib.Omega.{arith}
 use lib.ListN.{length, length-set}
-use Rattle.cdlp.proofs.Turns.{two-parts-of, Filled, filled_none, filled_more, filled-all}
+use Rattle.cdlp.proofs.Turns.{two-parts-of, filled_none, filled_more, filled-all}
 use Rattle.cdlp.proofs.rounds.round.Goals as goal
 
 pub loop-v-init : goal.loop-v-init
@@ -31,6 +29,6 @@ shape_of-counts c = ap length c.loop-v.invariant.2
 
 pub returns : goal.returns
 returns c = record {
-      next = search filled-all;
-      counts = c.loop-v.invariant.2;
-    }
+  next = search filled-all;
+  counts = c.loop-v.invariant.2;
+}

@@ -1,9 +1,7 @@
 use Prim.Native.Nat.{◌-◌, ◌≤◌}
-use mathlib.Core.Path.{◌≡◌, refl, ap, ◌∙◌}
-use borrow.Author.Rules.{rules}
-use native.Mathlib.Omega.{arith}
-use lib.ListN.{length, length-set}
-use Rattle.cdlp.proofs.Turns.{two-parts-of, Filled, filled_none, filled_more, filled-all}
+use mathlib.Core.Path.{◌≡◌}
+use lib.ListN.{length}
+use Rattle.cdlp.proofs.Turns.{Filled}
 use Rattle.cdlp.proofs.rounds.round.Given as goal
 
 abbrev pub invariant-loop-v : goal.invariant-loop-v

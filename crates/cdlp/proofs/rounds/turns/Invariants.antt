@@ -1,10 +1,7 @@
 use Prim.Native.Nat.{◌-◌, ◌≤◌}
-use mathlib.Core.Path.{◌≡◌, refl, ap, ◌∙◌}
-use borrow.Author.Rules.{rules}
-use native.Mathlib.Omega.{arith}
+use mathlib.Core.Path.{◌≡◌}
 use lib.ListN.{length}
 use Rattle.cdlp.specs.Steps.{numbers_after}
-use Rattle.cdlp.proofs.Turns.{runnable-on, round-on, round-none}
 use Rattle.cdlp.proofs.rounds.turns.Given as goal
 
 abbrev pub invariant-loop-done : goal.invariant-loop-done

@@ -13,9 +13,9 @@ returns-then-not-sides_sound c = search (checks, graph-sides, failed)
 
 pub reversed-answer-requires : goal.reversed-answer-requires
 reversed-answer-requires c = record {
-      ways = sides-told _ _ _ _ _ _ (held _ _ c.sides_sound.ensures c.if-not-sides_sound.false);
-      n_in_bounds = omega arith;
-    }
+  ways = sides-told _ _ _ _ _ _ (held _ _ c.sides_sound.ensures c.if-not-sides_sound.false);
+  n_in_bounds = omega arith;
+}
 
 pub returns : goal.returns
 returns c = search (checks-late, graph-ways, held)

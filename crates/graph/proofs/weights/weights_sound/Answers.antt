@@ -24,9 +24,9 @@ returns-then-cursors-size c = search weights-told
 
 pub legs_walked-requires : goal.legs_walked-requires
 legs_walked-requires c = record {
-      beside = search weights-beside;
-      vertices_in_bounds = omega arith;
-    }
+  beside = search weights-beside;
+  vertices_in_bounds = omega arith;
+}
 
 pub returns : goal.returns
 returns c = search weights-told

@@ -1,4 +1,3 @@
-use borrow.Author.Rules.{rules}
 use Rattle.lcc.proofs.Ratios.{reduce-by, reduce-none}
 use Rattle.lcc.proofs.ratio.reduced.Goals as goal
 

@@ -1,0 +1,6 @@
+use Rattle.listing.proofs.Lines.{numbers-put}
+use borrow.Author.Rules.{rules}
+use Rattle.listing.proofs.refused.put_numbers.Goals as goal
+
+pub returns : goal.returns
+returns c = search numbers-put

@@ -1,0 +1,6 @@
+use Rattle.listing.proofs.Lines.{spaced-put}
+use borrow.Author.Rules.{rules}
+use Rattle.listing.proofs.refused.put_spaced.Goals as goal
+
+pub returns : goal.returns
+returns c = search spaced-put

@@ -1,0 +1,6 @@
+use Rattle.listing.proofs.Lines.{fraction-put}
+use borrow.Author.Rules.{rules}
+use Rattle.listing.proofs.results.put_fraction.Goals as goal
+
+pub returns : goal.returns
+returns c = search fraction-put

@@ -1,0 +1,18 @@
+use Rattle.lists.proofs.Reading.{edge-end, edge-bad, edge-fault, edge-unknown, edge_more}
+use borrow.Author.Rules.{rules}
+use Rattle.lists.proofs.edges.edge_step.Goals as goal
+
+pub returns-then-fault-ne0 : goal.returns-then-fault-ne0
+returns-then-fault-ne0 c = search (edge-fault, rules, c.if-fault-ne0.true)
+
+pub returns-in-End : goal.returns-in-End
+returns-in-End c = search edge-end
+
+pub returns-in-Fault : goal.returns-in-Fault
+returns-in-Fault c = search edge-bad
+
+pub returns-in-Unknown : goal.returns-in-Unknown
+returns-in-Unknown c = search (edge-unknown, rules)
+
+pub returns-in-Known : goal.returns-in-Known
+returns-in-Known c = search (edge_more, rules)

@@ -1,0 +1,25 @@
+use borrow.Author.Rules.{rules}
+use Rattle.lists.proofs.Gathers.{Gathering, gathering-start, gathering-few, gathering-more, gathering-less, gathering-stop}
+use Prim.Native.Nat.{◌-◌, ◌<◌, ◌^◌}
+use native.Mathlib.Omega.{arith}
+use lib.ListN.{length}
+use Rattle.graph.specs.Find.{bisected}
+use Rattle.lists.proofs.edges.scan_edges.Goals as goal
+
+pub loop-u-init : goal.loop-u-init
+loop-u-init c = search gathering-start
+
+pub overflow_add-degree : goal.overflow_add-degree
+overflow_add-degree c =
+    let h : length c.args.s.now
+    < 2 ^ 64 = omega arith in
+    record { fits = search gathering-few }
+
+pub loop-u-smaller : goal.loop-u-smaller
+loop-u-smaller c = search gathering-less
+
+pub loop-u-preserved : goal.loop-u-preserved
+loop-u-preserved c = search gathering-more
+
+pub returns-in-Stop : goal.returns-in-Stop
+returns-in-Stop c = search gathering-stop

@@ -1,0 +1,6 @@
+use Rattle.load.proofs.Loads.{capped-both}
+use borrow.Author.Rules.{rules}
+use Rattle.load.proofs.capped.Goals as goal
+
+pub returns : goal.returns
+returns c = search capped-both

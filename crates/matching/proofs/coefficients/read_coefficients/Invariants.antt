@@ -1,0 +1,14 @@
+use borrow.Author.Rules.{rules}
+use Prim.Native.Nat.{◌-◌}
+use lib.ListN.{length}
+use Rattle.matching.proofs.NumberLines.{named-within}
+use Rattle.matching.proofs.DecimalLines.{Decimals, decimals-none, decimals-far, decimals-next, decimals-end, decimals-fault}
+use Rattle.matching.proofs.DecimalLines.{decimals-over, decimals-full}
+use Rattle.matching.proofs.coefficients.read_coefficients.Given as goal
+
+abbrev pub invariant-loop-k : goal.invariant-loop-k
+invariant-loop-k l =
+    Decimals l.most l.ids l.numerators l.denominators l.claim (length l.initial.lines) l.lines l.cursor.at l.k l.stray l.far
+
+abbrev pub decreases-loop-k : goal.decreases-loop-k
+decreases-loop-k l = l.most - l.k

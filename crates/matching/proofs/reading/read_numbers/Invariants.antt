@@ -1,0 +1,14 @@
+use native.Mathlib.Omega.{arith}
+use borrow.Author.Rules.{rules}
+use Prim.Native.Nat.{◌-◌}
+use lib.ListN.{length}
+use Rattle.matching.proofs.NumberLines.{Numbers, numbers-none, numbers-next, numbers-end, numbers-fault, numbers-over}
+use Rattle.matching.proofs.NumberLines.{numbers-full, named-within}
+use Rattle.matching.proofs.reading.read_numbers.Given as goal
+
+abbrev pub invariant-loop-k : goal.invariant-loop-k
+invariant-loop-k l =
+    Numbers l.most l.ids l.claim (length l.initial.claimed) (length l.initial.lines) l.claimed l.lines l.cursor.at l.k l.stray
+
+abbrev pub decreases-loop-k : goal.decreases-loop-k
+decreases-loop-k l = l.most - l.k

@@ -1,0 +1,6 @@
+use Rattle.matching.proofs.Records.{reported-line}
+use borrow.Author.Rules.{rules}
+use Rattle.matching.proofs.reading.reported.Goals as goal
+
+pub returns : goal.returns
+returns c = search reported-line
