@@ -6,8 +6,11 @@ use Rattle.verdicts.proofs.each.on_bfs.Goals as goal
 pub numbers_on-requires : goal.numbers_on-requires
 numbers_on-requires c =
     let e = c.bfs-answer.ensures in
-    let p = to_z-of_z c.fits.root in
-    (bfs-known _ _ p _ _ e, (bfs-roomy _ _ p _ _ e c.pre.0.0, c.pre.0.1, c.pre.0.2))
+    let p = to_z-of_z c.ranges.root in
+    record {
+      known = bfs-known _ _ p _ _ e;
+      roomy = (bfs-roomy _ _ p _ _ e c.requires.roomy.0, c.requires.roomy.1, c.requires.roomy.2);
+    }
 
 pub returns : goal.returns
 returns c = record {

@@ -6,13 +6,16 @@ use Rattle.verdicts.proofs.each.on_cdlp.Goals as goal
 pub numbers_on-requires : goal.numbers_on-requires
 numbers_on-requires c =
     let e = c.cdlp-answer.ensures in
-    let p = to_z-of_z c.fits.iterations in
-    (cdlp-known _ _ p _ _ _ _ e, (cdlp-roomy _ _ p _ _ _ _ e c.pre.0.0, c.pre.0.1, c.pre.0.2))
+    let p = to_z-of_z c.ranges.iterations in
+    record {
+      known = cdlp-known _ _ p _ _ _ _ e;
+      roomy = (cdlp-roomy _ _ p _ _ _ _ e c.requires.roomy.0, c.requires.roomy.1, c.requires.roomy.2);
+    }
 
 pub returns : goal.returns
 returns c =
     let e = c.cdlp-answer.ensures in
-    let p = to_z-of_z c.fits.iterations in (
-      cdlp-verdict _ _ p _ _ _ _ e c.pre.0.0 c.pre.1 _ _ _ _ c.Numbers-on.ensures,
-      cdlp-cleared _ _ p _ _ _ _ e,
-    )
+    let p = to_z-of_z c.ranges.iterations in record {
+      lines_after = cdlp-verdict _ _ p _ _ _ _ e c.requires.roomy.0 c.requires.roomy_2 _ _ _ _ c.numbers_on.ensures;
+      labels_after = cdlp-cleared _ _ p _ _ _ _ e;
+    }

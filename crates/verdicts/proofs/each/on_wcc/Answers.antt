@@ -7,7 +7,7 @@ numbers_on-requires c =
     let e = c.wcc-answer.ensures in
     record {
       known = wcc-known _ _ _ e;
-      roomy = (wcc-roomy _ _ _ e c.pre.0.0, c.pre.0.1, c.pre.0.2);
+      roomy = (wcc-roomy _ _ _ e c.requires.roomy.0, c.requires.roomy.1, c.requires.roomy.2);
     }
 
 pub returns : goal.returns

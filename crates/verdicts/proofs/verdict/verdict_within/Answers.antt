@@ -21,7 +21,7 @@ on_wcc-requires c =
     let h = roomy _ _ _ _ _ _ _ c.has_room-room.ensures in
     record {
       roomy = (h.0.0, h.0.1, h.2);
-      roomy_2 = h.1.lines_after;
+      roomy_2 = h.1.0;
     }
 
 pub returns-then-kernel-eq-WCC : goal.returns-then-kernel-eq-WCC
@@ -47,7 +47,7 @@ pub on_lcc-requires : goal.on_lcc-requires
 on_lcc-requires c =
     let h = roomy _ _ _ _ _ _ _ c.has_room-room.ensures in
     record {
-      roomy = (h.1.lines_after, h.1.1, h.2);
+      roomy = (h.1.0, h.1.1, h.2);
       roomy_2 = h.1.2;
     }
 
@@ -59,5 +59,5 @@ returns-then-kernel-eq-LCC c =
 
 pub returns : goal.returns
 returns c =
-    verdict-unknown _ _ _ _ _ _ _ _ _ _ _ c.if-kernel-eq-BFS.left c.if-kernel-eq-WCC.left c.if-kernel-eq-CDLP.left
-    c.if-kernel-eq-LCC.left c.refuse_unknown.ensures
+    verdict-unknown _ _ _ _ _ _ _ _ _ _ _ c.if-kernel-eq-BFS.false c.if-kernel-eq-WCC.false c.if-kernel-eq-CDLP.false
+    c.if-kernel-eq-LCC.false c.refuse_unknown.ensures
