@@ -1,0 +1,12 @@
+use Rattle.trace.proofs.Codes.{coded-refused}
+use mathlib.Core.Path.{ap}
+use Rattle.book.specs.Says.{says_reading}
+use Rattle.trace.specs.Book.{reading_value}
+use borrow.Author.Rules.{rules}
+use Rattle.trace.proofs.code.reading_code.Goals as goal
+
+pub refusal_code-requires : goal.refusal_code-requires
+refusal_code-requires c = (c.requires.refusals _ (ap says_reading c.in-Refused.is)).1
+
+pub returns-in-Refused : goal.returns-in-Refused
+returns-in-Refused c = coded-refused reading_value _ _ _ (ap says_reading c.in-Refused.is) c.refusal_code.ensures

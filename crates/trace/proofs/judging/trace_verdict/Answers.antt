@@ -1,0 +1,28 @@
+use mathlib.Core.Path.{refl}
+use mir.Facts.{to_z-of_z}
+use native.Mathlib.Omega.{arith}
+use Rattle.trace.specs.Code.{narrow, Small}
+use Rattle.trace.proofs.Hosts.{host-unknown, host-refused-small, host-refused, host-judged}
+use borrow.Author.Rules.{rules}
+use Rattle.trace.proofs.judging.trace_verdict.Goals as goal
+
+pub host_code-requires : goal.host_code-requires
+host_code-requires c = rw c.plain.ensures (record { number = omega arith; file = omega arith; line = omega arith })
+
+pub returns-then-not-is_known : goal.returns-then-not-is_known
+returns-then-not-is_known c = search host-unknown
+
+pub host_code-requires-in-Refused : goal.host_code-requires-in-Refused
+host_code-requires-in-Refused c =
+    let s : Small narrow c.in-Refused.r = search host-refused-small in
+    record { number = omega arith; file = omega arith; line = omega arith }
+
+pub returns-in-Refused : goal.returns-in-Refused
+returns-in-Refused c = search host-refused
+
+pub returns-in-Graph : goal.returns-in-Graph
+returns-in-Graph c =
+    host-judged _ _ _ _ _ _ _ c.is_known.ensures
+    c.if-not-is_known.false _ _ _ _ _ _
+    c.in-Graph.ensures _ refl _
+    (to_z-of_z c.ranges.parameter) _ c.judge_loaded.ensures
