@@ -174,7 +174,23 @@ use Rattle.trace.specs.contracts.judging.trace_judge as trace-trace_judge
 use Rattle.trace.proofs.judging.trace_judge.Reads as trace-trace_judge-reads
 use Rattle.trace.specs.contracts.judging.trace_verdict as trace-trace_verdict
 use Rattle.trace.proofs.judging.trace_verdict.Reads as trace-trace_verdict-reads
-use Rattle.text.proofs.Saids.{count-one, scan-one, vertex-one, edge-one, coefficient-one}
+use Rattle.graph.specs.contracts.weights.is_weighted as graph-is_weighted
+use Rattle.graph.proofs.weights.is_weighted.Reads as graph-is_weighted-reads
+use Rattle.graph.specs.contracts.weights.weighted_sound_over as graph-weighted_sound_over
+use Rattle.graph.proofs.weights.weighted_sound_over.Reads as graph-weighted_sound_over-reads
+use Rattle.sssp.specs.contracts.sssp as sssp-sssp
+use Rattle.sssp.proofs.sssp.Reads as sssp-sssp-reads
+use Rattle.store.specs.contracts.weigh.spread_weighed as store-spread_weighed
+use Rattle.store.proofs.weigh.spread_weighed.Reads as store-spread_weighed-reads
+use Rattle.text.specs.contracts.line.Cursor.distance_claim as text-distance_claim
+use Rattle.text.proofs.line.Cursor.distance_claim.Reads as text-distance_claim-reads
+use Rattle.text.specs.contracts.line.has_weights as text-has_weights
+use Rattle.text.proofs.line.has_weights.Reads as text-has_weights-reads
+use Rattle.text.specs.contracts.line.Cursor.listed_edge as text-listed_edge
+use Rattle.text.proofs.line.Cursor.listed_edge.Reads as text-listed_edge-reads
+use Rattle.write.specs.contracts.millionths.put_millionths as write-put_millionths
+use Rattle.write.proofs.millionths.put_millionths.Reads as write-put_millionths-reads
+use Rattle.text.proofs.Saids.{count-one, scan-one, vertex-one, edge-one, coefficient-one, weighed-one, distance-one}
 use Rattle.graph.proofs.Finds.{searched-is}
 use Rattle.book.proofs.Answers.{one-opened, one-joined, one-joined_each, one-headed, one-compared, one-reading}
 use Rattle.plan.proofs.Saids.{job_one, checked-one}
@@ -326,6 +342,27 @@ text-coefficient_claim-one = record {
   one = λ _ _ z z' _ _ p q. (coefficient-one z z' (meet p q), refl);
 }
 
+pub text-listed_edge-one : One text-listed_edge.ended (λ M 𝓤 𝓛. text-listed_edge.clauses 𝓛)
+text-listed_edge-one = record {
+  promise = text-listed_edge-reads.Learnt;
+  told = refl;
+  one = λ _ _ z z' _ _ p q. (weighed-one z z' (meet p q), refl);
+}
+
+pub text-distance_claim-one : One text-distance_claim.ended (λ M 𝓤 𝓛. text-distance_claim.clauses 𝓛)
+text-distance_claim-one = record {
+  promise = text-distance_claim-reads.Learnt;
+  told = refl;
+  one = λ _ _ z z' _ _ p q. (distance-one z z' (meet p q), refl);
+}
+
+pub text-has_weights-one : One text-has_weights.ended (λ M 𝓤 𝓛. text-has_weights.clauses 𝓛)
+text-has_weights-one = record {
+  promise = text-has_weights-reads.Learnt;
+  told = refl;
+  one = λ _ _ _ _ _ _ p q. (meet p q, refl);
+}
+
 -- ---- write
 pub write-put-one : One write-put.ended (λ M 𝓤 𝓛. write-put.clauses 𝓛)
 write-put-one = record {
@@ -360,6 +397,16 @@ write-put_number-one = record {
 pub write-put_signed-one : One write-put_signed.ended (λ M 𝓤 𝓛. write-put_signed.clauses 𝓛)
 write-put_signed-one = record {
   promise = write-put_signed-reads.Learnt;
+  told = refl;
+  one = λ _ _ _ _ _ _ p q. (
+    ap (λ o. o.next) (meet p q),
+    ap (λ o. o.area & tt & tt & tt) (meet p q),
+  );
+}
+
+pub write-put_millionths-one : One write-put_millionths.ended (λ M 𝓤 𝓛. write-put_millionths.clauses 𝓛)
+write-put_millionths-one = record {
+  promise = write-put_millionths-reads.Learnt;
   told = refl;
   one = λ _ _ _ _ _ _ p q. (
     ap (λ o. o.next) (meet p q),
@@ -465,6 +512,23 @@ graph-part-one = record {
   one = λ _ _ _ _ _ _ p q. (meet p q, refl);
 }
 
+pub graph-is_weighted-one : One graph-is_weighted.ended (λ M 𝓤 𝓛. graph-is_weighted.clauses 𝓛)
+graph-is_weighted-one = record {
+  promise = graph-is_weighted-reads.Learnt;
+  told = refl;
+  one = λ _ _ _ _ _ _ p q. (meet p q, refl);
+}
+
+pub graph-weighted_sound_over-one : One graph-weighted_sound_over.ended (λ M 𝓤 𝓛. graph-weighted_sound_over.clauses 𝓛)
+graph-weighted_sound_over-one = record {
+  promise = graph-weighted_sound_over-reads.Learnt;
+  told = refl;
+  one = λ _ _ _ _ _ _ p q. (
+    ap (λ o. o.sound) (meet p q),
+    ap (λ o. tt & tt & tt & tt & tt & tt & tt & tt & tt & o.cursors & tt) (meet p q),
+  );
+}
+
 -- ---- view
 pub view-view_of-one : One view-view_of.ended (λ M 𝓤 𝓛. view-view_of.clauses 𝓛)
 view-view_of-one = record {
@@ -510,6 +574,16 @@ store-sum_up-one = record {
   promise = store-sum_up-reads.Learnt;
   told = refl;
   one = λ _ _ _ _ _ _ p q. (refl, ap (λ l. l & tt & tt) (meet p q));
+}
+
+pub store-spread_weighed-one : One store-spread_weighed.ended (λ M 𝓤 𝓛. store-spread_weighed.clauses 𝓛)
+store-spread_weighed-one = record {
+  promise = store-spread_weighed-reads.Learnt;
+  told = refl;
+  one = λ _ _ _ _ _ _ p q. (
+    ap (λ o. o.done) (meet p q),
+    ap (λ o. o.offsets & o.targets & o.weights & tt & tt & tt & tt & tt & tt) (meet p q),
+  );
 }
 
 -- ---- lists
@@ -625,6 +699,16 @@ lcc-reduced-one = record {
   promise = lcc-reduced-reads.Learnt;
   told = refl;
   one = λ _ _ _ _ _ _ p q. (meet p q, refl);
+}
+
+pub sssp-sssp-one : One sssp-sssp.ended (λ M 𝓤 𝓛. sssp-sssp.clauses 𝓛)
+sssp-sssp-one = record {
+  promise = sssp-sssp-reads.Learnt;
+  told = refl;
+  one = λ _ _ z z' _ _ p q. (
+    one-kernel z z' (ap (λ o. o.said) (meet p q)),
+    ap (λ o. tt & tt & tt & tt & tt & tt & tt & tt & tt & tt & o.distance & o.settled & o.waiting & o.tree & tt) (meet p q),
+  );
 }
 
 -- ---- matching
