@@ -2,7 +2,7 @@
 -- one law for each way, whatever the call leaves in its areas by what it says. Assumes nothing.
 use Prim.Native.Nat.{ℕ}
 use mathlib.Core.Path.{◌≡◌}
-use mathlib.Core.Bool.{Bool, true, false, not}
+use mathlib.Core.Bool.{Bool, true, false}
 use Rattle.basis.specs.Refusal.{Said, gives, refuses, plain, unsound, no_room}
 use Rattle.basis.proofs.Tests.{failed, held}
 use Rattle.kernels.specs.Answer.{kernel_says}

@@ -9,7 +9,7 @@ use borrow.Author.Tests.{lt-ltb}
 use lib.ListN.{length, set, length-set}
 use lib.Seq.{sets}
 use lib.IntN.{ℤ, pos}
-use Rattle.basis.specs.Refusal.{Said, gives, refuses, at, vertex_file, mapped}
+use Rattle.basis.specs.Refusal.{Said, gives, refuses, vertex_file, mapped}
 use Rattle.basis.specs.declared.refusal.Refusal.{Refusal}
 use Rattle.basis.proofs.Tests.{no-case}
 use Rattle.text.specs.Line.{LineSaid, line, none, fault, Form, line_by, ident_form}

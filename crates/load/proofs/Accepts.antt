@@ -11,7 +11,7 @@ use lib.IntN.{ℤ}
 use Rattle.basis.specs.Refusal.{gives, unknown_number, no_room}
 use Rattle.basis.proofs.Tests.{and_first, and_second, and_both}
 use Rattle.basis.proofs.Saids.{given-one, check-passed, onward-passed}
-use Rattle.graph.specs.Arcs.{Arc, arcs}
+use Rattle.graph.specs.Arcs.{Arc}
 use Rattle.graph.specs.Find.{place_in}
 use Rattle.lists.proofs.Accepts.{vertices-accepted, edges-accepted}
 use Rattle.load.specs.declared.Limits.{Limits}

@@ -16,7 +16,7 @@ use Rattle.basis.specs.Order.{rising_z}
 use Rattle.basis.proofs.Tests.{and_first, and_second, and-off, no-case}
 use Rattle.basis.proofs.Saids.{mapped-gives, mapped-refuses}
 use Rattle.graph.specs.declared.Size.{Size}
-use Rattle.graph.specs.Arcs.{Arc, arcs}
+use Rattle.graph.specs.Arcs.{Arc}
 use Rattle.lists.proofs.Accepts.{vertices-accepted}
 use Rattle.load.specs.declared.Limits.{Limits}
 use Rattle.load.specs.declared.Loaded.{Loaded}

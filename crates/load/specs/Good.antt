@@ -7,7 +7,6 @@ use Rattle.text.specs.Word.{ident_of}
 use Rattle.text.specs.Line.{two_of}
 use Rattle.text.specs.File.{FirstFault}
 use Rattle.graph.specs.declared.Size.{Size}
-use Rattle.graph.specs.Arcs.{arcs}
 use Rattle.graph.specs.Sound.{Graph, lent}
 use Rattle.graph.specs.Find.{place_in}
 use Rattle.lists.specs.Good.{GoodVertices, GoodEdges}

@@ -5,7 +5,7 @@ use Rattle.basis.specs.Order.{rising_z}
 use Rattle.basis.specs.Area.{cleared, cleared_z, pad}
 use Rattle.graph.specs.declared.Size.{Size}
 use Rattle.graph.specs.Find.{place_in}
-use Rattle.graph.specs.Arcs.{Arc, arcs, backward, parts, offsets}
+use Rattle.graph.specs.Arcs.{Arc, backward, parts, offsets}
 use Rattle.store.specs.Held.{in_arcs}
 use Rattle.lists.specs.declared.Listed.{Listed}
 use Rattle.lists.specs.declared.Listed.TheVariants.{Lines, Refused}

@@ -1,5 +1,4 @@
 use Rattle.lists.proofs.Reading.{bad-over, bad-here}
-use borrow.Author.Rules.{rules}
 use Rattle.lists.proofs.bad_line.Goals as goal
 
 pub returns-then-most-k : goal.returns-then-most-k

@@ -1,5 +1,4 @@
 use Rattle.load.proofs.Loads.{capped-both}
-use borrow.Author.Rules.{rules}
 use Rattle.load.proofs.capped.Goals as goal
 
 pub returns : goal.returns

@@ -1,6 +1,5 @@
 use mathlib.Core.Path.{refl}
 use Rattle.load.proofs.Loads.{load-graph, load-refused}
-use borrow.Author.Rules.{rules}
 use Rattle.load.proofs.load_within.Goals as goal
 
 pub returns-in-Graph : goal.returns-in-Graph

@@ -1,9 +1,5 @@
-use mathlib.Core.Path.{◌≡◌}
-use Prim.Native.Nat.{◌≤◌, ◌-◌}
 use native.Mathlib.Omega.{arith}
 use borrow.Author.Rules.{rules}
-use lib.ListN.{length}
-use Rattle.basis.specs.Area.{copied}
 use Rattle.basis.proofs.Areas.{copied_none, copied_more, copied-end}
 use Rattle.basis.proofs.area.copy.Goals as goal
 

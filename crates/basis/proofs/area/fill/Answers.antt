@@ -1,10 +1,6 @@
-use mathlib.Core.Path.{◌≡◌, refl}
-use mathlib.Core.List.{◌++◌}
-use Prim.Native.Nat.{◌≤◌, ◌-◌}
+use mathlib.Core.Path.{refl}
 use native.Mathlib.Omega.{arith}
-use borrow.Author.Rules.{rules}
-use lib.ListN.{length, drop, length-set}
-use Rattle.basis.specs.Area.{column}
+use lib.ListN.{length-set}
 use Rattle.basis.proofs.Areas.{column-none, column-more, fill_end}
 use Rattle.basis.proofs.area.fill.Goals as goal
 

@@ -1,11 +1,8 @@
-use mathlib.Core.Path.{◌≡◌, refl}
+use mathlib.Core.Path.{◌≡◌}
 use mathlib.Core.List.{◌++◌}
 use Prim.Native.Nat.{◌≤◌, ◌-◌}
-use native.Mathlib.Omega.{arith}
-use borrow.Author.Rules.{rules}
-use lib.ListN.{length, drop, length-set}
+use lib.ListN.{length, drop}
 use Rattle.basis.specs.Area.{column}
-use Rattle.basis.proofs.Areas.{column-none, column-more, fill_end}
 use Rattle.basis.proofs.area.fill.Given as goal
 
 abbrev pub invariant-loop-i : goal.invariant-loop-i

@@ -1,13 +1,7 @@
-use mathlib.Core.Path.{◌≡◌, refl, ap, ◌∙◌}
-use mathlib.Core.List.{◌++◌}
-use Prim.Native.Nat.{◌≤◌, ◌-◌}
+use mathlib.Core.Path.{refl, ap, ◌∙◌}
 use native.Mathlib.Omega.{arith}
-use borrow.Author.Rules.{rules}
-use mir.Syntax.{w64}
-use mir.Val.{to_z}
 use mir.Facts.{to_z-of_z}
-use lib.ListN.{length, drop, replicate, length-set}
-use Rattle.basis.specs.Area.{column}
+use lib.ListN.{length, replicate, length-set}
 use Rattle.basis.proofs.Areas.{column-none, column-more, fill_end}
 use Rattle.basis.proofs.area.fill_signed.Goals as goal
 

@@ -1,14 +1,8 @@
-use mathlib.Core.Path.{◌≡◌, refl, ap, ◌∙◌}
+use mathlib.Core.Path.{◌≡◌}
 use mathlib.Core.List.{◌++◌}
 use Prim.Native.Nat.{◌≤◌, ◌-◌}
-use native.Mathlib.Omega.{arith}
-use borrow.Author.Rules.{rules}
-use mir.Syntax.{w64}
-use mir.Val.{to_z}
-use mir.Facts.{to_z-of_z}
-use lib.ListN.{length, drop, replicate, length-set}
+use lib.ListN.{length, drop}
 use Rattle.basis.specs.Area.{column}
-use Rattle.basis.proofs.Areas.{column-none, column-more, fill_end}
 use Rattle.basis.proofs.area.fill_signed.Given as goal
 
 abbrev pub invariant-loop-i : goal.invariant-loop-i

@@ -1,13 +1,8 @@
 use Prim.Native.Nat.{◌≤◌, ◌-◌}
-use native.Mathlib.Omega.{arith}
-use borrow.Author.Rules.{rules}
 use lib.ListN.{length}
 use lib.IntN.{pos}
 use lib.Signed.{lt_z}
-use mir.Syntax.{w64}
-use mir.Val.{to_z}
-use mir.Facts.{to_z-of_z}
-use Rattle.graph.proofs.Finds.{Halving, halving-start, halving-up, halving-down, halving-here, halving-end, searched}
+use Rattle.graph.proofs.Finds.{Halving}
 use Rattle.graph.proofs.find.find.Given as goal
 
 abbrev pub invariant-loop-low : goal.invariant-loop-low

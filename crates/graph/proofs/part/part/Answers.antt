@@ -1,4 +1,3 @@
-use borrow.Author.Rules.{rules}
 use Rattle.graph.proofs.Parts.{part-far, part-missing, part_falls, part-passes, part-whole}
 use Rattle.graph.proofs.part.part.Goals as goal
 

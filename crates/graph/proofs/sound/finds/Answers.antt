@@ -1,10 +1,7 @@
-use Rattle.graph.proofs.Finds.{Halving, halving-start, halving-up, halving-down}
+use Rattle.graph.proofs.Finds.{halving-start, halving-up, halving-down}
 use Rattle.graph.proofs.Steps.{found_here, found_none}
 use borrow.Author.Tests.{lt-ltb, le-ltb}
-use lib.Dec.{ltb}
-use lib.ListN.{length}
 use native.Mathlib.Omega.{arith}
-use Prim.Native.Nat.{◌-◌, ◌≤◌}
 use Rattle.graph.proofs.sound.finds.Goals as goal
 
 pub loop-low-init : goal.loop-low-init

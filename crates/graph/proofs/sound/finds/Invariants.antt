@@ -1,9 +1,6 @@
-use Rattle.graph.proofs.Finds.{Halving, halving-start, halving-up, halving-down}
-use Rattle.graph.proofs.Steps.{found_here, found_none}
-use borrow.Author.Tests.{lt-ltb, le-ltb}
+use Rattle.graph.proofs.Finds.{Halving}
 use lib.Dec.{ltb}
 use lib.ListN.{length}
-use native.Mathlib.Omega.{arith}
 use Prim.Native.Nat.{◌-◌, ◌≤◌}
 use Rattle.graph.proofs.sound.finds.Given as goal
 

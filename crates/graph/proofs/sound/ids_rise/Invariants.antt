@@ -1,10 +1,7 @@
-use borrow.Author.Rules.{rules}
-use Rattle.graph.proofs.Steps.{ascends, ids_short, ids_more, ids-stop, ids-end}
-use Rattle.basis.proofs.Scans.{every-none}
+use Rattle.graph.proofs.Steps.{ascends}
 use lib.Signed.{lt_z}
 use lib.IntN.{pos}
 use Rattle.basis.specs.Scan.{every}
-use native.Mathlib.Omega.{arith}
 use mathlib.Core.Bool.{true}
 use mathlib.Core.Path.{◌≡◌}
 use Prim.Native.Nat.{◌-◌, ◌≤◌}

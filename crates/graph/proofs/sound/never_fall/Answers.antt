@@ -1,13 +1,7 @@
-use borrow.Author.Rules.{rules}
 use Rattle.basis.proofs.Scans.{every-none, every_more, every-fail, every-end}
-use lib.Dec.{leb}
 use borrow.Author.Tests.{le-leb, lt-leb}
-use Rattle.basis.specs.Scan.{every}
-use lib.ListN.{get_or}
 use native.Mathlib.Omega.{arith}
-use mathlib.Core.Bool.{true}
-use mathlib.Core.Path.{◌≡◌, sym}
-use Prim.Native.Nat.{◌+◌, ◌-◌, ◌≤◌}
+use mathlib.Core.Path.{sym}
 use Rattle.graph.proofs.sound.never_fall.Goals as goal
 
 pub loop-v-init : goal.loop-v-init

@@ -1,12 +1,8 @@
-use borrow.Author.Rules.{rules}
-use Rattle.basis.proofs.Scans.{every-none, every_more, every-fail, every-end}
 use lib.Dec.{leb}
-use borrow.Author.Tests.{le-leb, lt-leb}
 use Rattle.basis.specs.Scan.{every}
 use lib.ListN.{get_or}
-use native.Mathlib.Omega.{arith}
 use mathlib.Core.Bool.{true}
-use mathlib.Core.Path.{◌≡◌, sym}
+use mathlib.Core.Path.{◌≡◌}
 use Prim.Native.Nat.{◌+◌, ◌-◌, ◌≤◌}
 use Rattle.graph.proofs.sound.never_fall.Given as goal
 

@@ -1,5 +1,4 @@
 use Rattle.graph.proofs.Steps.{offsets-begin, offsets-end, offsets-rest}
-use borrow.Author.Rules.{rules}
 use Rattle.graph.proofs.sound.offsets_sound.Goals as goal
 
 pub returns-then-first-ne0 : goal.returns-then-first-ne0

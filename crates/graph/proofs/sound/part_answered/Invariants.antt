@@ -1,11 +1,6 @@
-use borrow.Author.Tests.{not-true, not-false}
-use borrow.Author.Rules.{rules}
-use Rattle.graph.proofs.Steps.{members-end, answered-more, answered-stop}
 use Rattle.graph.specs.Part.{part_of}
-use Rattle.basis.proofs.Scans.{every_more, every-none}
 use Rattle.basis.specs.Scan.{every, mem}
 use lib.ListN.{length, get_or}
-use native.Mathlib.Omega.{arith}
 use mathlib.Core.Bool.{true}
 use mathlib.Core.Path.{◌≡◌}
 use Prim.Native.Nat.{◌-◌, ◌≤◌}

@@ -1,10 +1,5 @@
-use Prim.Native.Nat.{◌-◌, ◌≤◌}
-use mathlib.Core.Path.{◌≡◌}
 use native.Mathlib.Omega.{arith}
-use borrow.Author.Rules.{rules}
-use lib.ListN.{length, drop}
-use Rattle.graph.specs.Sound.{sound_part}
-use Rattle.graph.proofs.Steps.{fitting, part-begin, part_low, part-wide, part-self, part-more, part_end}
+use Rattle.graph.proofs.Steps.{part-begin, part_low, part-wide, part-self, part-more, part_end}
 use Rattle.graph.proofs.sound.part_sound.Goals as goal
 
 pub loop-i-init : goal.loop-i-init

@@ -1,14 +1,7 @@
 use borrow.Author.Tests.{not-true, not-false}
-use borrow.Author.Rules.{rules}
 use Rattle.graph.proofs.Steps.{mirrored-more, mirrored-stop, mirrored-end}
-use Rattle.graph.specs.Steps.{answered}
-use Rattle.graph.specs.Part.{part_of}
 use Rattle.basis.proofs.Scans.{every_more, every-none}
-use Rattle.basis.specs.Scan.{every}
 use native.Mathlib.Omega.{arith}
-use mathlib.Core.Bool.{true}
-use mathlib.Core.Path.{◌≡◌}
-use Prim.Native.Nat.{◌-◌, ◌≤◌}
 use Rattle.graph.proofs.sound.side_answered.Goals as goal
 
 pub loop-u-init : goal.loop-u-init

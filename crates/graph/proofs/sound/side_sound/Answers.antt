@@ -1,6 +1,5 @@
 use Rattle.graph.proofs.Steps.{side-offsets, side-targets, side-stop, side-rest}
 use Rattle.basis.proofs.Tests.{failed, held}
-use borrow.Author.Rules.{rules}
 use Rattle.graph.proofs.sound.side_sound.Goals as goal
 
 pub returns-then-offsets-n : goal.returns-then-offsets-n

@@ -1,6 +1,5 @@
 use Rattle.graph.proofs.Steps.{sides-vertices, sides-arcs, sides-ids, sides-out, sides-in}
 use Rattle.basis.proofs.Tests.{failed, held}
-use borrow.Author.Rules.{rules}
 use Rattle.graph.proofs.sound.sides_sound.Goals as goal
 
 pub returns-then-n-gt-MOST_VERTICES : goal.returns-then-n-gt-MOST_VERTICES

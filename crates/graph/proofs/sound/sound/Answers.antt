@@ -1,6 +1,5 @@
 use Rattle.graph.proofs.Steps.{sides-outward, sides-inward, graph-sides, graph-back, graph-forth}
 use Rattle.basis.proofs.Tests.{failed, held}
-use borrow.Author.Rules.{rules}
 use Rattle.graph.proofs.sound.sound.Goals as goal
 
 pub returns-then-not-sides_sound : goal.returns-then-not-sides_sound

@@ -1,9 +1,4 @@
-use Prim.Native.Nat.{◌-◌, ◌≤◌}
-use mathlib.Core.Path.{◌≡◌, refl}
-use mathlib.Core.Bool.{true}
-use lib.ListN.{length}
-use Rattle.graph.specs.Part.{part_of}
-use Rattle.graph.specs.Walk.{arcs_checked, all_walked}
+use mathlib.Core.Path.{refl}
 use Rattle.graph.proofs.Walks.{all-walked-none, all-walked-more, all-walked-stop, all-walked-end, targets-low}
 use native.Mathlib.Omega.{arith}
 use borrow.Author.Rules.{rules}

@@ -1,12 +1,9 @@
 use Prim.Native.Nat.{◌-◌, ◌≤◌}
-use mathlib.Core.Path.{◌≡◌, refl}
+use mathlib.Core.Path.{◌≡◌}
 use mathlib.Core.Bool.{true}
 use lib.ListN.{length}
 use Rattle.graph.specs.Part.{part_of}
 use Rattle.graph.specs.Walk.{arcs_checked, all_walked}
-use Rattle.graph.proofs.Walks.{all-walked-none, all-walked-more, all-walked-stop, all-walked-end, targets-low}
-use native.Mathlib.Omega.{arith}
-use borrow.Author.Rules.{rules}
 use Rattle.graph.proofs.walk.all_walked.Given as goal
 
 abbrev pub invariant-loop-u : goal.invariant-loop-u

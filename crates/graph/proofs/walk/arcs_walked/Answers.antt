@@ -1,7 +1,6 @@
-use Prim.Native.Nat.{◌-◌, ◌≤◌, ◌<◌}
-use mathlib.Core.Path.{◌≡◌, refl}
-use lib.ListN.{length, get_or, drop}
-use Rattle.graph.specs.Walk.{arcs_walked}
+use Prim.Native.Nat.{◌<◌}
+use mathlib.Core.Path.{refl}
+use lib.ListN.{length, get_or}
 use Rattle.graph.proofs.Walks.{target-low, step-far, step-differs, step-more, step_end}
 use native.Mathlib.Omega.{arith}
 use borrow.Author.Rules.{rules}

@@ -1,10 +1,7 @@
-use Prim.Native.Nat.{◌-◌, ◌≤◌, ◌<◌}
-use mathlib.Core.Path.{◌≡◌, refl}
-use lib.ListN.{length, get_or, drop}
+use Prim.Native.Nat.{◌-◌, ◌≤◌}
+use mathlib.Core.Path.{◌≡◌}
+use lib.ListN.{length, drop}
 use Rattle.graph.specs.Walk.{arcs_walked}
-use Rattle.graph.proofs.Walks.{target-low, step-far, step-differs, step-more, step_end}
-use native.Mathlib.Omega.{arith}
-use borrow.Author.Rules.{rules}
 use Rattle.graph.proofs.walk.arcs_walked.Given as goal
 
 abbrev pub invariant-loop-i : goal.invariant-loop-i

@@ -1,11 +1,6 @@
-use Prim.Native.Nat.{◌-◌, ◌≤◌}
-use mathlib.Core.Path.{◌≡◌}
-use mathlib.Core.Bool.{true}
 use Rattle.basis.proofs.Scans.{every-none, every_more, every-end}
-use Rattle.graph.specs.Walk.{at_ends}
 use Rattle.graph.proofs.Walks.{ends_more, ends-stop}
 use native.Mathlib.Omega.{arith}
-use borrow.Author.Rules.{rules}
 use Rattle.graph.proofs.walk.at_ends.Goals as goal
 
 pub loop-w-init : goal.loop-w-init

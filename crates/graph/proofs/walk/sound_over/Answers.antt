@@ -2,7 +2,6 @@ use native.Mathlib.Omega.{arith}
 use Rattle.basis.proofs.Tests.{failed, held}
 use Rattle.graph.proofs.Walks.{checks, checks-late}
 use Rattle.graph.proofs.Steps.{sides-told, graph-sides, graph-ways}
-use borrow.Author.Rules.{rules}
 use Rattle.graph.proofs.walk.sound_over.Goals as goal
 
 pub returns-then-cursors-n : goal.returns-then-cursors-n

@@ -1,10 +1,5 @@
-use Prim.Native.Nat.{◌≤◌, ◌-◌}
-use mathlib.Core.Path.{◌≡◌}
-use mathlib.Core.Bool.{true}
 use native.Mathlib.Omega.{arith}
-use borrow.Author.Rules.{rules}
 use Rattle.basis.proofs.Scans.{every-none, every_more, every-end}
-use Rattle.graph.specs.Weights.{all_light}
 use Rattle.graph.proofs.Weighings.{light-more, light-stop}
 use Rattle.graph.proofs.weights.all_light.Goals as goal
 

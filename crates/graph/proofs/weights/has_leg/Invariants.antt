@@ -1,10 +1,7 @@
 use Prim.Native.Nat.{◌≤◌, ◌-◌}
-use native.Mathlib.Omega.{arith}
 use lib.Dec.{ltb}
 use lib.ListN.{length}
-use borrow.Author.Tests.{lt-ltb, le-ltb}
-use Rattle.graph.proofs.Finds.{Halving, halving-start, halving-up, halving-down}
-use Rattle.graph.proofs.Weighings.{leg-here, leg-missing}
+use Rattle.graph.proofs.Finds.{Halving}
 use Rattle.graph.proofs.weights.has_leg.Given as goal
 
 abbrev pub invariant-loop-low : goal.invariant-loop-low

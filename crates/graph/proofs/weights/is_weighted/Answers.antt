@@ -1,4 +1,3 @@
-use borrow.Author.Rules.{rules}
 use Rattle.graph.proofs.weights.is_weighted.Goals as goal
 
 pub returns-then-weighted : goal.returns-then-weighted

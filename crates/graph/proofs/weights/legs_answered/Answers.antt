@@ -1,13 +1,7 @@
-use Prim.Native.Nat.{◌≤◌, ◌-◌}
-use mathlib.Core.Path.{◌≡◌}
-use mathlib.Core.Bool.{true}
 use native.Mathlib.Omega.{arith}
-use lib.ListN.{length}
 use borrow.Author.Rules.{rules}
-use Rattle.basis.specs.Scan.{every}
 use Rattle.basis.proofs.Scans.{every-none}
-use Rattle.graph.specs.Weights.{legs_of}
-use Rattle.graph.proofs.Weighings.{answered_at, found-long, found-rises, found-beside, found-more, found-stop, found-end}
+use Rattle.graph.proofs.Weighings.{found-long, found-rises, found-beside, found-more, found-stop, found-end}
 use Rattle.graph.proofs.weights.legs_answered.Goals as goal
 
 pub loop-i-init : goal.loop-i-init

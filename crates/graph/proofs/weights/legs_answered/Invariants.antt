@@ -1,13 +1,10 @@
 use Prim.Native.Nat.{◌≤◌, ◌-◌}
 use mathlib.Core.Path.{◌≡◌}
 use mathlib.Core.Bool.{true}
-use native.Mathlib.Omega.{arith}
 use lib.ListN.{length}
-use borrow.Author.Rules.{rules}
 use Rattle.basis.specs.Scan.{every}
-use Rattle.basis.proofs.Scans.{every-none}
 use Rattle.graph.specs.Weights.{legs_of}
-use Rattle.graph.proofs.Weighings.{answered_at, found-long, found-rises, found-beside, found-more, found-stop, found-end}
+use Rattle.graph.proofs.Weighings.{answered_at}
 use Rattle.graph.proofs.weights.legs_answered.Given as goal
 
 abbrev pub invariant-loop-i : goal.invariant-loop-i

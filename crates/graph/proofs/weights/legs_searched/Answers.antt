@@ -1,11 +1,5 @@
-use Prim.Native.Nat.{◌≤◌, ◌-◌}
-use mathlib.Core.Path.{◌≡◌}
-use mathlib.Core.Bool.{true}
 use native.Mathlib.Omega.{arith}
-use borrow.Author.Rules.{rules}
-use Rattle.basis.specs.Scan.{every}
 use Rattle.basis.proofs.Scans.{every-none}
-use Rattle.graph.specs.Weights.{legs_of, legs_answered}
 use Rattle.graph.proofs.Weighings.{search-more, search-stop, search-end}
 use Rattle.graph.proofs.weights.legs_searched.Goals as goal
 

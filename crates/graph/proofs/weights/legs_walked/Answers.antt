@@ -1,9 +1,7 @@
-use Prim.Native.Nat.{◌≤◌, ◌-◌}
-use mathlib.Core.Path.{◌≡◌, refl}
+use mathlib.Core.Path.{refl}
 use native.Mathlib.Omega.{arith}
-use lib.ListN.{length}
 use borrow.Author.Rules.{rules}
-use Rattle.graph.proofs.Weighings.{Walking, legs-begin, legs-target, legs-cursor, legs-room, legs-stop, legs-more, legs-end}
+use Rattle.graph.proofs.Weighings.{legs-begin, legs-target, legs-cursor, legs-room, legs-stop, legs-more, legs-end}
 use Rattle.graph.proofs.weights.legs_walked.Goals as goal
 
 pub loop-i-init : goal.loop-i-init

@@ -1,9 +1,7 @@
 use Prim.Native.Nat.{◌≤◌, ◌-◌}
-use mathlib.Core.Path.{◌≡◌, refl}
-use native.Mathlib.Omega.{arith}
+use mathlib.Core.Path.{◌≡◌}
 use lib.ListN.{length}
-use borrow.Author.Rules.{rules}
-use Rattle.graph.proofs.Weighings.{Walking, legs-begin, legs-target, legs-cursor, legs-room, legs-stop, legs-more, legs-end}
+use Rattle.graph.proofs.Weighings.{Walking}
 use Rattle.graph.proofs.weights.legs_walked.Given as goal
 
 abbrev pub invariant-loop-i : goal.invariant-loop-i

@@ -1,4 +1,3 @@
-use borrow.Author.Rules.{rules}
 use Rattle.basis.proofs.Tests.{held}
 use Rattle.graph.proofs.Walks.{check-told}
 use Rattle.graph.proofs.Weighings.{checked-unsound, checked-plain, checked-weights}

@@ -1,5 +1,4 @@
 use native.Mathlib.Omega.{arith}
-use borrow.Author.Rules.{rules}
 use Rattle.graph.proofs.Weighings.{weights-beside, weights-short, weights-short-back, weights-heavy, weights-heavy-back}
 use Rattle.graph.proofs.Weighings.{weights-told}
 use Rattle.graph.proofs.weights.weights_sound.Goals as goal

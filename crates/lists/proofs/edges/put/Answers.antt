@@ -1,6 +1,5 @@
 use lib.Seq.{set_out}
 use mathlib.Core.Path.{sym}
-use borrow.Author.Rules.{rules}
 use Rattle.lists.proofs.edges.put.Goals as goal
 
 pub returns-else-i-area : goal.returns-else-i-area

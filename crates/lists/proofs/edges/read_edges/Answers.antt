@@ -1,4 +1,3 @@
-use borrow.Author.Rules.{rules}
 use Rattle.lists.proofs.Fronts.{stays-clear, edges-lines, edges-zero}
 use Rattle.lists.proofs.edges.read_edges.Goals as goal
 

@@ -1,9 +1,7 @@
-use borrow.Author.Rules.{rules}
-use Rattle.lists.proofs.Gathers.{Gathering, gathering-start, gathering-few, gathering-more, gathering-less, gathering-stop}
-use Prim.Native.Nat.{◌-◌, ◌<◌, ◌^◌}
+use Rattle.lists.proofs.Gathers.{gathering-start, gathering-few, gathering-more, gathering-less, gathering-stop}
+use Prim.Native.Nat.{◌<◌, ◌^◌}
 use native.Mathlib.Omega.{arith}
 use lib.ListN.{length}
-use Rattle.graph.specs.Find.{bisected}
 use Rattle.lists.proofs.edges.scan_edges.Goals as goal
 
 pub loop-u-init : goal.loop-u-init

@@ -1,7 +1,5 @@
-use borrow.Author.Rules.{rules}
-use Rattle.lists.proofs.Gathers.{Gathering, gathering-start, gathering-few, gathering-more, gathering-less, gathering-stop}
-use Prim.Native.Nat.{◌-◌, ◌<◌, ◌^◌}
-use native.Mathlib.Omega.{arith}
+use Rattle.lists.proofs.Gathers.{Gathering}
+use Prim.Native.Nat.{◌-◌}
 use lib.ListN.{length}
 use Rattle.graph.specs.Find.{bisected}
 use Rattle.lists.proofs.edges.scan_edges.Given as goal

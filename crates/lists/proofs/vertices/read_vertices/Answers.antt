@@ -1,5 +1,4 @@
 use Rattle.lists.proofs.Fronts.{vertices-lines, vertices-zero}
-use borrow.Author.Rules.{rules}
 use Rattle.lists.proofs.vertices.read_vertices.Goals as goal
 
 pub returns-in-Lines : goal.returns-in-Lines

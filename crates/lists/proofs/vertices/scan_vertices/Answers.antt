@@ -1,7 +1,5 @@
 use borrow.Author.Rules.{rules}
-use Rattle.lists.proofs.Runs.{Listing, listing_start, listing-more, listing-less, listing-stop}
-use Prim.Native.Nat.{◌-◌}
-use lib.ListN.{length}
+use Rattle.lists.proofs.Runs.{listing_start, listing-more, listing-less, listing-stop}
 use Rattle.lists.proofs.vertices.scan_vertices.Goals as goal
 
 pub loop-next-init : goal.loop-next-init

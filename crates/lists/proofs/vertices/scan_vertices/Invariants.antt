@@ -1,5 +1,4 @@
-use borrow.Author.Rules.{rules}
-use Rattle.lists.proofs.Runs.{Listing, listing_start, listing-more, listing-less, listing-stop}
+use Rattle.lists.proofs.Runs.{Listing}
 use Prim.Native.Nat.{◌-◌}
 use lib.ListN.{length}
 use Rattle.lists.proofs.vertices.scan_vertices.Given as goal

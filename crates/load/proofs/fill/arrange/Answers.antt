@@ -1,7 +1,6 @@
 use mathlib.Core.Path.{refl}
 use Rattle.load.proofs.Arranges.{arrange-refused, arrange-short, arrange-short-back, arrange-end}
 use native.Mathlib.Omega.{arith}
-use borrow.Author.Rules.{rules}
 use Rattle.load.proofs.fill.arrange.Goals as goal
 
 pub returns-then-lacks : goal.returns-then-lacks

@@ -1,7 +1,6 @@
 use Rattle.load.proofs.Loads.{fill-mode, fill-refused, fill-places, fill-short, fill-storing, fill_end}
 use mathlib.Core.Path.{refl, sym}
 use lib.Seq.{length-take-le}
-use borrow.Author.Rules.{rules}
 use Rattle.load.proofs.fill.fill.Goals as goal
 
 pub returns-then-mode-gt1 : goal.returns-then-mode-gt1

@@ -1,5 +1,4 @@
 use Rattle.load.proofs.Fills.{directed-refused, directed-lines}
-use borrow.Author.Rules.{rules}
 use Rattle.load.proofs.fill.fill_directed.Goals as goal
 
 pub returns-in-Refused : goal.returns-in-Refused

@@ -1,7 +1,6 @@
 use mathlib.Core.Path.{refl}
 use Rattle.load.proofs.Fills.{undirected-refused, undirected-fits, undirected-lines}
 use native.Mathlib.Omega.{arith}
-use borrow.Author.Rules.{rules}
 use Rattle.load.proofs.fill.fill_undirected.Goals as goal
 
 pub overflow_add-arcs : goal.overflow_add-arcs

@@ -1,5 +1,4 @@
 use Rattle.load.proofs.Fills.{edges-both, edges-one}
-use borrow.Author.Rules.{rules}
 use Rattle.load.proofs.fill.store_edges.Goals as goal
 
 pub returns-then-undirected : goal.returns-then-undirected

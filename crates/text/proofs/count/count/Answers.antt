@@ -1,5 +1,4 @@
 use Rattle.text.proofs.Scans.{count_past, count-zero, count_low, count-high, count-run}
-use borrow.Author.Rules.{rules}
 use Rattle.text.proofs.count.count.Goals as goal
 
 pub returns-then-s-at : goal.returns-then-s-at

@@ -1,7 +1,4 @@
-use Prim.Native.Nat.{◌-◌}
-use lib.ListN.{length}
-use Rattle.text.proofs.Runs.{Running, running-start, running_more, running-low, running-high, running-out}
-use borrow.Author.Rules.{rules}
+use Rattle.text.proofs.Runs.{running-start, running_more, running-low, running-high, running-out}
 use Rattle.text.proofs.count.digits.Goals as goal
 
 pub loop-i-init : goal.loop-i-init

@@ -1,7 +1,6 @@
 use Prim.Native.Nat.{◌-◌}
 use lib.ListN.{length}
-use Rattle.text.proofs.Runs.{Running, running-start, running_more, running-low, running-high, running-out}
-use borrow.Author.Rules.{rules}
+use Rattle.text.proofs.Runs.{Running}
 use Rattle.text.proofs.count.digits.Given as goal
 
 abbrev pub invariant-loop-i : goal.invariant-loop-i

@@ -1,5 +1,4 @@
 use Rattle.text.proofs.Bytes.{has-yes, has-past}
-use borrow.Author.Rules.{rules}
 use Rattle.text.proofs.count.has.Goals as goal
 
 pub returns-then-at-s : goal.returns-then-at-s

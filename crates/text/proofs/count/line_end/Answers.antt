@@ -1,10 +1,4 @@
-use Prim.Native.Nat.{◌+◌, ◌-◌}
-use mathlib.Core.Path.{◌≡◌}
-use lib.ListN.{length, drop}
-use Rattle.text.specs.Bytes.{lf}
-use Rattle.text.specs.Line.{up_to}
 use Rattle.text.proofs.Bytes.{end-out, end-here, end_on}
-use borrow.Author.Rules.{rules}
 use Rattle.text.proofs.count.line_end.Goals as goal
 
 pub returns-then-s-i-eq-LF : goal.returns-then-s-i-eq-LF

@@ -3,8 +3,6 @@ use mathlib.Core.Path.{◌≡◌}
 use lib.ListN.{length, drop}
 use Rattle.text.specs.Bytes.{lf}
 use Rattle.text.specs.Line.{up_to}
-use Rattle.text.proofs.Bytes.{end-out, end-here, end_on}
-use borrow.Author.Rules.{rules}
 use Rattle.text.proofs.count.line_end.Given as goal
 
 abbrev pub invariant-loop-i : goal.invariant-loop-i

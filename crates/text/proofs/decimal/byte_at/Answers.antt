@@ -1,5 +1,4 @@
 use Rattle.basis.proofs.Areas.{past_end}
-use borrow.Author.Rules.{rules}
 use Rattle.text.proofs.decimal.byte_at.Goals as goal
 
 pub returns-else-at-s : goal.returns-else-at-s

@@ -1,5 +1,4 @@
 use Rattle.text.proofs.Decimals.{decimal-from, decimal-on, decimal-within, decimal-is}
-use borrow.Author.Rules.{rules}
 use Rattle.text.proofs.decimal.decimal_of.Goals as goal
 
 pub overflow_sub-all : goal.overflow_sub-all

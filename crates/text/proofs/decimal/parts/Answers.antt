@@ -1,6 +1,5 @@
 use Rattle.text.proofs.Decimals.{parts_none, parts_whole, parts-long, parts-point, parts-limit}
 use Rattle.text.proofs.Stops.{parts-good}
-use borrow.Author.Rules.{rules}
 use Rattle.text.proofs.decimal.parts.Goals as goal
 
 pub returns-then-w-eq0 : goal.returns-then-w-eq0

@@ -1,5 +1,4 @@
 use Rattle.text.proofs.Decimals.{point-yes, point-no, point-past}
-use borrow.Author.Rules.{rules}
 use Rattle.text.proofs.decimal.past_point.Goals as goal
 
 pub returns-then-s-at-eq-POINT : goal.returns-then-s-at-eq-POINT

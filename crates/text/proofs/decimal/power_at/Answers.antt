@@ -1,7 +1,6 @@
 use Rattle.basis.proofs.Tests.{held}
 use Rattle.text.proofs.Decimals.{power-none, power-letter, power-sign, power-signed}
 use Rattle.text.proofs.Stops.{sign-on}
-use borrow.Author.Rules.{rules}
 use Rattle.text.proofs.decimal.power_at.Goals as goal
 
 pub returns-then-s-at : goal.returns-then-s-at

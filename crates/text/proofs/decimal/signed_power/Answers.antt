@@ -1,5 +1,4 @@
 use Rattle.text.proofs.Decimals.{digits-first, digits-second, digits_long, digits_up, digits-down}
-use borrow.Author.Rules.{rules}
 use Rattle.text.proofs.decimal.signed_power.Goals as goal
 
 pub returns-then-not-is_digit : goal.returns-then-not-is_digit

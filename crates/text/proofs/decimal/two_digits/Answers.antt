@@ -1,6 +1,5 @@
 use native.Mathlib.Omega.{arith}
 use Rattle.text.proofs.Decimals.{digit-small}
-use borrow.Author.Rules.{rules}
 use Rattle.text.proofs.decimal.two_digits.Goals as goal
 
 pub overflow_mul-result : goal.overflow_mul-result

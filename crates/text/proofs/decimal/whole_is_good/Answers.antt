@@ -1,5 +1,4 @@
 use Rattle.text.proofs.Decimals.{whole-one, whole-none, whole-zero, whole-more}
-use borrow.Author.Rules.{rules}
 use Rattle.text.proofs.decimal.whole_is_good.Goals as goal
 
 pub returns-then-w-eq1 : goal.returns-then-w-eq1

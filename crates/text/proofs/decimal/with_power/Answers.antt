@@ -1,5 +1,4 @@
 use Rattle.text.proofs.Decimals.{scaled-up, scaled-down, scaled-wrong}
-use borrow.Author.Rules.{rules}
 use Rattle.text.proofs.decimal.with_power.Goals as goal
 
 pub returns-in-Up : goal.returns-in-Up

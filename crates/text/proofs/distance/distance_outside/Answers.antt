@@ -1,5 +1,4 @@
 use Rattle.text.proofs.DistanceTails.{beside-no-tail, outside-distance, bad-tail-behind}
-use borrow.Author.Rules.{rules}
 use Rattle.text.proofs.distance.distance_outside.Goals as goal
 
 pub column-requires : goal.column-requires

@@ -1,5 +1,4 @@
 use Rattle.text.proofs.DistanceTails.{letter-stands, distance-decimal}
-use borrow.Author.Rules.{rules}
 use Rattle.text.proofs.distance.distance_tail.Goals as goal
 
 pub infinity_tail-requires : goal.infinity_tail-requires

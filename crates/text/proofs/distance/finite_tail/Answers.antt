@@ -1,5 +1,4 @@
 use Rattle.text.proofs.DistanceTails.{finite-bad, finite-value}
-use borrow.Author.Rules.{rules}
 use Rattle.text.proofs.distance.finite_tail.Goals as goal
 
 pub returns-in-Bad : goal.returns-in-Bad

@@ -1,10 +1,7 @@
 use Prim.Native.Nat.{◌+◌, ◌-◌}
 use mathlib.Core.Path.{◌≡◌}
-use native.Mathlib.Omega.{arith}
 use lib.ListN.{length, drop}
 use Rattle.text.specs.Distance.{shared_front}
-use Rattle.text.proofs.DistanceTails.{shared-not, shared-more, shared-end, shared-in}
-use borrow.Author.Rules.{rules}
 use Rattle.text.proofs.distance.shared_front.Given as goal
 
 abbrev pub invariant-loop-i : goal.invariant-loop-i

@@ -2,7 +2,6 @@ use native.Mathlib.Omega.{arith}
 use mathlib.Core.Path.{sym, ◌∙◌}
 use Rattle.text.proofs.Bytes.{has-below}
 use Rattle.text.proofs.Scans.{ident-zero, ident-minus, ident-plain}
-use borrow.Author.Rules.{rules}
 use Rattle.text.proofs.ident.ident.Goals as goal
 
 pub overflow_add-p : goal.overflow_add-p

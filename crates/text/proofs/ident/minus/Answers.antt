@@ -1,7 +1,6 @@
 use Prim.Native.Nat.{ℕ}
 use mathlib.Core.Path.{◌≡◌, sym, ap}
 use native.Mathlib.Omega.{arith}
-use borrow.Author.Rules.{rules}
 use lib.IntN.{pos, neg_ℤ}
 use Rattle.basis.proofs.Minus.{minus-fits, minus-again}
 use Rattle.text.proofs.ident.minus.Goals as goal

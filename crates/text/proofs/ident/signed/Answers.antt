@@ -1,5 +1,4 @@
 use Rattle.text.proofs.Scans.{signed-bad, signed-value}
-use borrow.Author.Rules.{rules}
 use Rattle.text.proofs.ident.signed.Goals as goal
 
 pub returns-in-Bad : goal.returns-in-Bad

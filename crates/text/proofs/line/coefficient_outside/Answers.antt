@@ -1,6 +1,5 @@
 use Rattle.text.proofs.Counting.{bad-rest-behind}
 use Rattle.text.proofs.Lines.{beside_none, outside-decimal}
-use borrow.Author.Rules.{rules}
 use Rattle.text.proofs.line.coefficient_outside.Goals as goal
 
 pub column-requires : goal.column-requires

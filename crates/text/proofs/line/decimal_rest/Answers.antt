@@ -2,7 +2,6 @@ use native.Mathlib.Omega.{arith}
 use mathlib.Core.Path.{sym, refl, ◌∙◌}
 use Rattle.text.proofs.Bytes.{has-below}
 use Rattle.text.proofs.Lines.{rest_end, rest-inside, rest-bad, rest-value, rest-open}
-use borrow.Author.Rules.{rules}
 use Rattle.text.proofs.line.decimal_rest.Goals as goal
 
 pub slice_bounds-decimal_of-end : goal.slice_bounds-decimal_of-end

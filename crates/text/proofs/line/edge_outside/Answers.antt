@@ -1,6 +1,5 @@
 use Rattle.text.proofs.Counting.{bad-behind}
 use Rattle.text.proofs.Lines.{beside-bad, outside-outside, outside-value}
-use borrow.Author.Rules.{rules}
 use Rattle.text.proofs.line.edge_outside.Goals as goal
 
 pub column-requires : goal.column-requires

@@ -1,5 +1,4 @@
 use Rattle.text.proofs.Listed.{first-end, first-fault, first-line}
-use borrow.Author.Rules.{rules}
 use Rattle.text.proofs.line.has_weights.Goals as goal
 
 pub returns-in-End : goal.returns-in-End

@@ -1,6 +1,5 @@
 use Rattle.text.proofs.Weighing.{behind-end, behind-other, behind-from, behind-none}
 use Rattle.text.proofs.Weighing.{behind-long, behind-open, behind-small, behind-good}
-use borrow.Author.Rules.{rules}
 use Rattle.text.proofs.weight.behind.Goals as goal
 
 pub returns-then-p-s : goal.returns-then-p-s

@@ -1,6 +1,5 @@
 use native.Mathlib.Omega.{arith}
 use Rattle.text.proofs.Weighing.{worth-times, millionths-above, millionths-within}
-use borrow.Author.Rules.{rules}
 use Rattle.text.proofs.weight.millionths.Goals as goal
 
 pub overflow_mul-m-2 : goal.overflow_mul-m-2

@@ -1,5 +1,4 @@
 use Rattle.text.proofs.Weighing.{whole-inside, weight-none, weight-some}
-use borrow.Author.Rules.{rules}
 use Rattle.text.proofs.weight.weight_of.Goals as goal
 
 pub behind-requires : goal.behind-requires

@@ -3,7 +3,6 @@ use mathlib.Core.Path.{sym, refl, ◌∙◌}
 use Rattle.text.proofs.Bytes.{has-below}
 use Rattle.text.proofs.Lines.{rest_end}
 use Rattle.text.proofs.Tails.{weight-bad-within, weight-value-within, last-bad, last-value, last-open}
-use borrow.Author.Rules.{rules}
 use Rattle.text.proofs.weight.weight_rest.Goals as goal
 
 pub slice_bounds-weight_of-end : goal.slice_bounds-weight_of-end

@@ -1,4 +1,3 @@
-use borrow.Author.Rules.{rules}
 use Rattle.write.proofs.Puts.{byte-room, byte_past}
 use Rattle.write.proofs.bytes.put.Goals as goal
 

@@ -1,8 +1,3 @@
-use Prim.Native.Nat.{◌-◌}
-use mathlib.Core.Path.{◌≡◌, refl}
-use borrow.Author.Rules.{rules}
-use lib.ListN.{length, drop}
-use Rattle.write.specs.Put.{put_at}
 use Rattle.write.proofs.Puts.{putting-length, bytes-more, bytes-end}
 use Rattle.write.proofs.bytes.put_bytes.Goals as goal
 

@@ -1,4 +1,3 @@
-use borrow.Author.Rules.{rules}
 use Rattle.write.proofs.Places.{millionths-whole, millionths-rest}
 use Rattle.write.proofs.millionths.put_millionths.Goals as goal
 

@@ -1,7 +1,4 @@
-use borrow.Author.Rules.{rules}
-use Rattle.write.specs.Put.{put_at}
-use Rattle.write.specs.Millionths.{places_text}
-use Rattle.write.proofs.Places.{Placed, placed-start, placed-length, placed-unit, placed_less, placed-digit, placed-more, placed_end}
+use Rattle.write.proofs.Places.{placed-start, placed-length, placed-unit, placed_less, placed-digit, placed-more, placed_end}
 use Rattle.write.proofs.millionths.put_places.Goals as goal
 
 pub loop-left-init : goal.loop-left-init

@@ -1,4 +1,3 @@
-use Rattle.std.proofs.Common.{rules}
 use Rattle.write.proofs.Digits.{number_small, number_more}
 use Rattle.write.proofs.numbers.+put_number.Goals as goal
 

@@ -1,4 +1,3 @@
-use borrow.Author.Rules.{rules}
 use Rattle.write.proofs.Signed.{turned-fits, turned-casts, turned-adds, turned-size, plain-casts}
 use Rattle.write.proofs.numbers.magnitude.Goals as goal
 

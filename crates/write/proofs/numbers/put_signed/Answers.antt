@@ -1,4 +1,3 @@
-use borrow.Author.Rules.{rules}
 use Rattle.write.proofs.Signed.{signed_low, signed_high}
 use Rattle.write.proofs.numbers.put_signed.Goals as goal
 
