@@ -1,7 +1,7 @@
 -- Laws of the mode, of count lines, of sections and of the whole check, one for each answer of the code. Assumes nothing.
 use Prim.Native.Nat.{ℕ, zero, suc, ◌+◌, ◌-◌, ◌≤◌, ◌<◌}
 use mathlib.Core.Path.{◌≡◌, refl, sym, ap, ◌∙◌}
-use mathlib.Core.Bool.{Bool, true, false, not, cond}
+use mathlib.Core.Bool.{Bool, true, false, cond}
 use mathlib.Core.List.{List, [], ◌∷◌, ◌++◌}
 use native.Mathlib.Omega.{arith}
 use borrow.Author.Tests.{le-leb, lt-leb, leb-true, leb-false, lt-ltb, le-ltb}
@@ -25,7 +25,7 @@ use Rattle.plan.specs.Lines.{sheet_fault, in_sheet, begins}
 use Rattle.plan.specs.Jobs.{job_line, job_says}
 use Rattle.plan.specs.Sheet.{most_jobs, most_bytes, directed_word, undirected_word, mode_of, mode_line, limited}
 use Rattle.plan.specs.Sheet.{count_line, any_of, next_of, line_past, lines_past, block, block_of, section, plan}
-use Rattle.plan.specs.Sheet.{sections, ended, sheet_check, checked_says, mode_says, count_line_says, past_says, section_says}
+use Rattle.plan.specs.Sheet.{sections, sheet_check, checked_says, mode_says, count_line_says, past_says, section_says}
 use Rattle.plan.specs.declared.job.Job.{Job}
 use Rattle.plan.specs.declared.job.JobLine.{JobLine}
 use Rattle.plan.specs.declared.job.JobLine.TheVariants as JL

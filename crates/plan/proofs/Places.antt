@@ -7,7 +7,7 @@ use native.Mathlib.Omega.{arith}
 use borrow.Author.Tests.{leb-true, ltb-false}
 use lib.Dec.{leb, ltb}
 use lib.ListN.{length}
-use Rattle.basis.specs.Refusal.{Said, gives, refuses, at}
+use Rattle.basis.specs.Refusal.{Said, gives, refuses}
 use Rattle.basis.proofs.Saids.{Either, either-cond, either-onward, Any}
 use Rattle.basis.specs.Limits.{desk_vertices, desk_edges}
 use Rattle.text.specs.Word.{Word, count_of}

@@ -1,5 +1,4 @@
 use Rattle.sheet.proofs.Whole.{placed, answer-refused, answer-good}
-use borrow.Author.Rules.{rules}
 use Rattle.sheet.proofs.answer.Goals as goal
 
 pub print_plan-requires : goal.print_plan-requires

@@ -3,7 +3,6 @@ use mathlib.Core.Path.{sym}
 use lib.Seq.{length-take-le}
 use native.Mathlib.Omega.{arith}
 use Rattle.sheet.proofs.Whole.{few-vertices, load-refused, load-good}
-use borrow.Author.Rules.{rules}
 use Rattle.sheet.proofs.print_plan.Goals as goal
 
 pub slice_bounds-ids-end : goal.slice_bounds-ids-end

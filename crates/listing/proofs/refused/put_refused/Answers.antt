@@ -1,5 +1,4 @@
 use Rattle.listing.proofs.Lines.{refused-put}
-use borrow.Author.Rules.{rules}
 use Rattle.listing.proofs.refused.put_refused.Goals as goal
 
 pub returns : goal.returns

@@ -1,5 +1,4 @@
 use Rattle.listing.proofs.Lines.{spaced-put}
-use borrow.Author.Rules.{rules}
 use Rattle.listing.proofs.refused.put_spaced.Goals as goal
 
 pub returns : goal.returns

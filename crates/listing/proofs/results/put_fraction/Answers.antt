@@ -1,5 +1,4 @@
 use Rattle.listing.proofs.Lines.{fraction-put}
-use borrow.Author.Rules.{rules}
 use Rattle.listing.proofs.results.put_fraction.Goals as goal
 
 pub returns : goal.returns

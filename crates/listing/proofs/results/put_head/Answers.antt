@@ -1,5 +1,4 @@
 use Rattle.listing.proofs.Lines.{head-put}
-use borrow.Author.Rules.{rules}
 use Rattle.listing.proofs.results.put_head.Goals as goal
 
 pub returns : goal.returns

@@ -1,9 +1,3 @@
-use Prim.Native.Nat.{◌-◌}
-use mathlib.Core.Path.{◌≡◌, refl}
-use lib.ListN.{length, drop}
-use Rattle.write.specs.Put.{put_at}
-use Rattle.listing.specs.Listing.{pair_lines}
-use native.Mathlib.Omega.{arith}
 use borrow.Author.Rules.{rules}
 use Rattle.write.proofs.Puts.{putting-length}
 use Rattle.listing.proofs.Lines.{pairs_end, pairs-short, pairs-more}

@@ -1,12 +1,8 @@
 use Prim.Native.Nat.{◌-◌}
-use mathlib.Core.Path.{◌≡◌, refl}
+use mathlib.Core.Path.{◌≡◌}
 use lib.ListN.{length, drop}
 use Rattle.write.specs.Put.{put_at}
 use Rattle.listing.specs.Listing.{ratio_lines}
-use native.Mathlib.Omega.{arith}
-use borrow.Author.Rules.{rules}
-use Rattle.write.proofs.Puts.{putting-length}
-use Rattle.listing.proofs.Lines.{ratios-end, ratios-short, ratios-short-below, ratios-more}
 use Rattle.listing.proofs.results.put_ratios.Given as goal
 
 abbrev pub invariant-loop-i : goal.invariant-loop-i

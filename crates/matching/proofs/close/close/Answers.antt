@@ -1,4 +1,3 @@
-use borrow.Author.Rules.{rules}
 use Rattle.matching.proofs.Closeness.{close-zero, close-lower, close-higher}
 use Rattle.matching.proofs.close.close.Goals as goal
 

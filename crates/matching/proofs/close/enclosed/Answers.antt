@@ -1,7 +1,6 @@
 use native.Mathlib.Omega.{arith}
 use borrow.Author.Rules.{rules}
-use Prim.Native.Nat.{◌-◌, ◌≤◌}
-use Rattle.matching.proofs.Closeness.{Dropped, dropped-none, dropped-next, enclosed-high, enclosed-over, enclosed-low}
+use Rattle.matching.proofs.Closeness.{dropped-none, dropped-next, enclosed-high, enclosed-over, enclosed-low}
 use Rattle.matching.proofs.Closeness.{enclosed-inside, enclosed-edge, dropped-all, left-within, digit-within}
 use Rattle.matching.proofs.close.enclosed.Goals as goal
 

@@ -1,8 +1,5 @@
-use native.Mathlib.Omega.{arith}
-use borrow.Author.Rules.{rules}
 use Prim.Native.Nat.{◌-◌, ◌≤◌}
-use Rattle.matching.proofs.Closeness.{Dropped, dropped-none, dropped-next, enclosed-high, enclosed-over, enclosed-low}
-use Rattle.matching.proofs.Closeness.{enclosed-inside, enclosed-edge, dropped-all, left-within, digit-within}
+use Rattle.matching.proofs.Closeness.{Dropped}
 use Rattle.matching.proofs.close.enclosed.Given as goal
 
 abbrev pub invariant-loop-j : goal.invariant-loop-j

@@ -1,8 +1,5 @@
-use mathlib.Core.Path.{◌≡◌, ap, ◌∙◌}
-use Prim.Native.Nat.{ℕ, ◌-◌, ◌*◌, ◌^◌, ◌≤◌, min}
-use borrow.Author.Rules.{rules}
-use native.Mathlib.Omega.{arith}
-use Rattle.matching.proofs.Closeness.{cap-next, ten-more}
+use mathlib.Core.Path.{◌≡◌}
+use Prim.Native.Nat.{◌-◌, ◌*◌, ◌^◌, ◌≤◌, min}
 use Rattle.matching.proofs.close.scaled_up.Given as goal
 
 -- `matching::close::scaled_up` meets its contract: m is d * 10^j up to the cap. Assumes nothing.

@@ -1,7 +1,6 @@
 use Rattle.basis.proofs.Areas.{cleared-again}
 use Rattle.matching.proofs.FirstPlaces.{room-first, room-second, room-third}
 use Rattle.matching.proofs.DecimalLines.{coefficients-short, coefficients-done}
-use borrow.Author.Rules.{rules}
 use Rattle.matching.proofs.coefficients.judge_coefficients.Goals as goal
 
 pub returns-then-not-has_room : goal.returns-then-not-has_room

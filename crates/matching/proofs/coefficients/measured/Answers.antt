@@ -1,4 +1,3 @@
-use native.Mathlib.Omega.{arith}
 use Rattle.matching.proofs.Records.{within-at, far_none, far-near, far-first, far-lesser}
 use borrow.Author.Rules.{rules}
 use Rattle.matching.proofs.coefficients.measured.Goals as goal

@@ -1,5 +1,4 @@
 use Rattle.matching.proofs.DecimalLines.{near-above, near-below, near_within_lem}
-use borrow.Author.Rules.{rules}
 use Rattle.matching.proofs.coefficients.near_within.Goals as goal
 
 pub returns-then-a-gt4294967295 : goal.returns-then-a-gt4294967295

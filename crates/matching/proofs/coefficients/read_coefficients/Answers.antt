@@ -1,8 +1,6 @@
 use borrow.Author.Rules.{rules}
-use Prim.Native.Nat.{◌-◌}
-use lib.ListN.{length}
 use Rattle.matching.proofs.NumberLines.{named-within}
-use Rattle.matching.proofs.DecimalLines.{Decimals, decimals-none, decimals-far, decimals-next, decimals-end, decimals-fault}
+use Rattle.matching.proofs.DecimalLines.{decimals-none, decimals-far, decimals-next, decimals-end, decimals-fault}
 use Rattle.matching.proofs.DecimalLines.{decimals-over, decimals-full}
 use Rattle.matching.proofs.coefficients.read_coefficients.Goals as goal
 

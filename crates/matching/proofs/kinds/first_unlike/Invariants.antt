@@ -1,13 +1,9 @@
-use borrow.Author.Rules.{rules}
 use Prim.Native.Nat.{◌-◌, ◌≤◌}
 use mathlib.Core.Path.{◌≡◌}
 use mathlib.Core.Bool.{true}
 use Rattle.basis.specs.Scan.{every}
-use Rattle.basis.proofs.Scans.{every-none}
 use Rattle.matching.specs.Cover.{failing_place}
 use Rattle.matching.specs.Verdict.{same_kind, agrees, unlike_vertex}
-use Rattle.matching.proofs.Mismatches.{unlike-start, unlike-end, unlike-later, unlike-here, like-more}
-use Rattle.matching.proofs.FirstPlaces.{bits_back}
 use Rattle.matching.proofs.kinds.first_unlike.Given as goal
 
 abbrev pub invariant-loop-j : goal.invariant-loop-j

@@ -1,6 +1,5 @@
 use mir.Facts.{to_z-of_z}
 use Rattle.matching.proofs.Mismatches.{unlike-same, unlike-apart}
-use borrow.Author.Rules.{rules}
 use Rattle.matching.proofs.kinds.unlike.Goals as goal
 
 pub returns-then-same : goal.returns-then-same

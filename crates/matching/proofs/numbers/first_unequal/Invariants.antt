@@ -1,11 +1,8 @@
-use borrow.Author.Rules.{rules}
 use Prim.Native.Nat.{◌+◌, ◌-◌, ◌≤◌}
-use mathlib.Core.Path.{◌≡◌, refl}
+use mathlib.Core.Path.{◌≡◌}
 use lib.ListN.{length, drop}
 use Rattle.basis.specs.Order.{same_z}
 use Rattle.matching.specs.Verdict.{first_place, unequal_vertex}
-use Rattle.matching.proofs.Mismatches.{unequal-end, unequal-here, unequal-later}
-use Rattle.matching.proofs.FirstPlaces.{bits_back}
 use Rattle.matching.proofs.numbers.first_unequal.Given as goal
 
 abbrev pub invariant-loop-i : goal.invariant-loop-i

@@ -1,5 +1,4 @@
 use Rattle.matching.proofs.FirstPlaces.{room-all}
-use borrow.Author.Rules.{rules}
 use Rattle.matching.proofs.numbers.has_room.Goals as goal
 
 pub returns : goal.returns

@@ -3,7 +3,6 @@ use Rattle.matching.proofs.FirstPlaces.{room-first, room-second, room-third}
 use lib.Seq.{length-take-le}
 use mathlib.Core.Path.{sym}
 use Rattle.matching.proofs.Judging.{judge-short, judge-kept, judge-lengths, judge-wide, judge-done}
-use borrow.Author.Rules.{rules}
 use Rattle.matching.proofs.numbers.judge_numbers.Goals as goal
 
 pub returns-then-not-has_room : goal.returns-then-not-has_room
@@ -11,9 +10,9 @@ returns-then-not-has_room c = search judge-short
 
 pub read_numbers-read-requires : goal.read_numbers-read-requires
 read_numbers-read-requires c = record {
-      ids_in_bounds = (search room-second, search room-third);
-      lines_value = search cleared-again;
-    }
+  ids_in_bounds = (search room-second, search room-third);
+  lines_value = search cleared-again;
+}
 
 pub slice_bounds-judged_on-end : goal.slice_bounds-judged_on-end
 slice_bounds-judged_on-end c =

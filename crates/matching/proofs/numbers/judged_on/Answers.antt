@@ -1,5 +1,4 @@
 use Rattle.matching.proofs.Judging.{read-fault, read-incomplete, read-complete, fault-inside}
-use borrow.Author.Rules.{rules}
 use Rattle.matching.proofs.numbers.judged_on.Goals as goal
 
 pub returns-then-incomplete-ne0 : goal.returns-then-incomplete-ne0

@@ -1,5 +1,4 @@
 use Rattle.matching.proofs.Judging.{by-exact, by-equivalence}
-use borrow.Author.Rules.{rules}
 use Rattle.matching.proofs.numbers.mismatch.Goals as goal
 
 pub returns-in-Exact : goal.returns-in-Exact

@@ -1,10 +1,6 @@
 use borrow.Author.Rules.{rules}
-use Prim.Native.Nat.{◌-◌, ◌≤◌}
-use mathlib.Core.Path.{◌≡◌, refl}
-use mathlib.Core.Bool.{true}
-use Rattle.basis.specs.Scan.{every}
+use mathlib.Core.Path.{refl}
 use Rattle.basis.proofs.Scans.{every-none}
-use Rattle.matching.specs.Steps.{is_recorded}
 use Rattle.matching.proofs.Records.{end-stray, end-missing, end_later, end_whole}
 use Rattle.matching.proofs.reading.ended.Goals as goal
 

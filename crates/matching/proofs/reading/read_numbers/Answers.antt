@@ -1,8 +1,6 @@
 use native.Mathlib.Omega.{arith}
 use borrow.Author.Rules.{rules}
-use Prim.Native.Nat.{◌-◌}
-use lib.ListN.{length}
-use Rattle.matching.proofs.NumberLines.{Numbers, numbers-none, numbers-next, numbers-end, numbers-fault, numbers-over}
+use Rattle.matching.proofs.NumberLines.{numbers-none, numbers-next, numbers-end, numbers-fault, numbers-over}
 use Rattle.matching.proofs.NumberLines.{numbers-full, named-within}
 use Rattle.matching.proofs.reading.read_numbers.Goals as goal
 

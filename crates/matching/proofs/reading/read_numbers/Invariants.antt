@@ -1,9 +1,6 @@
-use native.Mathlib.Omega.{arith}
-use borrow.Author.Rules.{rules}
 use Prim.Native.Nat.{◌-◌}
 use lib.ListN.{length}
-use Rattle.matching.proofs.NumberLines.{Numbers, numbers-none, numbers-next, numbers-end, numbers-fault, numbers-over}
-use Rattle.matching.proofs.NumberLines.{numbers-full, named-within}
+use Rattle.matching.proofs.NumberLines.{Numbers}
 use Rattle.matching.proofs.reading.read_numbers.Given as goal
 
 abbrev pub invariant-loop-k : goal.invariant-loop-k

@@ -26,12 +26,12 @@ bounds-lines-v-in-At c = search (found_below, to_z-of_z)
 
 pub returns-in-Missing : goal.returns-in-Missing
 returns-in-Missing c = record {
-      value = search (names-none, to_z-of_z);
-      lines_after = refl;
-    }
+  value = search (names-none, to_z-of_z);
+  lines_after = refl;
+}
 
 pub returns-else-lines-v-ne0 : goal.returns-else-lines-v-ne0
 returns-else-lines-v-ne0 c = record {
-      value = search (names-new, to_z-of_z);
-      lines_after = refl;
-    }
+  value = search (names-new, to_z-of_z);
+  lines_after = refl;
+}

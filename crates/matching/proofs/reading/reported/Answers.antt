@@ -1,5 +1,4 @@
 use Rattle.matching.proofs.Records.{reported-line}
-use borrow.Author.Rules.{rules}
 use Rattle.matching.proofs.reading.reported.Goals as goal
 
 pub returns : goal.returns

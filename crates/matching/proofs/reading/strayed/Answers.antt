@@ -1,5 +1,4 @@
 use Rattle.matching.proofs.Records.{stray-none, stray-kept, stray-here}
-use borrow.Author.Rules.{rules}
 use Rattle.matching.proofs.reading.strayed.Goals as goal
 
 pub returns-then-stray-ne0 : goal.returns-then-stray-ne0

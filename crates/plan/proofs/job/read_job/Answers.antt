@@ -1,7 +1,6 @@
 use Rattle.plan.proofs.Jobs.{job-bfs, job-cdlp, job-wcc, job-lcc, job-none}
 use Rattle.plan.proofs.Words.{word_at}
 use native.Mathlib.Omega.{arith}
-use borrow.Author.Rules.{rules}
 use Rattle.plan.proofs.job.read_job.Goals as goal
 
 pub overflow_add-at : goal.overflow_add-at

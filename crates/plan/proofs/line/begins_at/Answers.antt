@@ -1,9 +1,4 @@
-use Prim.Native.Nat.{◌-◌}
-use mathlib.Core.Path.{◌≡◌, refl}
 use native.Mathlib.Omega.{arith}
-use borrow.Author.Rules.{rules}
-use lib.ListN.{length, drop}
-use Rattle.plan.specs.Lines.{begins}
 use Rattle.plan.proofs.Words.{begins-not, begins-more, begins-end, has_in}
 use Rattle.plan.proofs.line.begins_at.Goals as goal
 

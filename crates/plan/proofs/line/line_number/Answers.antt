@@ -1,8 +1,5 @@
-use Prim.Native.Nat.{◌+◌, ◌-◌, ◌≤◌}
-use mathlib.Core.Path.{◌≡◌, refl}
+use mathlib.Core.Path.{refl}
 use native.Mathlib.Omega.{arith}
-use lib.ListN.{take, drop}
-use Rattle.plan.specs.Lines.{lfs, line_number}
 use Rattle.plan.proofs.Lines.{number_more, number-on, number_short, number-end}
 use Rattle.plan.proofs.line.line_number.Goals as goal
 

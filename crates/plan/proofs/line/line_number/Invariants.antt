@@ -1,9 +1,7 @@
 use Prim.Native.Nat.{◌+◌, ◌-◌, ◌≤◌}
-use mathlib.Core.Path.{◌≡◌, refl}
-use native.Mathlib.Omega.{arith}
+use mathlib.Core.Path.{◌≡◌}
 use lib.ListN.{take, drop}
 use Rattle.plan.specs.Lines.{lfs, line_number}
-use Rattle.plan.proofs.Lines.{number_more, number-on, number_short, number-end}
 use Rattle.plan.proofs.line.line_number.Given as goal
 
 abbrev pub invariant-loop-i : goal.invariant-loop-i

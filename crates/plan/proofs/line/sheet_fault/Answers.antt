@@ -1,4 +1,3 @@
-use borrow.Author.Rules.{rules}
 use Rattle.plan.proofs.line.sheet_fault.Goals as goal
 
 pub returns : goal.returns

@@ -1,5 +1,4 @@
 use Rattle.plan.proofs.Checks.{too_long, check-refused, check-more, check-good}
-use borrow.Author.Rules.{rules}
 use Rattle.plan.proofs.sections.check.Goals as goal
 
 pub returns-then-s-gt-MOST_BYTES : goal.returns-then-s-gt-MOST_BYTES

@@ -1,7 +1,6 @@
 use Rattle.plan.proofs.Checks.{count-bad, count-open, count-over, count-good}
 use Rattle.plan.proofs.Words.{has_in}
 use native.Mathlib.Omega.{arith}
-use borrow.Author.Rules.{rules}
 use Rattle.plan.proofs.sections.count_line.Goals as goal
 
 pub returns-then-not-has : goal.returns-then-not-has

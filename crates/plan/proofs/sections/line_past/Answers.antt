@@ -2,7 +2,6 @@ use mathlib.Core.Path.{sym, ◌∙◌}
 use Rattle.plan.proofs.Checks.{past-refused, past-job, past-line, past_open}
 use Rattle.text.proofs.Bytes.{has-below}
 use native.Mathlib.Omega.{arith}
-use borrow.Author.Rules.{rules}
 use Rattle.plan.proofs.sections.line_past.Goals as goal
 
 pub returns-in-Refused : goal.returns-in-Refused

@@ -1,7 +1,3 @@
-use mathlib.Core.Path.{◌≡◌, refl}
-use native.Mathlib.Omega.{arith}
-use borrow.Author.Rules.{rules}
-use Rattle.plan.specs.Sheet.{lines_past}
 use Rattle.plan.proofs.Checks.{lines_end, lines_more, lines-refused}
 use Rattle.plan.proofs.sections.lines_past.Goals as goal
 

@@ -1,8 +1,5 @@
-use mathlib.Core.Path.{◌≡◌, refl}
-use native.Mathlib.Omega.{arith}
-use borrow.Author.Rules.{rules}
+use mathlib.Core.Path.{◌≡◌}
 use Rattle.plan.specs.Sheet.{lines_past}
-use Rattle.plan.proofs.Checks.{lines_end, lines_more, lines-refused}
 use Rattle.plan.proofs.sections.lines_past.Given as goal
 
 abbrev pub invariant-loop-left : goal.invariant-loop-left

@@ -1,5 +1,4 @@
 use Rattle.plan.proofs.Checks.{mode-directed, mode-undirected, mode-none}
-use borrow.Author.Rules.{rules}
 use Rattle.plan.proofs.sections.mode_line.Goals as goal
 
 pub returns-then-begins_at : goal.returns-then-begins_at

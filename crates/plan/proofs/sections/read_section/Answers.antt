@@ -1,5 +1,4 @@
 use Rattle.plan.proofs.Checks.{section-refused, section-short, section-good}
-use borrow.Author.Rules.{rules}
 use Rattle.plan.proofs.sections.read_section.Goals as goal
 
 pub returns-in-Refused : goal.returns-in-Refused

@@ -1,5 +1,4 @@
 use Rattle.plan.proofs.Checks.{mode-refused, vertices-refused, edges-refused, jobs-refused, all-good}
-use borrow.Author.Rules.{rules}
 use Rattle.plan.proofs.sections.read_sections.Goals as goal
 
 pub returns-in-Refused : goal.returns-in-Refused

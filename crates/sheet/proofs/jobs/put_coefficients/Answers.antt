@@ -1,5 +1,4 @@
 use Rattle.sheet.proofs.Ran.{ran-refused, ran-done}
-use borrow.Author.Rules.{rules}
 use Rattle.sheet.proofs.jobs.put_coefficients.Goals as goal
 
 pub returns-in-Refused : goal.returns-in-Refused

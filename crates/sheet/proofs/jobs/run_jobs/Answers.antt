@@ -1,10 +1,6 @@
-use mathlib.Core.Path.{◌≡◌, refl}
+use mathlib.Core.Path.{refl}
 use native.Mathlib.Omega.{arith}
-use borrow.Author.Rules.{rules}
-use Rattle.graph.specs.Sound.{lent}
-use Rattle.write.specs.Put.{put_at}
 use Rattle.write.proofs.Puts.{putting-length}
-use Rattle.sheet.specs.Jobs.{jobs_text}
 use Rattle.sheet.proofs.Ran.{job_moved, jobs-end, jobs-fault, jobs-more}
 use Rattle.sheet.proofs.jobs.run_jobs.Goals as goal
 

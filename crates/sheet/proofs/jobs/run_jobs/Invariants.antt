@@ -1,11 +1,7 @@
-use mathlib.Core.Path.{◌≡◌, refl}
-use native.Mathlib.Omega.{arith}
-use borrow.Author.Rules.{rules}
+use mathlib.Core.Path.{◌≡◌}
 use Rattle.graph.specs.Sound.{lent}
 use Rattle.write.specs.Put.{put_at}
-use Rattle.write.proofs.Puts.{putting-length}
 use Rattle.sheet.specs.Jobs.{jobs_text}
-use Rattle.sheet.proofs.Ran.{job_moved, jobs-end, jobs-fault, jobs-more}
 use Rattle.sheet.proofs.jobs.run_jobs.Given as goal
 
 abbrev pub invariant-loop-left : goal.invariant-loop-left

@@ -1,7 +1,6 @@
 use mathlib.Core.Path.{sym, ap, ◌∙◌}
 use Rattle.matching.specs.Verdict.{says}
 use Rattle.trace.specs.Verdict.{as_refusal}
-use borrow.Author.Rules.{rules}
 use Rattle.trace.proofs.code.as_refusal.Goals as goal
 
 pub returns-in-Match : goal.returns-in-Match

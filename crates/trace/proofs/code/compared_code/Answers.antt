@@ -2,7 +2,6 @@ use Rattle.trace.proofs.Codes.{coded-refused}
 use mathlib.Core.Path.{ap}
 use Rattle.book.specs.Says.{says_compared}
 use Rattle.trace.specs.Book.{same_value}
-use borrow.Author.Rules.{rules}
 use Rattle.trace.proofs.code.compared_code.Goals as goal
 
 pub refusal_code-requires : goal.refusal_code-requires

@@ -3,7 +3,6 @@ use native.Mathlib.Omega.{arith}
 use mathlib.Core.Path.{ap}
 use Rattle.book.specs.Says.{says_headed}
 use Rattle.trace.specs.Book.{head_value}
-use borrow.Author.Rules.{rules}
 use Rattle.trace.proofs.code.headed_code.Goals as goal
 
 pub overflow_mul-result : goal.overflow_mul-result

@@ -2,7 +2,6 @@ use Rattle.trace.proofs.Codes.{coded-refused}
 use mathlib.Core.Path.{ap}
 use Rattle.kernels.specs.Answer.{says}
 use Rattle.trace.specs.Code.{nothing}
-use borrow.Author.Rules.{rules}
 use Rattle.trace.proofs.code.kernel_code.Goals as goal
 
 pub refusal_code-requires : goal.refusal_code-requires

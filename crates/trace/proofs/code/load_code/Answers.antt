@@ -3,7 +3,6 @@ use Rattle.trace.proofs.Codes.{coded-given, coded-refused}
 use mathlib.Core.Path.{ap}
 use Rattle.load.specs.Load.{says}
 use Rattle.trace.specs.Load.{load_value}
-use borrow.Author.Rules.{rules}
 use Rattle.trace.proofs.code.load_code.Goals as goal
 
 pub overflow_mul-result : goal.overflow_mul-result

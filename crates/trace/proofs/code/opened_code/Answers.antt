@@ -2,7 +2,6 @@ use Rattle.trace.proofs.Codes.{coded-refused}
 use mathlib.Core.Path.{ap}
 use Rattle.book.specs.Says.{says_opened}
 use Rattle.trace.specs.Code.{nothing}
-use borrow.Author.Rules.{rules}
 use Rattle.trace.proofs.code.opened_code.Goals as goal
 
 pub refusal_code-requires : goal.refusal_code-requires

@@ -1,6 +1,5 @@
 use mir.Facts.{to_z-of_z}
 use Rattle.trace.proofs.Runs.{bfs-readable, bfs-told}
-use borrow.Author.Rules.{rules}
 use Rattle.trace.proofs.four_kernels.trace_bfs.Goals as goal
 
 pub kernel_code-requires : goal.kernel_code-requires

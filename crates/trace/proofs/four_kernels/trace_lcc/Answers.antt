@@ -1,5 +1,4 @@
 use Rattle.trace.proofs.Runs.{lcc-readable, lcc-told}
-use borrow.Author.Rules.{rules}
 use Rattle.trace.proofs.four_kernels.trace_lcc.Goals as goal
 
 pub kernel_code-requires : goal.kernel_code-requires

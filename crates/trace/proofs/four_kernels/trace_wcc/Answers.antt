@@ -1,5 +1,4 @@
 use Rattle.trace.proofs.Runs.{wcc-readable, wcc-told}
-use borrow.Author.Rules.{rules}
 use Rattle.trace.proofs.four_kernels.trace_wcc.Goals as goal
 
 pub kernel_code-requires : goal.kernel_code-requires

@@ -1,7 +1,6 @@
 use Rattle.trace.specs.Book.{head_value}
 use Rattle.trace.proofs.Codes.{readable-by, coded_by}
 use Rattle.trace.proofs.Books.{head-readable}
-use borrow.Author.Rules.{rules}
 use Rattle.trace.proofs.group_book.trace_book_head.Goals as goal
 
 pub headed_code-requires : goal.headed_code-requires

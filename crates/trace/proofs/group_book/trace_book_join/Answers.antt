@@ -1,6 +1,5 @@
 use Rattle.trace.specs.Book.{join_value}
 use Rattle.trace.proofs.Books.{book-readable, book-told, join-readable}
-use borrow.Author.Rules.{rules}
 use Rattle.trace.proofs.group_book.trace_book_join.Goals as goal
 
 pub joined_code-requires : goal.joined_code-requires

@@ -1,7 +1,6 @@
 use Rattle.trace.specs.Book.{reading_value}
 use Rattle.trace.proofs.Codes.{readable-by, coded_by}
 use Rattle.trace.proofs.Books.{limit-readable}
-use borrow.Author.Rules.{rules}
 use Rattle.trace.proofs.group_book.trace_book_limit.Goals as goal
 
 pub reading_code-requires : goal.reading_code-requires

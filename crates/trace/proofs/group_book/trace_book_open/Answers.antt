@@ -1,6 +1,5 @@
 use Rattle.trace.specs.Code.{nothing}
 use Rattle.trace.proofs.Books.{book-readable, book-told, open-readable}
-use borrow.Author.Rules.{rules}
 use Rattle.trace.proofs.group_book.trace_book_open.Goals as goal
 
 pub opened_code-requires : goal.opened_code-requires

@@ -1,7 +1,6 @@
 use Rattle.trace.specs.Book.{same_value}
 use Rattle.trace.proofs.Codes.{readable-by, coded_by}
 use Rattle.trace.proofs.Books.{same-readable}
-use borrow.Author.Rules.{rules}
 use Rattle.trace.proofs.group_book.trace_book_same.Goals as goal
 
 pub compared_code-requires : goal.compared_code-requires

@@ -1,6 +1,5 @@
 use mir.Facts.{to_z-of_z}
 use Rattle.trace.proofs.Claims.{desk-small, desk-told}
-use borrow.Author.Rules.{rules}
 use Rattle.trace.proofs.judging.judge_loaded.Goals as goal
 
 pub host_code-requires : goal.host_code-requires

@@ -1,6 +1,5 @@
 use mir.Facts.{to_z-of_z}
 use Rattle.trace.proofs.Claims.{judge-small, judge-told}
-use borrow.Author.Rules.{rules}
 use Rattle.trace.proofs.judging.trace_judge.Goals as goal
 
 pub refusal_code-requires : goal.refusal_code-requires

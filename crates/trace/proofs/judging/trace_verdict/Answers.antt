@@ -3,7 +3,6 @@ use mir.Facts.{to_z-of_z}
 use native.Mathlib.Omega.{arith}
 use Rattle.trace.specs.Code.{narrow, Small}
 use Rattle.trace.proofs.Hosts.{host-unknown, host-refused-small, host-refused, host-judged}
-use borrow.Author.Rules.{rules}
 use Rattle.trace.proofs.judging.trace_verdict.Goals as goal
 
 pub host_code-requires : goal.host_code-requires

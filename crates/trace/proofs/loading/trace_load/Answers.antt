@@ -1,5 +1,4 @@
 use Rattle.trace.proofs.Loads.{load-readable, load_told_lem}
-use borrow.Author.Rules.{rules}
 use Rattle.trace.proofs.loading.trace_load.Goals as goal
 
 pub load_code-requires : goal.load_code-requires

@@ -1,7 +1,6 @@
 use Rattle.verdicts.proofs.Settling.{numbers-refused, numbers-short, known-ids, numbers-done}
 use mathlib.Core.Path.{sym}
 use lib.Seq.{length-take-le}
-use borrow.Author.Rules.{rules}
 use Rattle.verdicts.proofs.claims.numbers_on.Goals as goal
 
 pub returns-then-not-room : goal.returns-then-not-room

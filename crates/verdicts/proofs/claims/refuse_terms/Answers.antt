@@ -1,5 +1,4 @@
 use Rattle.verdicts.proofs.Settling.{all-terms}
-use borrow.Author.Rules.{rules}
 use Rattle.verdicts.proofs.claims.refuse_terms.Goals as goal
 
 pub returns : goal.returns

@@ -1,6 +1,5 @@
 use Rattle.verdicts.proofs.Settling.{area-stays, area-goes}
 use mathlib.Core.Path.{refl}
-use borrow.Author.Rules.{rules}
 use Rattle.verdicts.proofs.claims.settle_numbers.Goals as goal
 
 pub returns-then-not-is_refused : goal.returns-then-not-is_refused

@@ -1,6 +1,5 @@
 use mir.Facts.{to_z-of_z}
 use Rattle.verdicts.proofs.Kernels.{bfs-known, bfs-roomy, bfs-cleared, bfs-verdict}
-use borrow.Author.Rules.{rules}
 use Rattle.verdicts.proofs.each.on_bfs.Goals as goal
 
 pub numbers_on-requires : goal.numbers_on-requires
@@ -14,6 +13,6 @@ numbers_on-requires c =
 
 pub returns : goal.returns
 returns c = record {
-      lines_after = search (bfs-verdict, to_z-of_z);
-      queue_after = search (bfs-cleared, to_z-of_z);
-    }
+  lines_after = search (bfs-verdict, to_z-of_z);
+  queue_after = search (bfs-cleared, to_z-of_z);
+}

@@ -1,6 +1,5 @@
 use mir.Facts.{to_z-of_z}
 use Rattle.verdicts.proofs.Kernels.{cdlp-known, cdlp-roomy, cdlp-cleared, cdlp-verdict}
-use borrow.Author.Rules.{rules}
 use Rattle.verdicts.proofs.each.on_cdlp.Goals as goal
 
 pub numbers_on-requires : goal.numbers_on-requires

@@ -1,5 +1,4 @@
 use Rattle.verdicts.proofs.Fractions.{lcc-known, lcc-roomy, lcc-cleared, lcc-verdict}
-use borrow.Author.Rules.{rules}
 use Rattle.verdicts.proofs.each.on_lcc.Goals as goal
 
 pub terms_on-requires : goal.terms_on-requires

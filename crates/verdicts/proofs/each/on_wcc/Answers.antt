@@ -1,5 +1,4 @@
 use Rattle.verdicts.proofs.Kernels.{wcc-known, wcc-roomy, wcc-cleared, wcc-verdict}
-use borrow.Author.Rules.{rules}
 use Rattle.verdicts.proofs.each.on_wcc.Goals as goal
 
 pub numbers_on-requires : goal.numbers_on-requires
@@ -12,6 +11,6 @@ numbers_on-requires c =
 
 pub returns : goal.returns
 returns c = record {
-      lines_after = search wcc-verdict;
-      heads_after = search wcc-cleared;
-    }
+  lines_after = search wcc-verdict;
+  heads_after = search wcc-cleared;
+}

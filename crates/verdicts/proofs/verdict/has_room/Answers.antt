@@ -1,5 +1,4 @@
 use Rattle.verdicts.proofs.Calls.{room-all}
-use borrow.Author.Rules.{rules}
 use Rattle.verdicts.proofs.verdict.has_room.Goals as goal
 
 pub returns : goal.returns

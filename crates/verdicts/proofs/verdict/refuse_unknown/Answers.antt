@@ -1,5 +1,4 @@
 use Rattle.verdicts.proofs.Calls.{unknown-all}
-use borrow.Author.Rules.{rules}
 use Rattle.verdicts.proofs.verdict.refuse_unknown.Goals as goal
 
 pub returns : goal.returns

@@ -1,6 +1,5 @@
 use mir.Facts.{to_z-of_z}
 use Rattle.verdicts.proofs.Calls.{roomy, verdict-unknown, verdict-bfs, verdict-wcc, verdict-cdlp, verdict-lcc}
-use borrow.Author.Rules.{rules}
 use Rattle.verdicts.proofs.verdict.verdict_within.Goals as goal
 
 pub on_bfs-requires : goal.on_bfs-requires
