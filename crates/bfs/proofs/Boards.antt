@@ -37,7 +37,8 @@ seen-lt [] w h e = absurd (not-suc-le-zero h)
 seen-lt (z ∷ l) zero h e = rw e (omega (arith, seen-le l))
 seen-lt (z ∷ l) (suc w) h e = omega (arith, more-le (is_far z) (seen l), seen-lt l w (le_of_suc-le-suc h) e)
 
-seen-set : (l : List ℤ) (w : ℕ) (y : ℤ) → w < length l → is_far (get_or l w (pos 0)) ≡ true → is_far y ≡ false → seen (set l w y) ≡ suc (seen l)
+seen-set : (l : List ℤ) (w : ℕ) (y : ℤ) → w < length l → is_far (get_or l w (pos 0)) ≡ true → is_far y ≡ false → seen (set l w y)
+    ≡ suc (seen l)
 unfolding seen
 seen-set [] w y h e f = absurd (not-suc-le-zero h)
 seen-set (z ∷ l) zero y h e f = rw (e, f)

@@ -147,14 +147,16 @@ module _ (size : Size) (ids : List ℤ) (oo ot io is : List ℕ) (root : ℤ) (D
       pub call-short : r ≡ false → o ≡ refusal no_room D Q₁ → o ≡ bfs_call graph root D Q
       unfolding bfs_call left_by
       call-short l q =
-          ends-short left o (sound_graph graph) (is_there place) not_there roomy s (check-told e) h (is_there f) (ap is_there found) given r i l
+          ends-short left o (sound_graph graph) (is_there place) not_there roomy s (check-told e) h (is_there f) (ap is_there found) given r
+          i l
           q
           ∙ over
 
       pub call-done : r ≡ true → o ≡ left_by (gives tt) graph (At v) D Q₁ → o ≡ bfs_call graph root D Q
       unfolding bfs_call
       call-done l q =
-          ends-done left o (sound_graph graph) (is_there place) not_there roomy s (check-told e) h (is_there f) (ap is_there found) given r i l
+          ends-done left o (sound_graph graph) (is_there place) not_there roomy s (check-told e) h (is_there f) (ap is_there found) given r
+          i l
           (q ∙ ap (λ (x : Found). left_by (gives tt) graph x D Q₁) (sym a ∙ found))
           ∙ over
 

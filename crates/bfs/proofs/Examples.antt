@@ -16,21 +16,24 @@ use Rattle.bfs.specs.Call.{outcome, room_for, left_by, bfs_call}
 -- areas with places to spare that held something before
 pub spare-places : bfs_call sheet_graph (pos 2) (pos 7 ∷ pos 7 ∷ pos 7 ∷ pos 7 ∷ pos 7 ∷ pos 7 ∷ pos 7 ∷ []) (9 ∷ 9 ∷ 9 ∷ 9 ∷ 9 ∷ 9 ∷ [])
     ≡ outcome (gives tt) (pos 9223372036854775807 ∷ pos 0 ∷ pos 1 ∷ pos 1 ∷ pos 2 ∷ pos 0 ∷ pos 0 ∷ []) (0 ∷ 0 ∷ 0 ∷ 0 ∷ 0 ∷ 0 ∷ [])
-unfolding bfs_call left_by room_for kernel_says sound_sides sound_graph sound_ids sound_side sound_offsets mirrored every each place_from first_from
+unfolding bfs_call left_by room_for kernel_says sound_sides sound_graph sound_ids sound_side sound_offsets mirrored every each place_from
+    first_from
     ends ring
     ring_depth depth_of column mem part_of targets_between
 spare-places = refl
 
 -- no vertex is 3
 pub root-missing : bfs_call sheet_graph (pos 3) (pos 7 ∷ []) (9 ∷ 9 ∷ []) ≡ outcome (refuses (plain 10)) (pos 0 ∷ []) (0 ∷ 0 ∷ [])
-unfolding bfs_call left_by room_for kernel_says sound_sides sound_graph sound_ids sound_side sound_offsets mirrored every each place_from mem part_of
+unfolding bfs_call left_by room_for kernel_says sound_sides sound_graph sound_ids sound_side sound_offsets mirrored every each place_from
+    mem part_of
     targets_between
 root-missing = refl
 
 -- a queue of four places is too short
 pub queue-short : bfs_call sheet_graph (pos 2) (pos 7 ∷ pos 7 ∷ pos 7 ∷ pos 7 ∷ pos 7 ∷ []) (9 ∷ 9 ∷ 9 ∷ 9 ∷ [])
     ≡ outcome (refuses (plain 8)) (pos 0 ∷ pos 0 ∷ pos 0 ∷ pos 0 ∷ pos 0 ∷ []) (0 ∷ 0 ∷ 0 ∷ 0 ∷ [])
-unfolding bfs_call left_by room_for kernel_says sound_sides sound_graph sound_ids sound_side sound_offsets mirrored every each place_from mem part_of
+unfolding bfs_call left_by room_for kernel_says sound_sides sound_graph sound_ids sound_side sound_offsets mirrored every each place_from
+    mem part_of
     targets_between
 queue-short = refl
 
@@ -49,6 +52,7 @@ six_vertices =
     }
 
 pub graph-unsound : bfs_call six_vertices (pos 3) (pos 7 ∷ []) (9 ∷ []) ≡ outcome (refuses (plain 9)) (pos 0 ∷ []) (0 ∷ [])
-unfolding bfs_call left_by room_for kernel_says sound_sides sound_graph sound_ids sound_side sound_offsets mirrored every each place_from mem part_of
+unfolding bfs_call left_by room_for kernel_says sound_sides sound_graph sound_ids sound_side sound_offsets mirrored every each place_from
+    mem part_of
     targets_between
 graph-unsound = refl

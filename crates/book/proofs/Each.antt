@@ -95,7 +95,8 @@ module _ (a : EachOutcome (List ℤ)) (b : List ℤ) (u : ℕ) (ws : List ℕ) (
   unfolding join_each behind
   each-end l =
       let p : m ≡ 0 + m = omega arith in
-      ap (λ (k : ℕ). each_outcome (all k) b) p ∙ ap (λ (x : List ℕ). behind i m (join_each one_book b u x)) (sym (drop_of_length-le ws l)) ∙ f
+      ap (λ (k : ℕ). each_outcome (all k) b) p ∙ ap (λ (x : List ℕ). behind i m (join_each one_book b u x)) (sym (drop_of_length-le ws l))
+      ∙ f
 
   module _ (l : i < length ws) (c : List ℤ) (r : Carried) (e : outcome (says_carried r) c ≡ join_book one_book b u (get_or ws i 0)) where
     turned : (s : Said Joining) → says_carried r ≡ s → behind i m (and_on s c (join_each one_book c u (drop (i + 1) ws))) ≡ a

@@ -38,7 +38,8 @@ top_of s p h =
     go j l = elim (dec_le j most_moves) [ yes y ↦ y | no n ↦ absurd (omega (arith, pow_mono {i = 17} {j = j} (omega arith))) ]
 
 -- the count of a size's leading zeros, as a machine word of 64 digits has them, gives the largest power
-pub largest-leading : (s : ℕ) → 0 < s → s ≤ most_vertices → (count_leading_zeros 64 s ≤ 63) × (63 - count_leading_zeros 64 s ≡ largest most_moves s)
+pub largest-leading : (s : ℕ) → 0 < s → s ≤ most_vertices → (count_leading_zeros 64 s ≤ 63)
+    × (63 - count_leading_zeros 64 s ≡ largest most_moves s)
 largest-leading s p h = let t = top_of s p h in (omega (arith, t.1), omega (arith, t.1, t.4))
 
 -- it is the largest k with 2 to the k at most the size

@@ -69,7 +69,8 @@ coefficient_claim a b claim = judges (coefficients_call most_lines (pos 1 ∷ []
 abbrev component_claim : List ℕ → Value
 component_claim claim =
     judges
-    (numbers_call Equivalence most_lines (pos 1 ∷ pos 2 ∷ pos 3 ∷ []) (pos 1 ∷ pos 1 ∷ pos 3 ∷ []) claim (replicate 3 (pos 0)) (replicate 3 0)
+    (numbers_call Equivalence most_lines (pos 1 ∷ pos 2 ∷ pos 3 ∷ []) (pos 1 ∷ pos 1 ∷ pos 3 ∷ []) claim (replicate 3 (pos 0))
+    (replicate 3 0)
     ).said
 
 -- a book of four vertices after a series of calls, its area holding anything before

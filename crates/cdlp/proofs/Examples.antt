@@ -18,18 +18,23 @@ pub spare-place : cdlp_call sheet_graph (pos 2) (pos 7 ∷ pos 7 ∷ pos 7 ∷ p
     (1 ∷ 1 ∷ 1 ∷ 1 ∷ 1 ∷ []) (1 ∷ 1 ∷ 1 ∷ 1 ∷ 1 ∷ 1 ∷ [])
     ≡ outcome (gives tt) (negsuc 2 ∷ pos 2 ∷ pos 5 ∷ pos 2 ∷ pos 2 ∷ pos 0 ∷ []) (0 ∷ 0 ∷ 0 ∷ 0 ∷ 0 ∷ []) (0 ∷ 0 ∷ 0 ∷ 0 ∷ 0 ∷ [])
     (0 ∷ 0 ∷ 0 ∷ 0 ∷ 0 ∷ 0 ∷ [])
-unfolding cdlp_call left_by kernel_says good_rounds room_for sound_sides sound_graph sound_ids sound_side sound_offsets mirrored every each mem
-    targets_between part_of column times most_times standing most_common smallest smallest_or next_label around labels_at next_at one_round rounds
+unfolding cdlp_call left_by kernel_says good_rounds room_for sound_sides sound_graph sound_ids sound_side sound_offsets mirrored every each
+    mem
+    targets_between part_of column times most_times standing most_common smallest smallest_or next_label around labels_at next_at one_round
+    rounds
     cdlp_of
 spare-place = refl
 
 -- a round too many comes before an area too short: 11, then 8
 pub too_many : cdlp_call sheet_graph (pos 1001) (pos 7 ∷ []) [] [] [] ≡ outcome (refuses (plain 11)) (pos 0 ∷ []) [] [] []
-unfolding cdlp_call left_by kernel_says good_rounds sound_sides sound_graph sound_ids sound_side sound_offsets mirrored every each mem targets_between
+unfolding cdlp_call left_by kernel_says good_rounds sound_sides sound_graph sound_ids sound_side sound_offsets mirrored every each mem
+    targets_between
     part_of
 too_many = refl
 
-pub too_short : cdlp_call sheet_graph (pos most_rounds) (pos 7 ∷ []) (3 ∷ []) [] [] ≡ outcome (refuses (plain 8)) (pos 0 ∷ []) (0 ∷ []) [] []
-unfolding cdlp_call left_by kernel_says good_rounds room_for sound_sides sound_graph sound_ids sound_side sound_offsets mirrored every each mem
+pub too_short : cdlp_call sheet_graph (pos most_rounds) (pos 7 ∷ []) (3 ∷ []) [] []
+    ≡ outcome (refuses (plain 8)) (pos 0 ∷ []) (0 ∷ []) [] []
+unfolding cdlp_call left_by kernel_says good_rounds room_for sound_sides sound_graph sound_ids sound_side sound_offsets mirrored every each
+    mem
     targets_between part_of
 too_short = refl

@@ -102,7 +102,8 @@ module _ {B : Type 0} {same less : B → B → Bool} (order : Order same less) (
   unfolding smallest labels_at
   smallest-named a [] h g = refl
   smallest-named a (c ∷ cs) h g =
-      ap (λ t. smallest less (cond t (get_or F c z) (get_or F a z)) (labels_at z F cs)) (less-places order z F r c a (below-first n c cs g) h)
+      ap (λ t. smallest less (cond t (get_or F c z) (get_or F a z)) (labels_at z F cs))
+      (less-places order z F r c a (below-first n c cs g) h)
       ∙ go (ltb c a) (smallest-named (cond (ltb c a) c a) cs (low (ltb c a)) (below_rest n c cs g))
     where
       low : (t : Bool) → cond t c a < n

@@ -51,7 +51,8 @@ label-low {part = part} {L = L} {C = C} h D e i q = rw e (below_at (length C) L 
 pub hear-more : (L part : List ℕ) (i : ℕ) (C : List ℕ) (b r : Best) (whole : Poll) → i < length part
     → polled_all (labels_at 0 L (drop i part)) (poll C b) ≡ whole
     → r ≡ best_with b (get_or L (get_or part i 0) 0) (get_or C (get_or L (get_or part i 0) 0) 0 + 1)
-    → polled_all (labels_at 0 L (drop (i + 1) part)) (poll (set C (get_or L (get_or part i 0) 0) (get_or C (get_or L (get_or part i 0) 0) 0 + 1)) r)
+    → polled_all (labels_at 0 L (drop (i + 1) part))
+    (poll (set C (get_or L (get_or part i 0) 0) (get_or C (get_or L (get_or part i 0) 0) 0 + 1)) r)
     ≡ whole
 unfolding polled_all polled
 hear-more L part i C b r whole h e q =

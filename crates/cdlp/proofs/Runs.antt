@@ -49,7 +49,8 @@ unfolding cdlp_of
 cdlp-numbers g s k =
     let hears : ℕ → List ℕ = around (inward g) (outward g) in
     let n = names-length g s in
-    subst (λ (j : ℕ). labels_at (pos 0) (names g) (rounds eqb ltb 0 hears j (own_numbers j) k) ≡ rounds same_z lt_z (pos 0) hears j (names g) k)
+    subst (λ (j : ℕ). labels_at (pos 0) (names g) (rounds eqb ltb 0 hears j (own_numbers j) k)
+    ≡ rounds same_z lt_z (pos 0) hears j (names g) k)
     n
     (numbers-named signed-order (pos 0) (names g) s.ids_rise hears
     (λ v l. subst (λ (j : ℕ). all_below j (hears v) ≡ true) (sym n)

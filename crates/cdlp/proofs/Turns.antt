@@ -40,7 +40,9 @@ module _ {io is oo ot labels : List ℕ} where
       }
 
   pub filled_none : {next : List ℕ} → Filled io is oo ot labels next next 0
-  filled_none {next} = record { front = column-none (next_at eqb ltb 0 (around_in (length labels) io is oo ot) (length labels) labels) next }
+  filled_none {next} = record {
+    front = column-none (next_at eqb ltb 0 (around_in (length labels) io is oo ot) (length labels) labels) next;
+  }
 
   pub filled_more : {next₀ counts next a b : List ℕ} {v r : ℕ} → Runnable io is oo ot labels next₀ counts → v < length labels
       → Filled io is oo ot labels next₀ next v
@@ -60,10 +62,12 @@ module _ {io is oo ot labels : List ℕ} where
       → next ≡ next_numbers io is oo ot labels
   unfolding one_round
   filled-all {next₀} {counts} {next} {v} s g h f =
-      column-end (next_at eqb ltb 0 (around_in (length labels) io is oo ot) (length labels) labels) v (length labels) next₀ next (omega arith)
+      column-end (next_at eqb ltb 0 (around_in (length labels) io is oo ot) (length labels) labels) v (length labels) next₀ next
+      (omega arith)
       (let l = s.room_next in omega arith) f.front
 
-pub around-low : (n : ℕ) (io is oo ot : List ℕ) → AllBounded n io is oo ot → (v : ℕ) → v < n → all_below n (around_in n io is oo ot v) ≡ true
+pub around-low : (n : ℕ) (io is oo ot : List ℕ) → AllBounded n io is oo ot → (v : ℕ) → v < n → all_below n (around_in n io is oo ot v)
+    ≡ true
 unfolding around
 around-low n io is oo ot h v l = below-append n (part_of n io is v) (part_of n oo ot v) (h v l).low_in (h v l).low_out
 

@@ -112,7 +112,8 @@ module _ {A : Type 0} {same less : A → A → Bool} (order : Order same less) (
             let e = b.inside in
             elim (ℕ_discrete i middle) as (λ _. less (get_or l i z) x ≡ true) [
               | yes q ↦ rw q t
-              | no d ↦ less-trans order (get_or l i z) (get_or l middle z) x (rising-less order z l r i middle (omega arith) (omega arith)) t
+              | no d ↦ less-trans order (get_or l i z) (get_or l middle z) x (rising-less order z l r i middle (omega arith) (omega arith))
+                  t
             ];
         behind = b.behind;
       }
@@ -214,7 +215,10 @@ bisect-below l id (suc turns) low high i h e =
           | true ↦
               elim b [
                 | true ↦ bisect lt_z (pos 0) l id turns (low + (high - low) / 2 + 1) high
-                | false ↦ elim c [ true ↦ bisect lt_z (pos 0) l id turns low (low + (high - low) / 2) | false ↦ At (low + (high - low) / 2) ]
+                | false ↦ elim c [
+                  | true ↦ bisect lt_z (pos 0) l id turns low (low + (high - low) / 2)
+                  | false ↦ At (low + (high - low) / 2)
+                ]
               ]
           | false ↦ Missing
         ] ≡ At i

@@ -99,7 +99,8 @@ pub mirrored-of : (n : ℕ) (from back : ℕ → List ℕ) → ((u w : ℕ) → 
 unfolding mirrored
 mirrored-of n from back h =
     every_of (λ u. each (λ w. mem u (back w)) (from u)) n
-    (λ u l. each_of (λ w. mem u (back w)) 0 (from u) (λ i k. h u (get_or (from u) i 0) l (mem_index (get_or (from u) i 0) (from u) i k refl)))
+    (λ u l. each_of (λ w. mem u (back w)) 0 (from u)
+    (λ i k. h u (get_or (from u) i 0) l (mem_index (get_or (from u) i 0) (from u) i k refl)))
 
 -- ---- what the parts of a sound graph are
 module _ (g : Graph) (s : Sound g) where

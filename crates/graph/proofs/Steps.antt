@@ -119,13 +119,15 @@ module _ (n v least : ℕ) (l : List ℕ) (i : ℕ) (g : i < length l) (e : fitt
   part-wide h = rw (le-ltb (get_or l i 0) n h, and-off (leb least (get_or l i 0)) false refl) at left
 
   pub part-self : get_or l i 0 ≡ v → false ≡ sound_part n v l
-  part-self h = rw (eq-eqb (get_or l i 0) v h, and-off (ltb (get_or l i 0) n) false refl, and-off (leb least (get_or l i 0)) false refl) at left
+  part-self h = rw (eq-eqb (get_or l i 0) v h, and-off (ltb (get_or l i 0) n) false refl, and-off (leb least (get_or l i 0)) false refl) at
+      left
 
   pub part-more : least ≤ get_or l i 0 → get_or l i 0 < n → (get_or l i 0 ≡ v → ⊥)
       → fitting n v (get_or l i 0 + 1) (drop (i + 1) l) ≡ sound_part n v l
   part-more a b d = rw (le-leb least (get_or l i 0) a, lt-ltb (get_or l i 0) n b, ne_eqb (get_or l i 0) v d) at left
 
-pub part_end : (n v least : ℕ) (l : List ℕ) (i : ℕ) → length l ≤ i → fitting n v least (drop i l) ≡ sound_part n v l → true ≡ sound_part n v l
+pub part_end : (n v least : ℕ) (l : List ℕ) (i : ℕ) → length l ≤ i → fitting n v least (drop i l) ≡ sound_part n v l → true
+    ≡ sound_part n v l
 part_end n v least l i h e = rw (drop_of_length-le l h) at e
 
 -- ---- "Offsets begin at 0, never fall and end at the arc count"

@@ -55,7 +55,8 @@ mem-new l c r h =
 rising-last : (x : ℕ) (l : List ℕ) → rising l ≡ true → ((v : ℕ) → mem v l ≡ true → v < x) → rising (l ++ (x ∷ [])) ≡ true
 rising-last x l r h =
     rising_by-of ltb 0 (l ++ (x ∷ []))
-    (λ i g. lt-ltb (get_or (l ++ (x ∷ [])) i 0) (get_or (l ++ (x ∷ [])) (suc i) 0) (steps i (let e = length-append l (x ∷ []) in omega arith)))
+    (λ i g. lt-ltb (get_or (l ++ (x ∷ [])) i 0) (get_or (l ++ (x ∷ [])) (suc i) 0)
+    (steps i (let e = length-append l (x ∷ []) in omega arith)))
   where
     steps : (i : ℕ) → i < length l → get_or (l ++ (x ∷ [])) i 0 < get_or (l ++ (x ∷ [])) (suc i) 0
     steps i g =
@@ -314,7 +315,8 @@ module _ {n : ℕ} {out : ℕ → List ℕ} {off src : List ℕ} (s : Ways n out
         (λ h. clash (rw (into-is w lw) at (back h)) (mem-none u (stretch src (start off w) (end off w)) (stands h)))
       where
         back : both_ways n out (part_of n off src) ≡ true → mem u (part_of n off src w) ≡ true
-        back h = mirrored-at n out (part_of n off src) (and_first (mirrored n out (part_of n off src)) (mirrored n (part_of n off src) out) h)
+        back h = mirrored-at n out (part_of n off src)
+            (and_first (mirrored n out (part_of n off src)) (mirrored n (part_of n off src) out) h)
             u w lu here
 
         stands : both_ways n out (part_of n off src) ≡ true → (j : ℕ) → j < length (stretch src (start off w) (end off w))
@@ -355,7 +357,8 @@ module _ {n : ℕ} {out : ℕ → List ℕ} {off src : List ℕ} (s : Ways n out
               let m : mem (get_or src (get_or cursors w 0) 0) (part_of n off src w)
               ≡ true = rw (into-is w l) (stretch-mem src (start off w) (end off w) (get_or cursors w 0) (k.from w l) g (end_low w l)) in
               let o = mirrored-at n (part_of n off src) out
-              (and_second (mirrored n out (part_of n off src)) (mirrored n (part_of n off src) out) h) w (get_or src (get_or cursors w 0) 0) l
+              (and_second (mirrored n out (part_of n off src)) (mirrored n (part_of n off src) out) h) w (get_or src (get_or cursors w 0) 0)
+              l
               m in
               clash (k.exact w l (get_or src (get_or cursors w 0) 0)
               ∙ passed-of out n 0 (get_or src (get_or cursors w 0) 0) w (into-below w l (get_or src (get_or cursors w 0) 0) m) o)
@@ -368,7 +371,8 @@ module _ {n : ℕ} {out : ℕ → List ℕ} {off src : List ℕ} (s : Ways n out
               ∙ stretch-mem src (start off w) (get_or cursors w 0) (end off w) (side.grows w l) g (k.upto w l) in
               let m = mirrored-at n out (part_of n off src)
               (and_first (mirrored n out (part_of n off src)) (mirrored n (part_of n off src) out) h) (get_or src (end off w) 0) w
-              (ltb-true (get_or src (end off w) 0) n (and_first (ltb (get_or src (end off w) 0) n) (mem w (out (get_or src (end off w) 0))) p))
+              (ltb-true (get_or src (end off w) 0) n
+              (and_first (ltb (get_or src (end off w) 0) n) (mem w (out (get_or src (end off w) 0))) p))
               (and_second (ltb (get_or src (end off w) 0) n) (mem w (out (get_or src (end off w) 0))) p) in
               clash (rw (into-is w l) at m) (stretch-new src (start off w) (get_or cursors w 0) (end off w) (side.grows w l) g (k.upto w l)
               (k.rises w l))
@@ -397,7 +401,8 @@ module _ (src : List ℕ) (u : ℕ) (l : List ℕ) (i : ℕ) (cursors : List ℕ
 
       pub step-differs : (get_or src (get_or cursors (get_or l i 0) 0) 0 ≡ u → ⊥) → arcs_checked false cursors ≡ whole
       step-differs d =
-          sym (arcs-walked-off (and-off (ltb (get_or cursors (get_or l i 0) 0) (length src)) (eqb (get_or src (get_or cursors (get_or l i 0) 0) 0) u)
+          sym (arcs-walked-off (and-off (ltb (get_or cursors (get_or l i 0) 0) (length src))
+          (eqb (get_or src (get_or cursors (get_or l i 0) 0) 0) u)
           (ne_eqb (get_or src (get_or cursors (get_or l i 0) 0) 0) u d))) ∙ k
 
       pub step-more : get_or cursors (get_or l i 0) 0 < length src → get_or src (get_or cursors (get_or l i 0) 0) 0 ≡ u
@@ -416,7 +421,8 @@ module _ (src : List ℕ) (out : ℕ → List ℕ) (cursors : List ℕ) where
   unfolding all_walked
   all-walked-on u h = rw h
 
-  all-walked-off : (u : ℕ) → (all_walked src out u cursors).sound ≡ false → all_walked src out (suc u) cursors ≡ all_walked src out u cursors
+  all-walked-off : (u : ℕ) → (all_walked src out u cursors).sound ≡ false → all_walked src out (suc u) cursors
+      ≡ all_walked src out u cursors
   unfolding all_walked
   all-walked-off u h = rw h
 
@@ -482,7 +488,8 @@ module _ {n : ℕ} {out : ℕ → List ℕ} {off src : List ℕ} (s : Ways n out
       (told-step u lu left (i + 1) (omega arith) (set cursors w (get_or cursors w 0 + 1))
       (walk_more s u i lu li cursors k (ltb-true (get_or cursors w 0) (length src)
       (and_first (ltb (get_or cursors w 0) (length src)) (eqb (get_or src (get_or cursors w 0) 0) u) h))
-      (eqb-true (get_or src (get_or cursors w 0) 0) u (and_second (ltb (get_or cursors w 0) (length src)) (eqb (get_or src (get_or cursors w 0) 0) u)
+      (eqb-true (get_or src (get_or cursors w 0) 0) u
+      (and_second (ltb (get_or cursors w 0) (length src)) (eqb (get_or src (get_or cursors w 0) 0) u)
       h)))))
       (λ h. rw (arcs-walked-off src u (out u) i cursors li h) (record {
         came = λ f. clash f refl;

@@ -27,7 +27,10 @@ is_next src u cursors w = ltb (get_or cursors w 0) (length src) && eqb (get_or s
 unfoldable pub arcs_walked : List ℕ → ℕ → List ℕ → List ℕ → ArcsChecked
 arcs_walked src u [] cursors = arcs_checked true cursors
 arcs_walked src u (w ∷ l) cursors =
-    elim (is_next src u cursors w) [ true ↦ arcs_walked src u l (set cursors w (get_or cursors w 0 + 1)) | false ↦ arcs_checked false cursors ]
+    elim (is_next src u cursors w) [
+      | true ↦ arcs_walked src u l (set cursors w (get_or cursors w 0 + 1))
+      | false ↦ arcs_checked false cursors
+    ]
 
 -- the arcs of the vertices below u, in order
 unfoldable pub all_walked : List ℕ → (ℕ → List ℕ) → ℕ → List ℕ → ArcsChecked

@@ -61,7 +61,8 @@ module _ (o : List ℕ) (at : ℕ) {o₁ o₂ o₃ : List ℕ} {p₁ p₂ p₃ :
   unfolding pair_text
   pair_put id x v y e f = rw (← e, ← f) (three (named_text x) (signed_text y) (lf ∷ []))
 
-  pub ratio-put : (id x : ℤ) (n d : ℕ) → x ≡ id → written o₁ p₁ ≡ put_at o at (named_text x) → written o₂ p₂ ≡ put_at o₁ p₁ (fraction_text n d)
+  pub ratio-put : (id x : ℤ) (n d : ℕ) → x ≡ id → written o₁ p₁ ≡ put_at o at (named_text x) → written o₂ p₂
+      ≡ put_at o₁ p₁ (fraction_text n d)
       → written o₃ p₃ ≡ put_at o₂ p₂ (lf ∷ []) → written o₃ p₃ ≡ put_at o at (ratio_text id n d)
   unfolding ratio_text
   ratio-put id x n d e = rw (← e) (three (named_text x) (fraction_text n d) (lf ∷ []))

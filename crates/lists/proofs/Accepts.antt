@@ -42,7 +42,10 @@ ids-rise (z ∷ l) p = above-after z l p.1
 -- ---- the vertex file
 rises-pass : (y : ℤ) (l : List ℤ) → above_by lt_z y l ≡ true → Passes vertex_test (after y) l
 rises-pass y [] h = tt
-rises-pass y (z ∷ l) h = (rw (and_first (lt_z y z) (above_by lt_z z l) h) refl, rises-pass z l (and_second (lt_z y z) (above_by lt_z z l) h))
+rises-pass y (z ∷ l) h = (
+  rw (and_first (lt_z y z) (above_by lt_z z l) h) refl,
+  rises-pass z l (and_second (lt_z y z) (above_by lt_z z l) h),
+)
 
 pass-first : (l : List ℤ) → rising_z l ≡ true → Passes vertex_test first l
 pass-first [] h = tt
@@ -65,7 +68,8 @@ pub record Tested (undirected : Bool) (ids : List ℤ) (before : Before (ℤ × 
   pub from : is_there (place_in ids e.0) ≡ true
   pub to : is_there (place_in ids e.1) ≡ true
 
-pub test-passed : (undirected : Bool) (ids : List ℤ) (before : Before (ℤ × ℤ)) (e : ℤ × ℤ) → edge_test undirected (place_in ids) before e ≡ 0
+pub test-passed : (undirected : Bool) (ids : List ℤ) (before : Before (ℤ × ℤ)) (e : ℤ × ℤ) → edge_test undirected (place_in ids) before e
+    ≡ 0
     → Tested undirected ids before e
 unfolding edge_test
 test-passed undirected ids before e h =

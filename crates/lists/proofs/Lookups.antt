@@ -52,7 +52,8 @@ module _ (ids : List ℤ) (rise : rising_z ids ≡ true) where
       → (vertex_number (place_in ids id) < length ids) × (get_or ids (vertex_number (place_in ids id)) (pos 0) ≡ id)
   there id h = go (place_in ids id) refl h
     where
-      go : (x : Found) → place_in ids id ≡ x → is_there x ≡ true → (vertex_number x < length ids) × (get_or ids (vertex_number x) (pos 0) ≡ id)
+      go : (x : Found) → place_in ids id ≡ x → is_there x ≡ true → (vertex_number x < length ids)
+          × (get_or ids (vertex_number x) (pos 0) ≡ id)
       go (At i) q h = (place_at ids id rise i).0 q
       go Missing q h = clash h refl
 

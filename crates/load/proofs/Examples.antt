@@ -28,14 +28,16 @@ directed : load_call library 1 (room_of 6 7 6 6 5) vertices edges
     (2 ∷ 3 ∷ 1 ∷ 3 ∷ 4 ∷ 0 ∷ [])
     (0 ∷ 0 ∷ 1 ∷ 2 ∷ 4 ∷ 5 ∷ [])
     (2 ∷ 1 ∷ 1 ∷ 2 ∷ 3 ∷ [])
-unfolding vertices edges each mem column within line_by two_of place_from lines_from values_from edge_test arcs_read lists_read loaded outcome_of
+unfolding vertices edges each mem column within line_by two_of place_from lines_from values_from edge_test arcs_read lists_read loaded
+    outcome_of
     load_call
 directed = refl
 
 -- one place in each area: no room for five identifiers (8), before any edge is read
 no-places : load_call library 0 (room_of 1 1 1 1 1) vertices edges
     ≡ outcome (refuses (plain 8)) (pos 0 ∷ []) (0 ∷ []) (0 ∷ []) (0 ∷ []) (0 ∷ [])
-unfolding vertices edges each mem column within line_by two_of place_from lines_from values_from edge_test arcs_read lists_read loaded outcome_of
+unfolding vertices edges each mem column within line_by two_of place_from lines_from values_from edge_test arcs_read lists_read loaded
+    outcome_of
     load_call
 no-places = refl
 
@@ -58,7 +60,8 @@ undirected : load_call library 0 (room_of 3 4 5 4 4) three star
     (1 ∷ 2 ∷ 0 ∷ 0 ∷ 0 ∷ [])
     (0 ∷ 2 ∷ 3 ∷ 4 ∷ [])
     (1 ∷ 2 ∷ 0 ∷ 0 ∷ [])
-unfolding three star each mem column within line_by two_of place_from lines_from values_from edge_test arcs_read lists_read loaded outcome_of
+unfolding three star each mem column within line_by two_of place_from lines_from values_from edge_test arcs_read lists_read loaded
+    outcome_of
     load_call
 undirected = refl
 

@@ -86,69 +86,70 @@ module _ (limits : Limits) (mode : ℕ) (v e : List ℕ) (ids : List ℤ) (oo ot
     fill-refused r q =
         rw (le-leb mode 1 h, mapped-refuses length (identifiers limits.vertices v) r (answered (refuses r) (ap listed_says q)))
 
-    module _ (n : ℕ) (q : x ≡ Lines n) (la : ℕ) (kept : la ≡ length ids) (t : Bool) (et : t ≡ vertex_room la (length oo) (length io) n) where
-      taken : (l : List ℤ) × (identifiers limits.vertices v ≡ gives l) × (n ≡ length l)
-      taken = mapped-gives length (identifiers limits.vertices v) n (answered (gives n) (ap listed_says q))
+    module _ (n : ℕ) (q : x ≡ Lines n) (la : ℕ) (kept : la ≡ length ids) (t : Bool) (et : t ≡ vertex_room la (length oo) (length io) n)
+      where
+        taken : (l : List ℤ) × (identifiers limits.vertices v ≡ gives l) × (n ≡ length l)
+        taken = mapped-gives length (identifiers limits.vertices v) n (answered (gives n) (ap listed_says q))
 
-      abbrev list : List ℤ
-      list = taken.0
+        abbrev list : List ℤ
+        list = taken.0
 
-      same-room : vertex_room (length ids) (length oo) (length io) (length list) ≡ t
-      same-room = ap₂ (λ (k m : ℕ). vertex_room k (length oo) (length io) m) (sym kept) (sym taken.2) ∙ sym et
+        same-room : vertex_room (length ids) (length oo) (length io) (length list) ≡ t
+        same-room = ap₂ (λ (k m : ℕ). vertex_room k (length oo) (length io) m) (sym kept) (sym taken.2) ∙ sym et
 
-      pub fill-short : t ≡ false → (r : Refusal) → r ≡ plain no_room → refuses r ≡ result
-      unfolding loaded lists_read
-      fill-short f r o = rw (le-leb mode 1 h, taken.1, same-room ∙ f, o)
+        pub fill-short : t ≡ false → (r : Refusal) → r ≡ plain no_room → refuses r ≡ result
+        unfolding loaded lists_read
+        fill-short f r o = rw (le-leb mode 1 h, taken.1, same-room ∙ f, o)
 
-      module _ (f : t ≡ true) where
-        fits : n ≤ length ids
-        fits = let l = leb-true n la (and_first (leb n la) (ltb n (length oo) && ltb n (length io)) (sym et ∙ f)) in omega arith
+        module _ (f : t ≡ true) where
+          fits : n ≤ length ids
+          fits = let l = leb-true n la (and_first (leb n la) (ltb n (length oo) && ltb n (length io)) (sym et ∙ f)) in omega arith
 
-        both-fit : (ltb n (length oo) && ltb n (length io)) ≡ true
-        both-fit = and_second (leb n la) (ltb n (length oo) && ltb n (length io)) (sym et ∙ f)
+          both-fit : (ltb n (length oo) && ltb n (length io)) ≡ true
+          both-fit = and_second (leb n la) (ltb n (length oo) && ltb n (length io)) (sym et ∙ f)
 
-        padded : a ≡ pad_z (length ids) list
-        padded =
-            ap (λ (y : VerticesRead). y.ids) told ∙ ap (ids_area (length ids)) taken.1
-            ∙ ap (pad_z (length ids)) (take_all (length ids) list (let c = taken.2 in let g = fits in omega arith))
+          padded : a ≡ pad_z (length ids) list
+          padded =
+              ap (λ (y : VerticesRead). y.ids) told ∙ ap (ids_area (length ids)) taken.1
+              ∙ ap (pad_z (length ids)) (take_all (length ids) list (let c = taken.2 in let g = fits in omega arith))
 
-        front : take n a ≡ list
-        front = ap (take n) padded ∙ take_at list (replicate (length ids - length list) (pos 0)) n (sym taken.2)
+          front : take n a ≡ list
+          front = ap (take n) padded ∙ take_at list (replicate (length ids - length list) (pos 0)) n (sym taken.2)
 
-        pub fill-places : n ≤ la
-        fill-places = let g = fits in omega arith
+          pub fill-places : n ≤ la
+          fill-places = let g = fits in omega arith
 
-        -- the first n identifiers, lent on as b
-        module _ (b : List ℤ) (eb : b ≡ take n a) where
-          lent : b ≡ list
-          lent = eb ∙ front
+          -- the first n identifiers, lent on as b
+          module _ (b : List ℤ) (eb : b ≡ take n a) where
+            lent : b ≡ list
+            lent = eb ∙ front
 
-          lent-long : length b ≡ n
-          lent-long = ap length lent ∙ sym taken.2
+            lent-long : length b ≡ n
+            lent-long = ap length lent ∙ sym taken.2
 
-          pub fill-storing : Storing b oo io
-          fill-storing =
-              record {
-                rise = subst (λ (l : List ℤ). rising_z l ≡ true) (sym lent)
-                    ((vertices-accepted limits.vertices v list).0 taken.1).rise;
-                places = let l = ltb-true n (length oo) (and_first (ltb n (length oo)) (ltb n (length io)) both-fit) in
-                    omega (arith, lent-long);
-                back_places =
-                    let l = ltb-true n (length io) (and_second (ltb n (length oo)) (ltb n (length io)) both-fit) in
-                    omega (arith, lent-long);
-              }
+            pub fill-storing : Storing b oo io
+            fill-storing =
+                record {
+                  rise = subst (λ (l : List ℤ). rising_z l ≡ true) (sym lent)
+                      ((vertices-accepted limits.vertices v list).0 taken.1).rise;
+                  places = let l = ltb-true n (length oo) (and_first (ltb n (length oo)) (ltb n (length io)) both-fit) in
+                      omega (arith, lent-long);
+                  back_places =
+                      let l = ltb-true n (length io) (and_second (ltb n (length oo)) (ltb n (length io)) both-fit) in
+                      omega (arith, lent-long);
+                }
 
-          pub fill_end : (r : Loaded) (oo' ot' io' is' : List ℕ)
-              → filled_left r oo' ot' io' is'
-              ≡ mapped (filled_by (length b) (length oo) (length ot) (length io) (length is))
-              (arcs_read (eqb mode 0) limits.edges b e (length ot) (length is))
-              → outcome_left r a oo' ot' io' is' ≡ result
-          unfolding loaded lists_read
-          fill_end r oo' ot' io' is' g =
-              rw (le-leb mode 1 h, taken.1, same-room ∙ f)
-              (five-areas room list a padded r oo' ot' io' is' (arcs_read (eqb mode 0) limits.edges list e (length ot) (length is))
-              (g ∙ ap (λ (l : List ℤ). mapped (filled_by (length l) (length oo) (length ot) (length io) (length is))
-              (arcs_read (eqb mode 0) limits.edges l e (length ot) (length is))) lent))
+            pub fill_end : (r : Loaded) (oo' ot' io' is' : List ℕ)
+                → filled_left r oo' ot' io' is'
+                ≡ mapped (filled_by (length b) (length oo) (length ot) (length io) (length is))
+                (arcs_read (eqb mode 0) limits.edges b e (length ot) (length is))
+                → outcome_left r a oo' ot' io' is' ≡ result
+            unfolding loaded lists_read
+            fill_end r oo' ot' io' is' g =
+                rw (le-leb mode 1 h, taken.1, same-room ∙ f)
+                (five-areas room list a padded r oo' ot' io' is' (arcs_read (eqb mode 0) limits.edges list e (length ot) (length is))
+                (g ∙ ap (λ (l : List ℤ). mapped (filled_by (length l) (length oo) (length ot) (length io) (length is))
+                (arcs_read (eqb mode 0) limits.edges l e (length ot) (length is))) lent))
 
 -- ---- the limits
 pub capped-both : (limits : Limits) (v e : ℕ) → v ≡ min limits.vertices library.vertices → e ≡ min limits.edges library.edges

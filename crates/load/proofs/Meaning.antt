@@ -78,7 +78,8 @@ module _ (limits : Limits) (mode : ℕ) (room : Room) (vertices edges : List ℕ
     from_places true p e = from-edges p (mapped-refuses (λ l. record { ids = ids; arcs = l }) (arcs_said ids) r (sym e))
     from_places false p e = no_places m ids v p (cc)
 
-  refused_why : (t : Bool) → leb mode 1 ≡ t → check t unknown_number (lists_read limits (is_undirected mode) room vertices edges) ≡ refuses r
+  refused_why : (t : Bool) → leb mode 1 ≡ t → check t unknown_number (lists_read limits (is_undirected mode) room vertices edges)
+      ≡ refuses r
       → Why
   unfolding lists_read
   refused_why false q e = unknown_mode (leb-false mode 1 q) (cc)

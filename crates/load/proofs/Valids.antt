@@ -77,7 +77,8 @@ module _ (ids : List ℤ) (rise : rising_z ids ≡ true) where
         record {
           fine = (fine-edge undirected before d s, v.fine);
           small = (small-edge undirected before d s, v.small);
-          pairs = lex-cons (numbered (place_in ids) d) (numbered (place_in ids) e) (all_numbered (place_in ids) es) (lex-edge before d e s t)
+          pairs = lex-cons (numbered (place_in ids) d) (numbered (place_in ids) e) (all_numbered (place_in ids) es)
+              (lex-edge before d e s t)
               v.pairs;
         }
 

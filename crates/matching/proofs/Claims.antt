@@ -45,7 +45,8 @@ module _ (most : ℕ) (s : List ℕ) where
   pub numbers-read : (l : List (ℤ × ℤ)) → (number_lines most s ≡ gives l) ↔ GoodFile (two_of ident_of ident_of) most no_test s l
   numbers-read l = claim-read ident_form ident-right most s l
 
-  pub numbers-refused : (r : Refusal) → (number_lines most s ≡ refuses r) ↔ FirstFault (two_of ident_of ident_of) claim_file most no_test s r
+  pub numbers-refused : (r : Refusal)
+      → (number_lines most s ≡ refuses r) ↔ FirstFault (two_of ident_of ident_of) claim_file most no_test s r
   numbers-refused r = claim-refused ident_form ident-right most s r
 
   pub coefficients-read : (l : List (ℤ × Decimal))

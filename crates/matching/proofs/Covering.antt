@@ -18,7 +18,17 @@ use Rattle.basis.proofs.Areas.{replicate-at}
 use Rattle.graph.specs.declared.find.Found.{Found}
 use Rattle.graph.specs.declared.find.Found.TheVariants.{At, Missing}
 use Rattle.matching.specs.Claim.{ids_of, claimed_of}
-use Rattle.matching.specs.Cover.{failing_place, is_vertex, its_line_from, its_line, has_line, is_new, names_new, stray_line, incomplete_line}
+use Rattle.matching.specs.Cover.{
+  failing_place,
+  is_vertex,
+  its_line_from,
+  its_line,
+  has_line,
+  is_new,
+  names_new,
+  stray_line,
+  incomplete_line,
+}
 use Rattle.matching.specs.Cover.{value_of, reported_line}
 use Rattle.matching.specs.Steps.{new_in, set_at, FoundBelow, stray_step, is_recorded, end_line, reported_in, Maps}
 use Rattle.matching.proofs.FirstPlaces.{failing-more, failing-same}
@@ -37,7 +47,8 @@ module _ (place : ℤ → Found) where
           → its_line_from place (suc k + 1) (named ++ (id ∷ [])) v
           ≡ or_else (its_line_from place (suc k + 1) named v) (cond (is_vertex (place id) v) (suc (suc k) + length named) 0)
           → cond t (suc k) (its_line_from place (suc k + 1) (named ++ (id ∷ [])) v)
-          ≡ or_else (cond t (suc k) (its_line_from place (suc k + 1) named v)) (cond (is_vertex (place id) v) (suc k + suc (length named)) 0)
+          ≡ or_else (cond t (suc k) (its_line_from place (suc k + 1) named v))
+          (cond (is_vertex (place id) v) (suc k + suc (length named)) 0)
       by true h = refl
       by false h = let e : suc k + suc (length named) ≡ suc (suc k) + length named = omega arith in rw e h
 

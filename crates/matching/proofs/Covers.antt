@@ -24,7 +24,17 @@ use Rattle.graph.specs.declared.find.Found.TheVariants.{At, Missing}
 use Rattle.graph.specs.Find.{place_in, bisected}
 use Rattle.graph.proofs.Finds.{place_at, find-rising}
 use Rattle.matching.specs.Claim.{ids_of, claimed_of}
-use Rattle.matching.specs.Cover.{failing_place, is_vertex, its_line_from, its_line, has_line, is_new, names_new, stray_line, incomplete_line}
+use Rattle.matching.specs.Cover.{
+  failing_place,
+  is_vertex,
+  its_line_from,
+  its_line,
+  has_line,
+  is_new,
+  names_new,
+  stray_line,
+  incomplete_line,
+}
 use Rattle.matching.specs.Cover.{value_of, in_order}
 use Rattle.matching.specs.Good.{Least, LineOf, Covers, Lacks, unknown, again, missing, ValuesOf}
 use Rattle.matching.proofs.Leasts.{Finds, finds-same, finds-later, finds-exactly, finds-none, Fails, failing-finds}

@@ -79,7 +79,8 @@ pub record Others : Type 0 where
 
 pub others : Others
 unfolding judged_by failing_place its_line_from names_new stray_line incomplete_line value_of place_from column first_place same_kind agrees
-    unlike_vertex every each mem lines_from values_from line_by two_of two_stop is_close decimal_of fraction_of parts_of power_at signed_power
+    unlike_vertex every each mem lines_from values_from line_by two_of two_stop is_close decimal_of fraction_of parts_of power_at
+    signed_power
     whole_is_good past_point digit_of within is_sign digits_stop power_stop parts_stop fraction_stop decimal_stop
 others = record {
   matches = refl;

@@ -169,14 +169,16 @@ module _ (most : ℕ) (ids : List ℤ) (rises : rising_z ids ≡ true) (few : le
     are = values-own ids rises (pos 0) (pairs_of (listed ids values)) (listed-ids ids values long) ∙ listed-values ids values long
 
     -- "the vertex values of the system's output" are the reference output
-    pub exact-own : judged_by (place_in ids) (length ids) (pos 0) (unequal_vertex values) (number_lines most (claim_text (listed ids values)))
+    pub exact-own : judged_by (place_in ids) (length ids) (pos 0) (unequal_vertex values)
+        (number_lines most (claim_text (listed ids values)))
         ≡ accepted
     exact-own = rw lines ((exact-match ids values rises (sym long) (pairs_of (listed ids values)) own).1 are)
 
     -- they are a reference output renamed
     pub equivalence-own : (f : ℤ → ℤ) → ((x y : ℤ) → f x ≡ f y → x ≡ y) → (reference : List ℤ) → length reference ≡ length ids
         → values ≡ map f reference
-        → judged_by (place_in ids) (length ids) (pos 0) (unlike_vertex reference) (number_lines most (claim_text (listed ids values))) ≡ accepted
+        → judged_by (place_in ids) (length ids) (pos 0) (unlike_vertex reference) (number_lines most (claim_text (listed ids values)))
+        ≡ accepted
     equivalence-own f apart reference n e =
         rw lines
         ((equivalence-match ids reference rises n (pairs_of (listed ids values)) own).1

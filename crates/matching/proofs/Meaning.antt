@@ -153,7 +153,8 @@ module _ {A : Type 0} (ids : List ℤ) (r : rising_z ids ≡ true) (z : A) (mism
   unfolding judged_by
   accepted-exactly = (
     λ e.
-        let w = match-of (incomplete_line (place_in ids) (length ids) (ids_of l)) (reported_line (place_in ids) (ids_of l) (mismatch values)) e in
+        let w = match-of (incomplete_line (place_in ids) (length ids) (ids_of l))
+        (reported_line (place_in ids) (ids_of l) (mismatch values)) e in
         let c = (complete-exactly ids r (ids_of l)).0 w.0 in
         (c, reported-none c (mismatch values) fault-within w.1),
     λ h. rw ((complete-exactly ids r (ids_of l)).1 h.0, h.1),
@@ -231,7 +232,8 @@ module _ {A : Type 0} (ids : List ℤ) (r : rising_z ids ≡ true) (z : A) (l : 
 
 -- ---- the three methods on the lines of a complete claim
 -- "Exact match": "the vertex values of the system's output should be identical to the reference output"
-pub exact-match : (ids reference : List ℤ) → rising_z ids ≡ true → length reference ≡ length ids → (l : List (ℤ × ℤ)) → Covers ids (ids_of l)
+pub exact-match : (ids reference : List ℤ) → rising_z ids ≡ true → length reference ≡ length ids → (l : List (ℤ × ℤ))
+    → Covers ids (ids_of l)
     → (judged_by (place_in ids) (length ids) (pos 0) (unequal_vertex reference) (gives l) ≡ accepted)
     ↔ (in_order (place_in ids) (pos 0) (length ids) l ≡ reference)
 exact-match ids reference r long l =
@@ -295,14 +297,16 @@ module _ (a b : List ℤ) where
       elim (dec_lt j i) as (λ _. same_z (get_or a i (pos 0)) (get_or a j (pos 0)) ≡ same_z (get_or b i (pos 0)) (get_or b j (pos 0))) [
         | yes f ↦ earlier i j k f
         | no f ↦
-            elim (ℕ_discrete i j) as (λ _. same_z (get_or a i (pos 0)) (get_or a j (pos 0)) ≡ same_z (get_or b i (pos 0)) (get_or b j (pos 0))) [
+            elim (ℕ_discrete i j) as (λ _. same_z (get_or a i (pos 0)) (get_or a j (pos 0))
+            ≡ same_z (get_or b i (pos 0)) (get_or b j (pos 0))) [
               | yes q ↦ rw q (signed-order.same_refl (get_or a j (pos 0)) ∙ sym (signed-order.same_refl (get_or b j (pos 0))))
               | no d ↦ same-sym (get_or a i (pos 0)) (get_or a j (pos 0)) ∙ earlier j i l (omega arith)
                   ∙ same-sym (get_or b j (pos 0)) (get_or b i (pos 0))
             ]
       ]
     where
-      earlier : (i j : ℕ) → i < length a → j < i → same_z (get_or a i (pos 0)) (get_or a j (pos 0)) ≡ same_z (get_or b i (pos 0)) (get_or b j (pos 0))
+      earlier : (i j : ℕ) → i < length a → j < i → same_z (get_or a i (pos 0)) (get_or a j (pos 0))
+          ≡ same_z (get_or b i (pos 0)) (get_or b j (pos 0))
       earlier i j k f =
           sym
           (beq-eq _ _

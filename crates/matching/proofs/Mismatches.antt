@@ -67,7 +67,8 @@ module _ (a b : List ℤ) (n i : ℕ) (h : unlike_vertex a b ≡ failing_place (
         h ∙ fails-later (agrees a b) n i l (rw q at k)
 
     -- the test of vertices i and j, by what was read
-    module _ {x y v w : ℤ} (p : x ≡ get_or b i (pos 0)) (q : y ≡ get_or b j (pos 0)) (r : v ≡ get_or a i (pos 0)) (o : w ≡ get_or a j (pos 0))
+    module _ {x y v w : ℤ} (p : x ≡ get_or b i (pos 0)) (q : y ≡ get_or b j (pos 0)) (r : v ≡ get_or a i (pos 0))
+        (o : w ≡ get_or a j (pos 0))
         {t : Bool} (s : t ≡ not (beq (same_z x y) (same_z v w))) where
       kind : t ≡ not (same_kind a b i j)
       unfolding same_kind

@@ -26,11 +26,13 @@ abbrev other_clerk : List Call
 other_clerk = Call.opening ∷ Call.joining 2 1 ∷ Call.comparing 0 2 ∷ Call.joining 0 3 ∷ Call.joining_each 1 (0 ∷ 2 ∷ []) ∷ []
 
 pub one-slips : (run one_book three one_clerk).slips ≡ slip 1 2 ∷ slip 0 1 ∷ []
-unfolding run after open_book join_book write_book decide heads_of link_heads merge_heads above mergeable walk_from walk one next_here size_here
+unfolding run after open_book join_book write_book decide heads_of link_heads merge_heads above mergeable walk_from walk one next_here
+    size_here
 one-slips = refl
 
 pub other-slips : (run one_book three other_clerk).slips ≡ slip 1 2 ∷ slip 1 0 ∷ slip 2 1 ∷ []
-unfolding run after open_book join_book write_book decide heads_of link_heads merge_heads above mergeable walk_from walk one next_here size_here
+unfolding run after open_book join_book write_book decide heads_of link_heads merge_heads above mergeable walk_from walk one next_here
+    size_here
     put_each behind and_on join_each
 other-slips = refl
 
@@ -40,13 +42,15 @@ walks = Call.heading 0 ∷ Call.heading 1 ∷ Call.heading 2 ∷ []
 
 pub one-walks : answers one_book (run one_book three one_clerk) walks
     ≡ Answer.heads (gives (walk_end 0 0)) ∷ Answer.heads (gives (walk_end 0 1)) ∷ Answer.heads (gives (walk_end 0 1)) ∷ []
-unfolding answers answer head_of run after open_book join_book write_book decide heads_of link_heads merge_heads above mergeable walk_from walk one
+unfolding answers answer head_of run after open_book join_book write_book decide heads_of link_heads merge_heads above mergeable walk_from
+    walk one
     next_here size_here
 one-walks = refl
 
 pub other-walks : answers one_book (run one_book three other_clerk) walks
     ≡ Answer.heads (gives (walk_end 1 1)) ∷ Answer.heads (gives (walk_end 1 0)) ∷ Answer.heads (gives (walk_end 1 1)) ∷ []
-unfolding answers answer head_of run after open_book join_book write_book decide heads_of link_heads merge_heads above mergeable walk_from walk one
+unfolding answers answer head_of run after open_book join_book write_book decide heads_of link_heads merge_heads above mergeable walk_from
+    walk one
     next_here size_here put_each behind and_on join_each
 other-walks = refl
 
@@ -59,12 +63,14 @@ told = Answer.compares (gives true) ∷ Answer.reads (gives 3) ∷ Answer.reads 
     ∷ Answer.compares (refuses (plain not_there)) ∷ []
 
 pub one_told : answers one_book (run one_book three one_clerk) asked ≡ told
-unfolding answers answer head_of same_group group_size group_count step_limit tally largest run after open_book join_book write_book decide heads_of
+unfolding answers answer head_of same_group group_size group_count step_limit tally largest run after open_book join_book write_book decide
+    heads_of
     link_heads merge_heads above mergeable walk_from walk one next_here size_here
 one_told = refl
 
 pub other-told : answers one_book (run one_book three other_clerk) asked ≡ told
-unfolding answers answer head_of same_group group_size group_count step_limit tally largest run after open_book join_book write_book decide heads_of
+unfolding answers answer head_of same_group group_size group_count step_limit tally largest run after open_book join_book write_book decide
+    heads_of
     link_heads merge_heads above mergeable walk_from walk one next_here size_here put_each behind and_on join_each
 other-told = refl
 

@@ -45,7 +45,8 @@ module _ (s : List ℕ) (at number i x : ℕ) (inv : number + lfs (drop i (take 
   number-end h = past_all (simp length-take (omega arith))
 
 -- ---- a line by what is scanned of it, whatever its column; a missing line is as one that is malformed
-no-column : {A : Type 0} (s : List ℕ) (at next c d : ℕ) (w : Word A) → in_sheet s (line_says at next c w) ≡ in_sheet s (line_says at next d w)
+no-column : {A : Type 0} (s : List ℕ) (at next c d : ℕ) (w : Word A) → in_sheet s (line_says at next c w)
+    ≡ in_sheet s (line_says at next d w)
 no-column s at next c d malformed = refl
 no-column s at next c d outside = refl
 no-column s at next c d (value v) = refl

@@ -81,14 +81,21 @@ pub outputs :
     × (desk_output refused_load_sheet ≡ refused_load_output)
     × (desk_output stray_tab_sheet ≡ stray_tab_output)
     × (desk_output refused_sheet_sheet ≡ refused_sheet_output)
-unfolding column every each mem line_by two_of has_at run_at count_at ident_at field_at rest_at within digits count_text signed_text place_from bisect
-    targets_between part_of sound_ids sound_offsets sound_side mirrored sound_sides sound_graph edge_test lines_from values_from arcs_read lists_read
+unfolding column every each mem line_by two_of has_at run_at count_at ident_at field_at rest_at within digits count_text signed_text
+    place_from bisect
+    targets_between part_of sound_ids sound_offsets sound_side mirrored sound_sides sound_graph edge_test lines_from values_from arcs_read
+    lists_read
     loaded
-    outcome_of load_call kernel_says bfs-room_for bfs-left_by bfs_call ring_depth ends ring depth_of adjacent chain first_from first label_of
+    outcome_of load_call kernel_says bfs-room_for bfs-left_by bfs_call ring_depth ends ring depth_of adjacent chain first_from first
+    label_of
     wcc-room_for wcc-left_by
-    wcc_call times most_times standing most_common smallest smallest_or next_label good_rounds cdlp-room_for cdlp-left_by cdlp_call around labels_at
-    next_at one_round rounds cdlp_of common_count those neighbours arcs_from coefficient_among numerator denominator lcc-room_for lcc-left_by
+    wcc_call times most_times standing most_common smallest smallest_or next_label good_rounds cdlp-room_for cdlp-left_by cdlp_call around
+    labels_at
+    next_at one_round rounds cdlp_of common_count those neighbours arcs_from coefficient_among numerator denominator lcc-room_for
+    lcc-left_by
     lcc_call euclid
-    gcd_of lowest job_of lfs sheet_line begins is_word mode_of count_line lines_past section sections sheet_check spaced_text numbers_text refused_text
-    head_text named_text pair_text fraction_text ratio_text pair_lines ratio_lines plan_text desk_output bfs_text wcc_text cdlp_text lcc_text jobs_text
+    gcd_of lowest job_of lfs sheet_line begins is_word mode_of count_line lines_past section sections sheet_check spaced_text numbers_text
+    refused_text
+    head_text named_text pair_text fraction_text ratio_text pair_lines ratio_lines plan_text desk_output bfs_text wcc_text cdlp_text
+    lcc_text jobs_text
 outputs = (refl, refl, refl, refl, refl)

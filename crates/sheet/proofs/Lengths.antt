@@ -236,7 +236,13 @@ module _ (out : ℕ → List ℕ) (ns : List ℕ) (few : length ns ≤ desk_vert
               arcs-most out ns ns,
               div-le_self (arcs_from out ns ns) (gcd_of (arcs_from out ns ns) (length ns * (length ns - 1))),
             ),
-            omega (arith, square, p, div-le_self (length ns * (length ns - 1)) (gcd_of (arcs_from out ns ns) (length ns * (length ns - 1)))),
+            omega (
+              arith,
+              square,
+              p,
+              div-le_self (length ns * (length ns - 1))
+                  (gcd_of (arcs_from out ns ns) (length ns * (length ns - 1))),
+            ),
           )
 
 module _ (g : Graph) (ids : All Small g.ids) (count : length g.ids ≤ desk_vertices) (few : g.vertices ≤ desk_vertices) where
@@ -271,7 +277,8 @@ module _ (g : Graph) (ids : All Small g.ids) (count : length g.ids ≤ desk_vert
   cdlp-most line k =
       let said = kernel_says (sound_graph g) (C.good_rounds k) 11 (C.room_for g.vertices desk_area_z desk_area desk_area desk_area) in
       answer-most g.vertices line _ few (lines-most _
-      (all_left Small said (pos 0) desk_vertices (cdlp_of g (nat_abs k)) (omega arith) (cdlp-small g (nat_abs k) ids))) _ _ _ 11 (omega arith)
+      (all_left Small said (pos 0) desk_vertices (cdlp_of g (nat_abs k)) (omega arith) (cdlp-small g (nat_abs k) ids))) _ _ _ 11
+      (omega arith)
 
   lcc-most : (line : List ℕ) → length (lcc_text g line) ≤ length line + most_behind
   unfolding lcc_text L.lcc_call L.left_by numerator denominator

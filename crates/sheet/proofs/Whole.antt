@@ -81,6 +81,7 @@ module _ (s : List ℕ) (x : Checked) (u : checked_says x ≡ sheet_check s) whe
     unfolding desk_output
     answer-refused r e w = put_as o at _ w _ (ap (checked_text s) (sym (ap checked_says e) ∙ u))
 
-    pub answer-good : (p : Plan) → x ≡ Ch.Good p → written o' next ≡ put_at o at (plan_text s p) → written o' next ≡ put_at o at (desk_output s)
+    pub answer-good : (p : Plan) → x ≡ Ch.Good p → written o' next ≡ put_at o at (plan_text s p) → written o' next
+        ≡ put_at o at (desk_output s)
     unfolding desk_output
     answer-good p e w = put_as o at _ w _ (ap (checked_text s) (sym (ap checked_says e) ∙ u))

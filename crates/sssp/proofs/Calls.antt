@@ -166,7 +166,8 @@ module _ (size : Size) (ids : List ℤ) (oo ot io is ow iw : List ℕ) (v : ℕ)
 
 -- ---- the call: how it ends, by its tests in their order
 -- the check of the graph left zeros in the tree
-call-over : (g : Weighted) (root : ℤ) (D : List ℤ) (S W T T₁ : List ℕ) → T₁ ≡ cleared T → sssp_call g root D S W T₁ ≡ sssp_call g root D S W T
+call-over : (g : Weighted) (root : ℤ) (D : List ℤ) (S W T T₁ : List ℕ) → T₁ ≡ cleared T → sssp_call g root D S W T₁
+    ≡ sssp_call g root D S W T
 unfolding sssp_call left_by room_for
 call-over g root D S W T T₁ q = rw (q, length-replicate {A = ℕ} (length T) 0)
 

@@ -32,7 +32,8 @@ sheet-distances = refl
 pub sheet-call : sssp_call sheet (pos 2) (replicate 6 (pos 7)) (nines 5) (nines 6) (nines 5)
     ≡ outcome (gives tt) (pos 9223372036854775807 ∷ pos 0 ∷ pos 4 ∷ pos 7 ∷ pos 7 ∷ pos 0 ∷ []) (replicate 5 0) (replicate 6 0)
     (replicate 5 0)
-unfolding sssp_call left_by room_for sssp_says sound_weighted sound_weights legs_mirrored has_leg sound_sides sound_graph sound_ids sound_side
+unfolding sssp_call left_by room_for sssp_says sound_weighted sound_weights legs_mirrored has_leg sound_sides sound_graph sound_ids
+    sound_side
     sound_offsets mirrored every each place_from legs offered overall least_within column mem part_of targets_between
 sheet-call = refl
 
@@ -44,25 +45,29 @@ Refused g root number =
 
 -- the inward weight of the last arc differs
 pub back-differs : Refused (weighing sheet_graph true (4 ∷ 10 ∷ 4 ∷ 3 ∷ 0 ∷ []) (4 ∷ 4 ∷ 10 ∷ 3 ∷ 1 ∷ [])) 3 9
-unfolding sssp_call left_by room_for sssp_says sound_weighted sound_weights legs_mirrored has_leg sound_sides sound_graph sound_ids sound_side
+unfolding sssp_call left_by room_for sssp_says sound_weighted sound_weights legs_mirrored has_leg sound_sides sound_graph sound_ids
+    sound_side
     sound_offsets mirrored every each place_from legs mem part_of targets_between
 back-differs = refl
 
 -- it weighs more than 100000
 pub too-heavy : Refused (weighing sheet_graph true (4 ∷ 10 ∷ 4 ∷ 3 ∷ 100000000001 ∷ []) (4 ∷ 4 ∷ 10 ∷ 3 ∷ 100000000001 ∷ [])) 3 9
-unfolding sssp_call left_by room_for sssp_says sound_weighted sound_weights legs_mirrored has_leg sound_sides sound_graph sound_ids sound_side
+unfolding sssp_call left_by room_for sssp_says sound_weighted sound_weights legs_mirrored has_leg sound_sides sound_graph sound_ids
+    sound_side
     sound_offsets mirrored every each place_from legs mem part_of targets_between
 too-heavy = refl
 
 -- it has no place in the outward weights
 pub weights-few : Refused (weighing sheet_graph true (4 ∷ 10 ∷ 4 ∷ 3 ∷ []) (4 ∷ 4 ∷ 10 ∷ 3 ∷ 0 ∷ [])) 3 9
-unfolding sssp_call left_by room_for sssp_says sound_weighted sound_weights legs_mirrored has_leg sound_sides sound_graph sound_ids sound_side
+unfolding sssp_call left_by room_for sssp_says sound_weighted sound_weights legs_mirrored has_leg sound_sides sound_graph sound_ids
+    sound_side
     sound_offsets mirrored every each place_from legs mem part_of targets_between
 weights-few = refl
 
 -- the graph is marked as unweighted: its weight areas are not looked at
 pub not-marked : Refused (weighing sheet_graph false [] []) 3 14
-unfolding sssp_call left_by room_for sssp_says sound_weighted sound_sides sound_graph sound_ids sound_side sound_offsets mirrored every each place_from
+unfolding sssp_call left_by room_for sssp_says sound_weighted sound_sides sound_graph sound_ids sound_side sound_offsets mirrored every each
+    place_from
     mem part_of targets_between
 not-marked = refl
 
@@ -80,18 +85,21 @@ lone =
     }
 
 pub without-arcs : Refused (weighing lone true [] []) 3 14
-unfolding sssp_call left_by room_for sssp_says sound_weighted sound_sides sound_graph sound_ids sound_side sound_offsets mirrored every each place_from
+unfolding sssp_call left_by room_for sssp_says sound_weighted sound_sides sound_graph sound_ids sound_side sound_offsets mirrored every each
+    place_from
     mem part_of targets_between
 without-arcs = refl
 
 -- no vertex is 3
 pub root-missing : Refused sheet 3 10
-unfolding sssp_call left_by room_for sssp_says sound_weighted sound_weights legs_mirrored has_leg sound_sides sound_graph sound_ids sound_side
+unfolding sssp_call left_by room_for sssp_says sound_weighted sound_weights legs_mirrored has_leg sound_sides sound_graph sound_ids
+    sound_side
     sound_offsets mirrored every each place_from legs mem part_of targets_between
 root-missing = refl
 
 -- one place is too few for five vertices
 pub areas-short : Refused sheet 2 8
-unfolding sssp_call left_by room_for sssp_says sound_weighted sound_weights legs_mirrored has_leg sound_sides sound_graph sound_ids sound_side
+unfolding sssp_call left_by room_for sssp_says sound_weighted sound_weights legs_mirrored has_leg sound_sides sound_graph sound_ids
+    sound_side
     sound_offsets mirrored every each place_from legs mem part_of targets_between
 areas-short = refl

@@ -129,7 +129,8 @@ module _ (n : ℕ) (out : ℕ → List Leg) (root : ℕ) where
   pub within-length : (k : ℕ) → length (least_within out n root k) ≡ n
   unfolding least_within
   within-length zero = column-length (λ v. cond (eqb v root) 0 infinity) 0 n
-  within-length (suc k) = column-length (λ v. overall out (least_within out n root k) v (get_or (least_within out n root k) v infinity) n) 0 n
+  within-length (suc k) = column-length (λ v. overall out (least_within out n root k) v (get_or (least_within out n root k) v infinity) n) 0
+      n
 
   first-is : (v : ℕ) → v < n → near 0 v ≡ cond (eqb v root) 0 infinity
   unfolding least_within
@@ -137,7 +138,8 @@ module _ (n : ℕ) (out : ℕ → List Leg) (root : ℕ) where
 
   next-is : (k v : ℕ) → v < n → near (suc k) v ≡ overall out (least_within out n root k) v (near k v) n
   unfolding least_within
-  next-is k v l = column-at (λ v. overall out (least_within out n root k) v (get_or (least_within out n root k) v infinity) n) n v infinity l
+  next-is k v l = column-at (λ v. overall out (least_within out n root k) v (get_or (least_within out n root k) v infinity) n) n v infinity
+      l
 
   pub near-root : root < n → near 0 root ≡ 0
   near-root l = first-is root l ∙ rw (eq-eqb root root refl)
@@ -189,7 +191,10 @@ module _ (n : ℕ) (out : ℕ → List Leg) (root : ℕ) where
 pub signed_all : (n : ℕ) (out : ℕ → List Leg) (root : ℕ) (l : List ℕ) → l ≡ distances n out root → AllSigned l
 signed_all n out root l e v h =
     let k = ap length e ∙ within-length n out root n in
-    rw (ap (λ (t : List ℕ). get_or t v 0) e, get_d_any (distances n out root) v 0 infinity (let z = within-length n out root n in omega arith))
+    rw (
+      ap (λ (t : List ℕ). get_or t v 0) e,
+      get_d_any (distances n out root) v 0 infinity (let z = within-length n out root n in omega arith),
+    )
     (near-most n out root n v (omega arith))
 
 pub measured : (d e l : List ℕ) (x : List ℤ) → length e ≡ length d → e ≡ l → x ≡ as_signed (length e) e → x ≡ as_signed (length d) l

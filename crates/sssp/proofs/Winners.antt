@@ -62,14 +62,16 @@ won-other : (tree : List ℕ) (k x j : ℕ) → (j ≡ k → ⊥) → won (set t
 unfolding won
 won-other tree k x j d = rw (length-set tree k x, get_or-set_other tree k j x 0 d)
 
-winner-other : (key tree : List ℕ) (k x i : ℕ) → (2 * i ≡ k → ⊥) → (2 * i + 1 ≡ k → ⊥) → winner_at key (set tree k x) i ≡ winner_at key tree i
+winner-other : (key tree : List ℕ) (k x i : ℕ) → (2 * i ≡ k → ⊥) → (2 * i + 1 ≡ k → ⊥) → winner_at key (set tree k x) i
+    ≡ winner_at key tree i
 winner-other key tree k x i d e = ap₂ (nearer key) (won-other tree k x (2 * i) d) (won-other tree k x (2 * i + 1) e)
 
 ready-more : (key tree : List ℕ) (k : ℕ) → Nodes key tree → k < length tree → Nodes key (set tree k (winner_at key tree k))
 ready-more key tree k r h =
     record {
       long = length-set tree k (winner_at key tree k) ∙ r.long;
-      low = λ i g. rw (length-set tree k (winner_at key tree k)) (at i (rw (length-set tree k (winner_at key tree k)) at g) (ℕ_discrete i k));
+      low = λ i g. rw (length-set tree k (winner_at key tree k))
+          (at i (rw (length-set tree k (winner_at key tree k)) at g) (ℕ_discrete i k));
     }
   where
     at : (i : ℕ) → i < length tree → Dec (i ≡ k) → get_or (set tree k (winner_at key tree k)) i 0 < length tree

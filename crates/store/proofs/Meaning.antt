@@ -19,7 +19,19 @@ use Rattle.basis.proofs.Areas.{pad-length}
 use Rattle.basis.proofs.Alls.{All}
 use Rattle.graph.specs.Arcs.{Arc, arcs, targets_of, parts, start, offsets, backward}
 use Rattle.graph.specs.Part.{part_of}
-use Rattle.graph.specs.Sound.{Graph, outward, inward, sound_ids, sound_offsets, other, sound_part, sound_side, mirrored, sound_sides, sound_graph}
+use Rattle.graph.specs.Sound.{
+  Graph,
+  outward,
+  inward,
+  sound_ids,
+  sound_offsets,
+  other,
+  sound_part,
+  sound_side,
+  mirrored,
+  sound_sides,
+  sound_graph,
+}
 use Rattle.store.specs.Steps.{Below}
 use Rattle.store.proofs.Arcs.{start-suc, start-length}
 use Rattle.store.proofs.Passes.{length-backward}

@@ -59,7 +59,8 @@ each_more : (l : List ℕ) → each is_digit l ≡ true → each of_decimal l �
 unfolding each
 each_more [] h = refl
 each_more (b ∷ l) h =
-    and_both (or-first (is_digit b) _ (and_first (is_digit b) (each is_digit l) h)) (each_more l (and_second (is_digit b) (each is_digit l) h))
+    and_both (or-first (is_digit b) _ (and_first (is_digit b) (each is_digit l) h))
+    (each_more l (and_second (is_digit b) (each is_digit l) h))
 
 fraction-marks : (f : FractionPart) → each is_digit (fraction_digits f) ≡ true → each of_decimal (fraction_bytes f) ≡ true
 unfolding each within
@@ -236,7 +237,8 @@ module _ {A : Type 0} (form : Form A) (R : RightStop form) where
             (λ m. let j : suc (ident_stop first) ≡ length first + 1 = omega (arith, q) in
             let d : take (suc (ident_stop first)) w ≡ first ++ space ∷ [] = ap (λ (n : ℕ). take n w) j ∙ led-take m 0 in
             let f : well_formed (ident_of first) ≡ false = rw m at e in
-            ap (λ (l : List ℕ). well_formed (word (l ++ t))) d ∙ ap (λ (l : List ℕ). well_formed (word l)) (append_assoc first (space ∷ []) t)
+            ap (λ (l : List ℕ). well_formed (word (l ++ t))) d
+            ∙ ap (λ (l : List ℕ). well_formed (word l)) (append_assoc first (space ∷ []) t)
             ∙ two-well first t (up_to-none space w) ∙ rw f)
             (λ m. absurd (omega (arith, q, h, ap length (up_to-all space w m))))
 

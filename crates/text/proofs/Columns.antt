@@ -124,7 +124,8 @@ module _ {A : Type 0} (form : Form A) (R : RightStop form) (s : List ℕ) where
   stops-last : (mem lf s ≡ true → well_formed (form.word here) ≡ false) → k ≡ length here
       → CanGoOn (Formed form.word) (take (k + 1) (whole_line s)) → ⊥
   stops-last bad e g =
-      let d : take (k + 1) (whole_line s) ≡ whole_line s = take_all (k + 1) (whole_line s) (omega (arith, length-append here (last ∷ []))) in
+      let d : take (k + 1) (whole_line s)
+      ≡ whole_line s = take_all (k + 1) (whole_line s) (omega (arith, length-append here (last ∷ []))) in
       let b = begun here (last ∷ g.rest) g.good.bytes (up_to-none lf s)
       (sym (append_assoc here (last ∷ []) g.rest) ∙ ap (λ (l : List ℕ). l ++ g.rest) (sym d) ∙ g.good.ended) in
       by (mem lf s) refl b.more b.begins b.ends

@@ -62,7 +62,8 @@ module _ (s : List ℕ) (at : ℕ) (l : length s * 1 < 2 ^ 63) where
     first-behind p q =
         subst (Behind at) (ap (λ (y : Scanned ℤ). y.next) (sym e ∙ ap scan_says q)) (field-behind at c (omega arith) (omega arith))
 
-    pub past-field : (y : Scan) → x ≡ y → well_formed (scan_says y).said ≡ true → (at ≤ (scan_says y).next) × ((scan_says y).next ≤ length s)
+    pub past-field : (y : Scan) → x ≡ y → well_formed (scan_says y).said ≡ true → (at ≤ (scan_says y).next)
+        × ((scan_says y).next ≤ length s)
     past-field y q w =
         let f : field_at s at c ≡ scan_says y = sym e ∙ ap scan_says q in
         let m = field-moves s at c (ap (λ (z : Scanned ℤ). well_formed z.said) f ∙ w) in

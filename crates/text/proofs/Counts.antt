@@ -38,7 +38,8 @@ fewer j k n h g =
     (λ e. let q : 10 ^ suc k ≤ 10 ^ j = pow-le-pow_right (omega arith) (leb-false j k e) in absurd (omega arith))
 
 -- as many digits that make the same number are the same
-digits_same : (a b : ℕ) (l m : List ℕ) → length l ≡ length m → each is_digit l ≡ true → each is_digit m ≡ true → number_of a l ≡ number_of b m
+digits_same : (a b : ℕ) (l m : List ℕ) → length l ≡ length m → each is_digit l ≡ true → each is_digit m ≡ true → number_of a l
+    ≡ number_of b m
     → (a ≡ b) × (l ≡ m)
 unfolding each
 digits_same a b [] [] e h k q = (q, refl)

@@ -14,7 +14,17 @@ use Rattle.basis.proofs.Tests.{clash, false_of, bool_cases, and_first, and_secon
 use Rattle.text.specs.Word.{malformed, is_digit, with_digit, run_len, run_val}
 use Rattle.text.specs.Decimal.{digit_limit, decimal, digit_of, up, down, wrong, past_point}
 use Rattle.text.specs.Decimal.{whole_is_good, signed_power, power_at, parts_of, fraction_of, decimal_of}
-use Rattle.text.specs.Stop.{is_sign, digits_stop, digits_power, power_stop, parts_stop, fraction_stop, decimal_stop, power_word, scaled_word}
+use Rattle.text.specs.Stop.{
+  is_sign,
+  digits_stop,
+  digits_power,
+  power_stop,
+  parts_stop,
+  fraction_stop,
+  decimal_stop,
+  power_word,
+  scaled_word,
+}
 use Rattle.text.specs.Scan.{scanned, cut_number, run_at, decimal_says}
 use Rattle.text.specs.declared.count.Run.{Run}
 use Rattle.text.specs.declared.decimal.DecimalWord.{DecimalWord}
@@ -212,7 +222,8 @@ module _ (s : List ℕ) (w p f n : ℕ) where
         parts-point k = rw (ne_eqb w 0 z, held t (whole_is_good s w) h e, le-ltb digit_limit p l, lt-ltb (w + f) p k, lt-leb p (w + f) k)
 
         module _ (k : p ≤ w + f) where
-          pub parts-limit : digit_limit < w + f → scanned malformed (p + (digit_limit - w)) ≡ scanned (parts_of s w p f n) (parts_stop s w p f)
+          pub parts-limit : digit_limit < w + f → scanned malformed (p + (digit_limit - w))
+              ≡ scanned (parts_of s w p f n) (parts_stop s w p f)
           unfolding parts_of parts_stop
           parts-limit m =
               rw (

@@ -143,7 +143,8 @@ finite-value r d p q = rw q
 pub letter-stands : (s : List ℕ) (at c : ℕ) (t : Bool) → t ≡ has_at s at c → t ≡ true → has_at s at c ≡ true
 letter-stands s at c t e h = sym e ∙ h
 
-pub distance-decimal : (s : List ℕ) (at : ℕ) (t : Bool) → t ≡ has_at s at infinity_mark → t ≡ false → (r : Rest) → rest_says r ≡ rest_at s at
+pub distance-decimal : (s : List ℕ) (at : ℕ) (t : Bool) → t ≡ has_at s at infinity_mark → t ≡ false → (r : Rest) → rest_says r
+    ≡ rest_at s at
     → (x : Tail) → tail_says x ≡ finite_at (rest_says r) → tail_says x ≡ distance_at s at
 unfolding distance_at rest_at decimal_at distance_stop
 distance-decimal s at t e h r f x g =
@@ -160,7 +161,8 @@ module _ (at : ℕ) (y : Tail) where
       → line (a, d) p ≡ line_of at (beside (value u) (tail_says y))
   beside-distance u a d p q h = rw (q, h)
 
-  pub outside-distance : (d : Distance) (p : ℕ) → y ≡ T.Value d p → fault out_of_range 0 at ≡ line_of at (beside {A = ℤ} outside (tail_says y))
+  pub outside-distance : (d : Distance) (p : ℕ) → y ≡ T.Value d p → fault out_of_range 0 at
+      ≡ line_of at (beside {A = ℤ} outside (tail_says y))
   outside-distance d p q = rw q
 
   pub bad-tail-behind : (p : ℕ) → Behind at (tail_says y).next → y ≡ T.Bad p → Behind at p

@@ -116,7 +116,8 @@ unfolding distance_of same_bytes
 distance-plain [] e = refl
 distance-plain (b ∷ l) e = rw (other-unlike b l e)
 
-pub distance-letter : (w : List ℕ) → eqb (get_or w 0 0) infinity_mark ≡ true → same_bytes infinity_word w ≡ false → distance_of w ≡ malformed
+pub distance-letter : (w : List ℕ) → eqb (get_or w 0 0) infinity_mark ≡ true → same_bytes infinity_word w ≡ false → distance_of w
+    ≡ malformed
 unfolding distance_of
 distance-letter [] e n = clash e refl
 distance-letter (b ∷ l) e n =
@@ -169,7 +170,8 @@ distance-decimal-said w d = (to, from)
         let q : decimal_of w ≡ value d = (decimal-grammar w d).1 f in
         bool_cases (same_bytes infinity_word w) _
         (λ e. clash (ap well_formed q)
-        (ap (λ (l : List ℕ). well_formed (decimal_of l)) (same-is infinity_word w e) ∙ ap well_formed (letter-malformed (drop 1 infinity_word))))
+        (ap (λ (l : List ℕ). well_formed (decimal_of l)) (same-is infinity_word w e)
+        ∙ ap well_formed (letter-malformed (drop 1 infinity_word))))
         (λ e. rw (e, q))
 
 pub distance-infinity-said : (w : List ℕ) → (distance_of w ≡ value D.Infinity) ↔ (w ≡ infinity_word)
@@ -196,7 +198,8 @@ module _ (w : List ℕ) where
       by [] (inl g) = stop-good [] g
       by (b ∷ l) (inl g) =
           bool_cases (eqb b infinity_mark) _
-          (λ e. clash g (ap (λ (c : ℕ). well_formed (decimal_of (c ∷ l))) (eqb-true b infinity_mark e) ∙ ap well_formed (letter-malformed l)))
+          (λ e. clash g (ap (λ (c : ℕ). well_formed (decimal_of (c ∷ l))) (eqb-true b infinity_mark e)
+          ∙ ap well_formed (letter-malformed l)))
           (λ e. rw e (stop-good (b ∷ l) g))
 
   distance-goes : Goes distance_of (take (distance_stop w) w)

@@ -67,7 +67,8 @@ pub record WhereInLine : Type 0 where
   pub good-but-unended : coefficient_line (bytes "7 1.5") 0 ≡ fault 2 6 0
 
 pub where-in-line : WhereInLine
-unfolding each mem within line_by two_of two_stop digit_of past_point whole_is_good signed_power power_at parts_of fraction_of decimal_of is_sign
+unfolding each mem within line_by two_of two_stop digit_of past_point whole_is_good signed_power power_at parts_of fraction_of decimal_of
+    is_sign
     digits_stop power_stop parts_stop fraction_stop decimal_stop
 where-in-line = record {
   empty-line = refl;
@@ -145,7 +146,8 @@ pub record CoefficientLines : Type 0 where
   pub form-of-second : coefficient_line (bytes "9223372036854775808 x\n") 0 ≡ fault 2 21 0
 
 pub coefficient-lines : CoefficientLines
-unfolding each mem within line_by two_of two_stop digit_of past_point whole_is_good signed_power power_at parts_of fraction_of decimal_of is_sign
+unfolding each mem within line_by two_of two_stop digit_of past_point whole_is_good signed_power power_at parts_of fraction_of decimal_of
+    is_sign
     digits_stop power_stop parts_stop fraction_stop decimal_stop
 coefficient-lines =
     record {
@@ -227,7 +229,8 @@ pub record DistanceLines : Type 0 where
   pub form-of-second : distance_line (bytes "9223372036854775808 infinite\n") 0 ≡ fault 2 28 0
 
 pub distance-lines : DistanceLines
-unfolding each mem within line_by two_of two_stop digit_of past_point whole_is_good signed_power power_at parts_of fraction_of decimal_of is_sign
+unfolding each mem within line_by two_of two_stop digit_of past_point whole_is_good signed_power power_at parts_of fraction_of decimal_of
+    is_sign
     digits_stop power_stop parts_stop fraction_stop decimal_stop same_bytes shared_front distance_of distance_stop
 distance-lines =
     record {

@@ -125,7 +125,8 @@ module _ {A : Type 0} (form : Form A) (file most : ℕ) (test : Before A → A �
     pub passed-full : length s ≤ place → values_of file most test (lines_of (line_by form) s) ≡ gives done
     passed-full e = passed-end place (sym (line-end form s place e))
 
-    pub passed_over : most ≤ k → place < length s → values_of file most test (lines_of (line_by form) s) ≡ refuses (at too_many file (k + 1))
+    pub passed_over : most ≤ k → place < length s → values_of file most test (lines_of (line_by form) s)
+        ≡ refuses (at too_many file (k + 1))
     passed_over l e = h.rest ∙ rw (left_over form file most test s k (last_of first done) place l e)
 
     module _ (l : k < most) where
@@ -386,7 +387,13 @@ module _ {A : Type 0} (form : Form A) (R : RightStop form) (file most : ℕ) (te
       by (over h e z) = record { some = omega arith; low = omega arith; in_file = refl; in_lines = omega arith; in_bytes = omega arith }
       by (unended h m e x) = record { some = omega arith; low = omega arith; in_file = refl; in_lines = omega arith; in_bytes = wide x }
       by (wrong h m w e x) = record { some = omega arith; low = omega arith; in_file = refl; in_lines = omega arith; in_bytes = wide x }
-      by (beyond h m w e z) = record { some = omega arith; low = omega arith; in_file = refl; in_lines = omega arith; in_bytes = omega arith }
+      by (beyond h m w e z) = record {
+        some = omega arith;
+        low = omega arith;
+        in_file = refl;
+        in_lines = omega arith;
+        in_bytes = omega arith;
+      }
       by (tested v h m w e d z) =
           let g = small (last_of first f.passed) v in
           record { some = omega arith; low = omega arith; in_file = refl; in_lines = omega arith; in_bytes = omega arith }

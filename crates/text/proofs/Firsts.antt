@@ -61,7 +61,8 @@ run_by l m n h e d =
     (λ t. omega (arith, ltb-false n (run_len m) t))
 
 run-same : (l m : List ℕ) → Same (run_len l) l m → run_len m ≡ run_len l
-run-same l m e = run_by l m (run_len l) (omega arith) (λ j k. e j (omega arith)) (ap is_digit (sym (e (run_len l) (omega arith))) ∙ run-here l)
+run-same l m e = run_by l m (run_len l) (omega arith) (λ j k. e j (omega arith))
+    (ap is_digit (sym (e (run_len l) (omega arith))) ∙ run-here l)
 
 -- ---- the power
 digits_from : (s : List ℕ) (at : ℕ) → at ≤ digits_stop s at
@@ -74,7 +75,8 @@ power-from : (s : List ℕ) (at : ℕ) → at ≤ power_stop s at
 unfolding power_stop
 power-from s at =
     bool_cases (eqb (get_or s at 0) 101) _
-    (λ a. bool_cases (is_sign (get_or s (at + 1) 0)) _ (λ b. rw (a, b) (omega (arith, digits_from s (at + 2)))) (λ b. rw (a, b) (omega arith)))
+    (λ a. bool_cases (is_sign (get_or s (at + 1) 0)) _ (λ b. rw (a, b) (omega (arith, digits_from s (at + 2))))
+    (λ b. rw (a, b) (omega arith)))
     (λ a. rw a (omega arith))
 
 module _ (s r : List ℕ) where

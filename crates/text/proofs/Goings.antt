@@ -40,7 +40,8 @@ module _ (u : List ℕ) (w p f : ℕ) (a : run_len u ≡ w) (b : past_point u w 
   unfolding power_at
   good-plain e = rw (decimal-parts, eq-eqb (length u) (p + f) e)
 
-  good-power : length u ≡ p + f + 4 → get_or u (p + f) 0 ≡ 101 → is_sign (get_or u (p + f + 1) 0) ≡ true → is_digit (get_or u (p + f + 2) 0) ≡ true
+  good-power : length u ≡ p + f + 4 → get_or u (p + f) 0 ≡ 101 → is_sign (get_or u (p + f + 1) 0) ≡ true → is_digit (get_or u (p + f + 2) 0)
+      ≡ true
       → is_digit (get_or u (p + f + 3) 0) ≡ true
       → well_formed (decimal_of u) ≡ true
   unfolding power_at
@@ -133,30 +134,31 @@ module _ (s : List ℕ) where
     at_back n j e = ap (λ (m : ℕ). get_or u m 0) e ∙ back j
 
     -- all the digits, if the place is past them
-    module _ (g : whole_is_good s w ≡ true) (d : p ≤ w + f) (l : w + f ≤ digit_limit) (h : p + f ≤ k) (z : p + f ≡ k → get_or t 0 0 ≡ 0) where
-      on-past : w ≡ k → get_or t 0 0 ≡ 0
-      on-past e = z (omega (arith, point-from s w))
+    module _ (g : whole_is_good s w ≡ true) (d : p ≤ w + f) (l : w + f ≤ digit_limit) (h : p + f ≤ k) (z : p + f ≡ k → get_or t 0 0 ≡ 0)
+      where
+        on-past : w ≡ k → get_or t 0 0 ≡ 0
+        on-past e = z (omega (arith, point-from s w))
 
-      on-stop : is_digit (get_or u (p + f) 0) ≡ false
-      unfolding within
-      on-stop =
-          ⊎_elim (λ e. ap is_digit (ap (λ (n : ℕ). get_or u n 0) e ∙ here ∙ z e))
-          (λ e. ap is_digit (sym (front (p + f) e) ∙ sym (get_or-drop p s f 0)) ∙ run-here (drop p s)) (eq-or-lt_of_le h)
+        on-stop : is_digit (get_or u (p + f) 0) ≡ false
+        unfolding within
+        on-stop =
+            ⊎_elim (λ e. ap is_digit (ap (λ (n : ℕ). get_or u n 0) e ∙ here ∙ z e))
+            (λ e. ap is_digit (sym (front (p + f) e) ∙ sym (get_or-drop p s f 0)) ∙ run-here (drop p s)) (eq-or-lt_of_le h)
 
-      on-fraction : run_len (drop p u) ≡ f
-      on-fraction = fraction-on g (omega arith) on-past f (omega arith) h on-stop
+        on-fraction : run_len (drop p u) ≡ f
+        on-fraction = fraction-on g (omega arith) on-past f (omega arith) h on-stop
 
-      on-plain : length u ≡ p + f → well_formed (decimal_of u) ≡ true
-      on-plain =
-          good-plain u w p f (digits-on g (omega arith) on-past) (point-on g (omega arith) on-past) on-fraction
-          (good-on g (omega arith) on-past) d l
+        on-plain : length u ≡ p + f → well_formed (decimal_of u) ≡ true
+        on-plain =
+            good-plain u w p f (digits-on g (omega arith) on-past) (point-on g (omega arith) on-past) on-fraction
+            (good-on g (omega arith) on-past) d l
 
-      on-power : length u ≡ p + f + 4 → get_or u (p + f) 0 ≡ 101 → is_sign (get_or u (p + f + 1) 0) ≡ true
-          → is_digit (get_or u (p + f + 2) 0) ≡ true → is_digit (get_or u (p + f + 3) 0) ≡ true
-          → well_formed (decimal_of u) ≡ true
-      on-power =
-          good-power u w p f (digits-on g (omega arith) on-past) (point-on g (omega arith) on-past) on-fraction
-          (good-on g (omega arith) on-past) d l
+        on-power : length u ≡ p + f + 4 → get_or u (p + f) 0 ≡ 101 → is_sign (get_or u (p + f + 1) 0) ≡ true
+            → is_digit (get_or u (p + f + 2) 0) ≡ true → is_digit (get_or u (p + f + 3) 0) ≡ true
+            → well_formed (decimal_of u) ≡ true
+        on-power =
+            good-power u w p f (digits-on g (omega arith) on-past) (point-on g (omega arith) on-past) on-fraction
+            (good-on g (omega arith) on-past) d l
 
   module _ (g : whole_is_good s w ≡ true) where
     -- the digits before the point, as many as may be

@@ -165,14 +165,16 @@ form-taken p g =
 pub digits-front : (l : List ℕ) → each is_digit (take (run_len l) l) ≡ true
 digits-front l =
     let k = length-take-le (run_len l) l (len-le l) in
-    each_of is_digit 0 (take (run_len l) l) (λ i h. ap is_digit (get_or-take (run_len l) l i 0 (omega arith)) ∙ run-before l i (omega arith))
+    each_of is_digit 0 (take (run_len l) l)
+    (λ i h. ap is_digit (get_or-take (run_len l) l i 0 (omega arith)) ∙ run-before l i (omega arith))
 
 here-ends : (l : List ℕ) → Ends (drop (run_len l) l)
 here-ends l = ap is_digit (get_or-drop (run_len l) l 0 0 ∙ ap (λ (k : ℕ). get_or l k 0) (add-zero (run_len l))) ∙ run-here l
 
 pub front-number : (n : ℕ) (l : List ℕ) → run_val n l ≡ number_of n (take (run_len l) l)
 front-number n l =
-    ap (run_val n) (sym (take-append-drop (run_len l) l)) ∙ front-val n (take (run_len l) l) (drop (run_len l) l) (digits-front l) (here-ends l)
+    ap (run_val n) (sym (take-append-drop (run_len l) l))
+    ∙ front-val n (take (run_len l) l) (drop (run_len l) l) (digits-front l) (here-ends l)
 
 -- the whole part of some digits
 record WholeOf (l : List ℕ) : Type 0 where
@@ -282,7 +284,8 @@ module _ (n f : ℕ) (d : Decimal) where
   power-of (a ∷ b ∷ x ∷ []) g = no-case cc
   power-of (a ∷ b ∷ x ∷ y ∷ []) g =
       let t : Bool = eqb a 101 && (is_digit x && is_digit y) in
-      let r = scaled-some t (cond (eqb b 43) (up (digit_of x * 10 + digit_of y)) (cond (eqb b 45) (down (digit_of x * 10 + digit_of y)) wrong))
+      let r = scaled-some t (cond (eqb b 43) (up (digit_of x * 10 + digit_of y))
+      (cond (eqb b 45) (down (digit_of x * 10 + digit_of y)) wrong))
       g in
       let h = and_second (eqb a 101) (is_digit x && is_digit y) r.0 in
       power-four a b x y (eqb b 43) (eqb b 45) refl refl (eqb-true a 101 (and_first (eqb a 101) (is_digit x && is_digit y) r.0))
@@ -325,7 +328,8 @@ module _ (s : List ℕ) (d : Decimal) where
         let u : List ℕ = take (p + f) s in
         let r : List ℕ = drop (p + f) s in
         let q : power_at s (p + f) ≡ power_at r 0 =
-        ap (λ (l : List ℕ). power_at l (p + f)) (sym (take-append-drop (p + f) s)) ∙ ap (power_at (u ++ r)) (sym (length-take-le (p + f) s k))
+        ap (λ (l : List ℕ). power_at l (p + f)) (sym (take-append-drop (p + f) s))
+        ∙ ap (power_at (u ++ r)) (sym (length-take-le (p + f) s k))
         ∙ behind u r in
         power-of n f d r (ap (scaled n f) (sym q) ∙ e)
 
@@ -395,7 +399,8 @@ unfolding each
 digits-one [] [] r t h k i j e = (refl, e)
 digits-one [] (y ∷ b) r t h k i j e =
     clash (and_first (is_digit y) (each is_digit b) k) (ap (λ (l : List ℕ). is_digit (get_or l 0 0)) (sym e) ∙ i)
-digits-one (x ∷ a) [] r t h k i j e = clash (and_first (is_digit x) (each is_digit a) h) (ap (λ (l : List ℕ). is_digit (get_or l 0 0)) e ∙ j)
+digits-one (x ∷ a) [] r t h k i j e = clash (and_first (is_digit x) (each is_digit a) h)
+    (ap (λ (l : List ℕ). is_digit (get_or l 0 0)) e ∙ j)
 digits-one (x ∷ a) (y ∷ b) r t h k i j e =
     let p : x ≡ y = cc in
     let q : a ++ r ≡ b ++ t = cc in

@@ -66,7 +66,8 @@ plain-well : (b : ℕ) (l : List ℕ) → eqb b 45 ≡ false → well_formed (id
 plain-well b l e = ap well_formed (ident-is b l false e) ∙ signed-well false (count_of (b ∷ l))
 
 -- a digit 1 to 9 and all digits behind it
-run-goes : (b : ℕ) (bs : List ℕ) → eqb b 48 ≡ false → within 49 57 b ≡ true → well_formed (count_of (b ∷ (take (run_len bs) bs ++ []))) ≡ true
+run-goes : (b : ℕ) (bs : List ℕ) → eqb b 48 ≡ false → within 49 57 b ≡ true → well_formed (count_of (b ∷ (take (run_len bs) bs ++ [])))
+    ≡ true
 unfolding each
 run-goes b bs z w =
     let d : each is_digit (take (run_len bs) bs ++ []) ≡ true = each_append is_digit (take (run_len bs) bs) [] ∙ rw (digits-front bs) in

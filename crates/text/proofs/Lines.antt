@@ -138,7 +138,8 @@ module _ {A : Type 0} (word : List ℕ → Word A) (s : List ℕ) (at : ℕ) (x 
   unfolding mem within
   no-space bs r e n =
       bool_cases (mem space r) (x.said ≡ malformed)
-      (λ k. let d : drop at s ≡ (bs ++ lf ∷ up_to space r) ++ space ∷ past space r = e ∙ ap (λ (l : List ℕ). bs ++ lf ∷ l) (cut_at space r k)
+      (λ k. let d : drop at s ≡ (bs ++ lf ∷ up_to space r) ++ space ∷ past space r = e
+      ∙ ap (λ (l : List ℕ). bs ++ lf ∷ l) (cut_at space r k)
       ∙ sym (append_assoc bs (lf ∷ up_to space r) (space ∷ past space r)) in
       (X.ended (bs ++ lf ∷ up_to space r) (past space r) d (mem-join space bs (lf ∷ up_to space r) n (up_to-none space r))).said
       ∙ ident-stray lf refl refl (bs ++ lf ∷ up_to space r) (mem-cut lf bs (up_to space r)))
@@ -420,10 +421,12 @@ module _ (at : ℕ) (y : Rest) where
   pub beside_none : (w : Word ℤ) (p c : ℕ) → y ≡ R.Bad p → c ≡ column_at at p → fault bad_form c at ≡ line_of at (beside w (rest_says y))
   beside_none w p c q k = rw (q, both-off w, k)
 
-  pub beside-decimal : (u a : ℤ) (d : Decimal) (p : ℕ) → y ≡ R.Value d p → a ≡ u → line (a, d) p ≡ line_of at (beside (value u) (rest_says y))
+  pub beside-decimal : (u a : ℤ) (d : Decimal) (p : ℕ) → y ≡ R.Value d p → a ≡ u → line (a, d) p
+      ≡ line_of at (beside (value u) (rest_says y))
   beside-decimal u a d p q h = rw (q, h)
 
-  pub outside-decimal : (d : Decimal) (p : ℕ) → y ≡ R.Value d p → fault out_of_range 0 at ≡ line_of at (beside {A = ℤ} outside (rest_says y))
+  pub outside-decimal : (d : Decimal) (p : ℕ) → y ≡ R.Value d p → fault out_of_range 0 at
+      ≡ line_of at (beside {A = ℤ} outside (rest_says y))
   outside-decimal d p q = rw q
 
 -- an edge line

@@ -51,7 +51,8 @@ module _ (s : List ℕ) (at : ℕ) where
 
 -- ---- a number by its sign and its range
 module _ (negative : Bool) (n next : ℕ) where
-  pub ranged-least : negative ≡ true → n ≤ 9223372036854775808 → (z : ℤ) → z ≡ minus_of n → scanned (value z) next ≡ ranged_at negative n next
+  pub ranged-least : negative ≡ true → n ≤ 9223372036854775808 → (z : ℤ) → z ≡ minus_of n → scanned (value z) next
+      ≡ ranged_at negative n next
   ranged-least e h z q = rw (e, q, le-leb n (2 ^ 63) h)
 
   pub ranged_below : negative ≡ true → 9223372036854775808 < n → scanned outside next ≡ ranged_at negative n next

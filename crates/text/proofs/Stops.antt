@@ -178,7 +178,8 @@ scaled-never-outside n f wrong = tt
 parts-never-outside : (s : List ℕ) (w p f n : ℕ) → NeverOutside (parts_of s w p f n)
 unfolding parts_of
 parts-never-outside s w p f n =
-    bool_cases (whole_is_good s w && (leb p (w + f) && leb (w + f) digit_limit)) _ (λ e. rw e (scaled-never-outside n f (power_at s (p + f))))
+    bool_cases (whole_is_good s w && (leb p (w + f) && leb (w + f) digit_limit)) _
+    (λ e. rw e (scaled-never-outside n f (power_at s (p + f))))
     (λ e. rw e tt)
 
 pub decimal-never-outside : (s : List ℕ) → NeverOutside (decimal_of s)

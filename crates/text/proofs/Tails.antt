@@ -14,7 +14,20 @@ use Rattle.text.specs.Word.{Word, malformed, outside, value, well_formed, within
 use Rattle.text.specs.Weight.{weight_of, weight_stop}
 use Rattle.text.specs.Line.{line, fault, up_to, Form, two_of, two_stop, pair_form}
 use Rattle.text.specs.Weighed.{weight_form, weighed_line}
-use Rattle.text.specs.Scan.{Scanned, scanned, has_at, closed, count_says, field_at, scan_says, line_from, beside, column_at, Behind, line_of}
+use Rattle.text.specs.Scan.{
+  Scanned,
+  scanned,
+  has_at,
+  closed,
+  count_says,
+  field_at,
+  scan_says,
+  line_from,
+  beside,
+  column_at,
+  Behind,
+  line_of,
+}
 use Rattle.text.specs.Scan.{last_at, pair_at, tail_says}
 use Rattle.text.specs.declared.count.Counted.{Counted}
 use Rattle.text.specs.declared.count.Counted.TheVariants as C
@@ -136,18 +149,21 @@ module _ (s : List ℕ) (at : ℕ) (x : Scan) (e : scan_says x ≡ field_at s at
 module _ (s : List ℕ) (at : ℕ) (l : at < length s) (x : Scan) (e : scan_says x ≡ field_at s at space) where
   pub weighed-bad : (p c : ℕ) → x ≡ S.Bad p → c ≡ column_at at p → fault bad_form c at ≡ weighed_line s at
   weighed-bad p c q k =
-      two-bad (pair_form weight_form) (pair_at weight_form) (tail-reads weight_form weight-right) (tail-stops weight_form weight-right) s at l x e
+      two-bad (pair_form weight_form) (pair_at weight_form) (tail-reads weight_form weight-right) (tail-stops weight_form weight-right) s at
+      l x e
       p c q k
 
   module _ (p : ℕ) (y : Tail) (f : tail_says y ≡ pair_at weight_form s p) where
     outside-is : x ≡ S.Outside p → (z : Tail) → y ≡ z → line_of at (beside outside (tail_says z)) ≡ weighed_line s at
     outside-is q z g =
-        two-outside (pair_form weight_form) (pair_at weight_form) (tail-reads weight_form weight-right) (tail-stops weight_form weight-right) s at
+        two-outside (pair_form weight_form) (pair_at weight_form) (tail-reads weight_form weight-right)
+        (tail-stops weight_form weight-right) s at
         l x e p (tail_says z) q (ap tail_says (sym g) ∙ f)
 
     value-is : (u v : ℤ) → x ≡ S.Value v p → u ≡ v → (z : Tail) → y ≡ z → line_of at (beside (value u) (tail_says z)) ≡ weighed_line s at
     value-is u v q k z g =
-        two-value (pair_form weight_form) (pair_at weight_form) (tail-reads weight_form weight-right) (tail-stops weight_form weight-right) s at
+        two-value (pair_form weight_form) (pair_at weight_form) (tail-reads weight_form weight-right) (tail-stops weight_form weight-right)
+        s at
         l x e v u p (tail_says z) q k (ap tail_says (sym g) ∙ f)
 
     pub first-outside-bad : (q c : ℕ) → x ≡ S.Outside p → y ≡ T.Bad q → c ≡ column_at at q → fault bad_form c at ≡ weighed_line s at

@@ -375,7 +375,8 @@ fraction-part n [] m e =
     record { part = no_point; is = refl; digits = refl; few = omega arith; val = omega (arith, q) }
 fraction-part n (b ∷ bs) m e = by (eqb b 46 && places_are bs) refl e
   where
-    some : (bs : List ℕ) → eqb b 46 ≡ true → places_are bs ≡ true → with_fraction n (run_val 0 bs) (length bs) ≡ m → FractionSays n (b ∷ bs) m
+    some : (bs : List ℕ) → eqb b 46 ≡ true → places_are bs ≡ true → with_fraction n (run_val 0 bs) (length bs) ≡ m
+        → FractionSays n (b ∷ bs) m
     some [] f h q = clash h refl
     some (d ∷ ds) f h q =
         let a = and_first (each is_digit (d ∷ ds)) (ltb 0 (length (d ∷ ds)) && leb (length (d ∷ ds)) most_places) h in

@@ -222,7 +222,8 @@ unfolding ident_at
 ident-from s at =
     by-test (λ (x : Scanned ℤ). at ≤ x.next) (has_at s at 45)
     (cond (has_at s (at + 1) 48) (scanned malformed (at + 1)) (signed_at true (count_at s (at + 1)))) (signed_at false (count_at s at))
-    (λ _. by-test (λ (x : Scanned ℤ). at ≤ x.next) (has_at s (at + 1) 48) (scanned malformed (at + 1)) (signed_at true (count_at s (at + 1)))
+    (λ _. by-test (λ (x : Scanned ℤ). at ≤ x.next) (has_at s (at + 1) 48) (scanned malformed (at + 1))
+    (signed_at true (count_at s (at + 1)))
     (λ _. omega arith) (λ _. omega (arith, count-from s (at + 1))))
     (λ _. count-from s at)
 

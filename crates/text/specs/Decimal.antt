@@ -38,7 +38,8 @@ signed_power g k = cond (eqb g plus_sign) (up k) (cond (eqb g minus_sign) (down 
 unfoldable pub power_at : List ℕ → ℕ → Exponent
 power_at s at =
     cond (eqb (length s) at) (up 0)
-    (cond (eqb (length s) (at + 4) && (eqb (get_or s at 0) power_mark && (is_digit (get_or s (at + 2) 0) && is_digit (get_or s (at + 3) 0))))
+    (cond (eqb (length s) (at + 4) &&
+    (eqb (get_or s at 0) power_mark && (is_digit (get_or s (at + 2) 0) && is_digit (get_or s (at + 3) 0))))
     (signed_power (get_or s (at + 1) 0) (digit_of (get_or s (at + 2) 0) * 10 + digit_of (get_or s (at + 3) 0)))
     wrong)
 

@@ -101,7 +101,8 @@ pub data Fails {A : Type 0} (word : List ℕ → Word A) (most : ℕ) (test : A 
   over : k ≡ most → number ≡ too_many → column ≡ 0 → Fails word most test k rest number column
   unended : k < most → mem lf rest ≡ false → number ≡ bad_form → Column (Formed word) (whole_line rest) column
       → Fails word most test k rest number column
-  wrong : k < most → mem lf rest ≡ true → word (up_to lf rest) ≡ malformed → number ≡ bad_form → Column (Formed word) (whole_line rest) column
+  wrong : k < most → mem lf rest ≡ true → word (up_to lf rest) ≡ malformed → number ≡ bad_form
+      → Column (Formed word) (whole_line rest) column
       → Fails word most test k rest number column
   beyond : k < most → mem lf rest ≡ true → word (up_to lf rest) ≡ outside → number ≡ out_of_range → column ≡ 0
       → Fails word most test k rest number column

@@ -1,6 +1,29 @@
 -- 02 K3: "a weight: `0` or digits without a leading zero, optionally `.` and one to six digits, no sign, from 0 to 100000"; "Weights are
 -- held as whole millionths".
-use Rattle.std.specs.Prelude.{ℕ, suc, ◌+◌, ◌-◌, ◌*◌, ◌^◌, ◌≤◌, min, ◌≡◌, List, [], ◌∷◌, ◌++◌, true, cond, ◌&&◌, length, take, drop, leb, ltb, eqb}
+use Rattle.std.specs.Prelude.{
+  ℕ,
+  suc,
+  ◌+◌,
+  ◌-◌,
+  ◌*◌,
+  ◌^◌,
+  ◌≤◌,
+  min,
+  ◌≡◌,
+  List,
+  [],
+  ◌∷◌,
+  ◌++◌,
+  true,
+  cond,
+  ◌&&◌,
+  length,
+  take,
+  drop,
+  leb,
+  ltb,
+  eqb,
+}
 use Rattle.basis.specs.Limits.{most_weight}
 use Rattle.basis.specs.Scan.{each}
 use Rattle.text.specs.Bytes.{point_mark}
@@ -69,7 +92,8 @@ pub record WeightForm (s : List ℕ) (n : ℕ) : Type 0 where
   pub wholes : each is_digit (whole_digits whole) ≡ true
   pub fractions : each is_digit (fraction_digits fraction) ≡ true
   pub few : length (fraction_digits fraction) ≤ most_places
-  pub says : n ≡ with_fraction (number_of 0 (whole_digits whole)) (number_of 0 (fraction_digits fraction)) (length (fraction_digits fraction))
+  pub says : n ≡ with_fraction (number_of 0 (whole_digits whole)) (number_of 0 (fraction_digits fraction))
+      (length (fraction_digits fraction))
 
 -- "a weight": the bytes have the form of one
 abbrev pub IsWeight : List ℕ → Type 0

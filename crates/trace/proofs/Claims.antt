@@ -143,7 +143,8 @@ module _ (most : ℕ) (g : Graph) (kernel : ℕ) (parameter : ℤ) (s : List ℕ
       → Call.verdict_call most g kernel parameter s R C F S T L
       ≡ cond k (Call.call_on (reference_for most g s kernel parameter) g R C F S T L) (Call.unknown_call R C F S T L)
   unfolding Call.verdict_call reference_for
-  by_number k h = go (eqb kernel bfs_number) (eqb kernel wcc_number) (eqb kernel cdlp_number) (eqb kernel lcc_number) k refl refl refl refl h
+  by_number k h = go (eqb kernel bfs_number) (eqb kernel wcc_number) (eqb kernel cdlp_number) (eqb kernel lcc_number) k refl refl refl refl
+      h
     where
       none_left : eqb kernel 1 ≡ false → eqb kernel 2 ≡ false → eqb kernel 3 ≡ false → eqb kernel 4 ≡ false → is_kernel kernel ≡ true → ⊥
       none_left p q r t h =

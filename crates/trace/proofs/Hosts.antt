@@ -206,7 +206,8 @@ module _ (vertices edges claim : List ℕ) (mode kernel : ℕ) (parameter : ℤ)
         (loaded-readable narrow desk (omega arith) mode desk_room vertices edges)).refusals r
         (sym answered ∙ ap says q)).1
 
-    pub host-refused : (r : Refusal) → a ≡ Refused r → (k : ℕ) → k ≡ host_code r → k ≡ host_verdict vertices edges claim mode kernel parameter
+    pub host-refused : (r : Refusal) → a ≡ Refused r → (k : ℕ) → k ≡ host_code r → k
+        ≡ host_verdict vertices edges claim mode kernel parameter
     unfolding host_verdict
     host-refused r q k f =
         rw (

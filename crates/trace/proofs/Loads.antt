@@ -48,6 +48,7 @@ module _ (mode : ℕ) (room : Room) (vertices edges : List ℕ) where
     unfolding load_call outcome_of
     load-readable = readable-by (ap (λ o. o.answer) e) size-readable
 
-    pub load_told_lem : (k : ℕ) → k ≡ coded s load_value → load_told k ids oo ot io is ≡ load_tells (load_call library mode room vertices edges)
+    pub load_told_lem : (k : ℕ) → k ≡ coded s load_value → load_told k ids oo ot io is
+        ≡ load_tells (load_call library mode room vertices edges)
     unfolding load_tells
     load_told_lem k f = rw (f, sym e)

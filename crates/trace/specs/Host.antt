@@ -62,7 +62,8 @@ judged_as k = check k.given k.number k.judged
 unfoldable pub host_says : List ℕ → List ℕ → List ℕ → ℕ → ℕ → ℤ → Said Verdict
 host_says vertices edges claim mode kernel parameter =
     check (is_known mode kernel) unknown_number
-    (onward (lists_said (is_undirected mode) vertices edges) (λ l. judged_as (reference_for desk_lines (graph_of l) claim kernel parameter)))
+    (onward (lists_said (is_undirected mode) vertices edges)
+    (λ l. judged_as (reference_for desk_lines (graph_of l) claim kernel parameter)))
 
 -- "The answer is number × 1,000,000 + file × 100,000 + line."
 unfoldable pub host_verdict : List ℕ → List ℕ → List ℕ → ℕ → ℕ → ℤ → ℕ

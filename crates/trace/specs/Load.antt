@@ -19,7 +19,8 @@ pub record LoadTold : Type 0 where
 
 -- the same, by its fields in order
 abbrev pub load_told : ℕ → List ℤ → List ℕ → List ℕ → List ℕ → List ℕ → LoadTold
-load_told answer ids oo ot io is = record { answer = answer; ids = ids; out_offsets = oo; out_targets = ot; in_offsets = io; in_sources = is }
+load_told answer ids oo ot io is = record
+    { answer = answer; ids = ids; out_offsets = oo; out_targets = ot; in_offsets = io; in_sources = is }
 
 -- what a load tells by its outcome: the two counts or its refusal as a number, and the areas as they stand
 unfoldable pub load_tells : Outcome → LoadTold

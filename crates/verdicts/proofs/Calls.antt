@@ -116,7 +116,8 @@ module _ (most : ℕ) (g : Graph) (kernel : ℕ) (parameter : ℤ) (s : List ℕ
       && (leb g.vertices (length T) && leb g.vertices (length L)))))))
       {x : Said Verdict} {R' C' : List ℤ} {F' S' T' L' : List ℕ} where
     pub verdict-bfs : {parameter' : ℤ} → parameter' ≡ parameter → kernel ≡ 1
-        → numbers x R' C' L' ≡ numbers_verdict (bfs_reference most g s parameter') (sound_graph g) room R C L → F' ≡ cleared F → S' ≡ cleared S
+        → numbers x R' C' L' ≡ numbers_verdict (bfs_reference most g s parameter') (sound_graph g) room R C L → F' ≡ cleared F → S'
+        ≡ cleared S
         → T' ≡ cleared T
         → outcome x R' C' F' S' T' L' ≡ verdict_call most g kernel parameter s R C F S T L
     unfolding verdict_call room_for
@@ -124,8 +125,10 @@ module _ (most : ℕ) (g : Graph) (kernel : ℕ) (parameter : ℤ) (s : List ℕ
         numbers-call (bfs_reference most g s parameter') g R C F S T L p refl refl h a b c
         ∙ rw (e, q)
 
-    pub verdict-wcc : (kernel ≡ 1 → ⊥) → kernel ≡ 2 → numbers x R' C' L' ≡ numbers_verdict (wcc_reference most g s) (sound_graph g) room R C L
-        → F' ≡ cleared F → S' ≡ cleared S → T' ≡ cleared T → outcome x R' C' F' S' T' L' ≡ verdict_call most g kernel parameter s R C F S T L
+    pub verdict-wcc : (kernel ≡ 1 → ⊥) → kernel ≡ 2 → numbers x R' C' L'
+        ≡ numbers_verdict (wcc_reference most g s) (sound_graph g) room R C L
+        → F' ≡ cleared F → S' ≡ cleared S → T' ≡ cleared T → outcome x R' C' F' S' T' L'
+        ≡ verdict_call most g kernel parameter s R C F S T L
     unfolding verdict_call room_for
     verdict-wcc i e h a b c =
         numbers-call (wcc_reference most g s) g R C F S T L p refl refl h a b c

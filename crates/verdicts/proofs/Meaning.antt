@@ -82,7 +82,8 @@ module _ (most : ℕ) (g : Graph) (parameter : ℤ) (s : List ℕ) (R C : List �
       (verdict_call most g 3 parameter s R C F S T L).said
   cdlp-judged e =
       rw (cdlp-says, says-judged (cdlp_reference most g s parameter) e)
-      (exact-judged most (names g) rises (cdlp_of g (nat_abs parameter)) (cdlp-length g (sound-of g sound) (nat_abs parameter) ∙ sym many) s)
+      (exact-judged most (names g) rises (cdlp_of g (nat_abs parameter)) (cdlp-length g (sound-of g sound) (nat_abs parameter) ∙ sym many)
+      s)
 
   -- "WCC: equal claims exactly where components are equal."
   pub wcc-judged : Judges ident_of (pos 0) most (names g) (EqualWhere g.vertices (LinkedAmong g.vertices (outward g)))
@@ -131,7 +132,8 @@ module _ (most : ℕ) (g : Graph) (sound : Sound g) (few : g.vertices ≤ most) 
   names-few = rw (names-length g sound) few
 
   pub bfs-own : (root : ℤ) → is_there (place_in (names g) root) ≡ true
-      → verdict_says (bfs_reference most g (claim_text (listed (names g) (depths_from g (place_in (names g) root)))) root) true true ≡ accepted
+      → verdict_says (bfs_reference most g (claim_text (listed (names g) (depths_from g (place_in (names g) root)))) root) true true
+      ≡ accepted
   bfs-own root e =
       let values = depths_from g (place_in (names g) root) in
       says-judged (bfs_reference most g (claim_text (listed (names g) values)) root) e
@@ -140,7 +142,8 @@ module _ (most : ℕ) (g : Graph) (sound : Sound g) (few : g.vertices ≤ most) 
       (bfs-fits g sound.few_vertices (place_in (names g) root))
 
   pub cdlp-own : (iterations : ℤ) → good_rounds iterations ≡ true
-      → verdict_says (cdlp_reference most g (claim_text (listed (names g) (cdlp_of g (nat_abs iterations)))) iterations) true true ≡ accepted
+      → verdict_says (cdlp_reference most g (claim_text (listed (names g) (cdlp_of g (nat_abs iterations)))) iterations) true true
+      ≡ accepted
   cdlp-own iterations e =
       let values = cdlp_of g (nat_abs iterations) in
       says-judged (cdlp_reference most g (claim_text (listed (names g) values)) iterations) e

@@ -149,7 +149,8 @@ module _ (most : ℕ) (g : Graph) (parameter : ℤ) (R C : List ℤ) (F S T L : 
           (first-within (names g) same_z values (cdlp-length g (sound-of g sound) (nat_abs parameter) ∙ sym many)))
 
     pub lcc-in-order : (l : List (ℤ × Decimal)) → coefficient_lines most s ≡ gives l → ids_of l ≡ names g
-        → (verdict_call most g 4 parameter s R C F S T L).said ≡ line_by_line (names g) (far_vertex (coefficients g)) (coefficient_lines most s)
+        → (verdict_call most g 4 parameter s R C F S T L).said
+        ≡ line_by_line (names g) (far_vertex (coefficients g)) (coefficient_lines most s)
     lcc-in-order l read in_order =
         lcc-says most g parameter s R C F S T L sound room ∙ says-judged (lcc_reference most g s) refl
         ∙ rw read

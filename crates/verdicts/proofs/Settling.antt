@@ -51,7 +51,8 @@ known-ids answer n size e known = known (ap answers e)
 
 -- ---- a claim of numbers on what a kernel has answered
 module _ (answer : Answer) (room : Bool) (rule : Rule) (most n : ℕ) (ids : List ℤ) (s : List ℕ) (R C : List ℤ) (L : List ℕ) where
-  pub numbers-refused : (r : Refusal) → answer ≡ A.Refused r → {x : Numbers} → x ≡ numbers (refuses r) (cleared_z R) (cleared_z C) (cleared L)
+  pub numbers-refused : (r : Refusal) → answer ≡ A.Refused r → {x : Numbers} → x
+      ≡ numbers (refuses r) (cleared_z R) (cleared_z C) (cleared L)
       → x ≡ numbers_on (answers answer) room rule most n ids s R C L
   unfolding numbers_on numbers_says
   numbers-refused r e q = rw e q

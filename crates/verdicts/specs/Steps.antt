@@ -43,7 +43,8 @@ numbers said result claimed lines = record { said = said; result = result; claim
 -- what is said of a claim of numbers by the results of a kernel that answered so, if there is room in all areas
 unfoldable pub numbers_says : Said (Unit {0}) → Bool → Rule → ℕ → List ℤ → List ℤ → List ℕ → Said Verdict
 numbers_says answer room rule most ids reference s =
-    then_says answer (check room no_room (judged_by (bisected ids) (length ids) (pos 0) (mismatch_vertex rule reference) (number_lines most s)))
+    then_says answer (check room no_room
+    (judged_by (bisected ids) (length ids) (pos 0) (mismatch_vertex rule reference) (number_lines most s)))
 
 -- the same by the first n identifiers and results; the result area stays, or is zero after a refusal, and the working areas are zero
 unfoldable pub numbers_on : Said (Unit {0}) → Bool → Rule → ℕ → ℕ → List ℤ → List ℕ → List ℤ → List ℤ → List ℕ → Numbers
@@ -59,7 +60,8 @@ numbers_verdict k sound room result claimed lines =
 
 -- that of BFS from a root on a lent graph, with room in all areas or not
 abbrev pub bfs_verdict : Bool → ℕ → Graph → ℤ → List ℕ → List ℤ → List ℤ → List ℕ → Numbers
-bfs_verdict room most g root s result claimed lines = numbers_verdict (bfs_reference most g s root) (sound_graph g) room result claimed lines
+bfs_verdict room most g root s result claimed lines = numbers_verdict (bfs_reference most g s root) (sound_graph g) room result claimed
+    lines
 
 -- that of WCC
 abbrev pub wcc_verdict : Bool → ℕ → Graph → List ℕ → List ℤ → List ℤ → List ℕ → Numbers

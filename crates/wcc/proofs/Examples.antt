@@ -31,7 +31,8 @@ too_short = refl
 pub unsound-first : wcc_call (lent (record { vertices = 5; arcs = 4 }) sheet_graph.ids sheet_graph.out_offsets sheet_graph.out_targets
     sheet_graph.in_offsets sheet_graph.in_sources) (pos 7 ∷ []) (9 ∷ [])
     ≡ outcome (refuses (plain 9)) (pos 0 ∷ []) (0 ∷ [])
-unfolding wcc_call left_by kernel_says sound_sides sound_graph sound_ids sound_side sound_offsets mirrored every each mem part_of targets_between
+unfolding wcc_call left_by kernel_says sound_sides sound_graph sound_ids sound_side sound_offsets mirrored every each mem part_of
+    targets_between
 unsound-first = refl
 
 -- arcs 3 to 0, 3 to 2 and 2 to 1: from 0 to 1 leads one arc against its direction and two along theirs; vertex 4 is alone

@@ -35,7 +35,8 @@ held-arcs : (n : ℕ) (out : ℕ → List ℕ) → Inside n out → (a : List �
 unfolding join_arcs slips_of
 held-arcs n out inside a H zero l = H
 held-arcs n out inside a H (suc k) l =
-    held-each one_book faithful-one n (join_arcs out k a) (slips_of out k) (held-arcs n out inside a H k (omega arith)) k (out k) (omega arith)
+    held-each one_book faithful-one n (join_arcs out k a) (slips_of out k) (held-arcs n out inside a H k (omega arith)) k (out k)
+    (omega arith)
     (inside k (omega arith))
 
 -- and in a book just opened the joins along the arcs of each vertex are all accepted:
@@ -44,7 +45,8 @@ pub arcs-accepted : (n : ℕ) (out : ℕ → List ℕ) → Inside n out → (a :
     → u < n
     → (m : ℕ) × ((join_each one_book (join_arcs out u a) u (out u)).said ≡ all m)
 arcs-accepted n out inside a H u l =
-    held_all one_book faithful-one n (join_arcs out u a) (slips_of out u) (held-arcs n out inside a H u (omega arith)) u (out u) l (inside u l)
+    held_all one_book faithful-one n (join_arcs out u a) (slips_of out u) (held-arcs n out inside a H u (omega arith)) u (out u) l
+    (inside u l)
 
 -- ---- they are the arcs
 part-new : (u : ℕ) (ws : List ℕ) (js : List Slip) (w : ℕ) → mem w ws ≡ true → Memᴰ (slip u w) (put_each u ws js)

@@ -50,7 +50,8 @@ module _ (g : Graph) (s : Sound g) where
       ∙ signed-order.same_refl (get_or (names g) i (pos 0)))
 
   -- "Two vertices belong to the same component, and thus have the same label, if there exists a path between these vertices": exactly then
-  pub labels-same : (u v : ℕ) → u < g.vertices → v < g.vertices → (get_or (wcc_of g) u (pos 0) ≡ get_or (wcc_of g) v (pos 0)) ↔ LinkedIn g u v
+  pub labels-same : (u v : ℕ) → u < g.vertices → v < g.vertices
+      → (get_or (wcc_of g) u (pos 0) ≡ get_or (wcc_of g) v (pos 0)) ↔ LinkedIn g u v
   labels-same u v k l =
       let same = first-same g.vertices (outward g) (outward-below g s) u v k l in (
         λ e. same.0 (names_apart _ _ (first_in u k) (first_in v l) (sym (label_at u k) ∙ e ∙ label_at v l)),

@@ -70,7 +70,8 @@ module _ (g : ℕ → ℕ) where
         | no q ↦ take-other k R h q ∙ r
       ]
 
-  take_at : (k : ℕ) (R : List ℤ) (v : ℕ) → k ≤ length R → v < k → g (g v) ≡ g v → get_or (taken_over g k R) v (pos 0) ≡ get_or R (g v) (pos 0)
+  take_at : (k : ℕ) (R : List ℤ) (v : ℕ) → k ≤ length R → v < k → g (g v) ≡ g v → get_or (taken_over g k R) v (pos 0)
+      ≡ get_or R (g v) (pos 0)
   take_at zero R v l b e = absurd (not-suc-le-zero b)
   take_at (suc k) R v l b e =
       ⊎_elim

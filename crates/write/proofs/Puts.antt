@@ -46,7 +46,8 @@ put-append area at [] b = sym (ap (λ w. and_then w b) (put-none area at))
 put-append area at (byte ∷ a) b =
     bool_cases (ltb at (length area)) (put_at area at (byte ∷ (a ++ b)) ≡ and_then (put_at area at (byte ∷ a)) b)
     (λ e. let h : at < length area = ltb-true at (length area) e in
-    put_step area at byte (a ++ b) h ∙ put-append (set area at byte) (at + 1) a b ∙ sym (ap (λ w. and_then w b) (put_step area at byte a h)))
+    put_step area at byte (a ++ b) h ∙ put-append (set area at byte) (at + 1) a b
+    ∙ sym (ap (λ w. and_then w b) (put_step area at byte a h)))
     (λ e. let h : length area ≤ at = ltb-false at (length area) e in
     put-stop area at byte (a ++ b) h ∙ sym (ap (λ w. and_then w b) (put-stop area at byte a h) ∙ put-past area at b h))
 
@@ -134,5 +135,6 @@ pub bytes-more : {w : Written} (text : List ℕ) (i : ℕ) (o : List ℕ) (p : �
 bytes-more text i o p h all step =
     putting-more o p (get_or text i 0 ∷ []) (drop (i + 1) text) (rw (drop-cons text i 0 h, ← add-one i) at all) step
 
-pub bytes-end : {w : Written} (text : List ℕ) (i : ℕ) (o : List ℕ) (p : ℕ) → length text ≤ i → put_at o p (drop i text) ≡ w → written o p ≡ w
+pub bytes-end : {w : Written} (text : List ℕ) (i : ℕ) (o : List ℕ) (p : ℕ) → length text ≤ i → put_at o p (drop i text) ≡ w → written o p
+    ≡ w
 bytes-end text i o p h all = putting-end o p (drop i text) all (drop_of_length-le text h)

@@ -255,7 +255,8 @@ behind-short bs d h = by (run_val 0 bs * 10 ^ (6 - length bs)) refl
         rw (behind-some (suc r) (omega arith)) (omega arith)
 
 -- a word cut in two that says z
-short_cut : (a b : List ℕ) (z : ℕ) (x : Word ℕ) → count_of a ≡ x → whole_then x b ≡ value z → length (millionths_text z) ≤ length a + length b
+short_cut : (a b : List ℕ) (z : ℕ) (x : Word ℕ) → count_of a ≡ x → whole_then x b ≡ value z
+    → length (millionths_text z) ≤ length a + length b
 short_cut a b z malformed e h = no-case cc
 short_cut a b z outside e h = no-case cc
 short_cut a [] z (value n) e h =

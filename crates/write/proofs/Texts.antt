@@ -23,7 +23,8 @@ use Rattle.write.proofs.Digits.{count_small, count-more, count-all}
 digit-yes : (d : ℕ) → d < 10 → is_digit (48 + d) ≡ true
 digit-yes d h = within-yes (omega arith) (omega arith)
 
-val-snoc : (n : ℕ) (l : List ℕ) (b : ℕ) → each is_digit l ≡ true → is_digit b ≡ true → run_val n (l ++ (b ∷ [])) ≡ with_digit (run_val n l) b
+val-snoc : (n : ℕ) (l : List ℕ) (b : ℕ) → each is_digit l ≡ true → is_digit b ≡ true → run_val n (l ++ (b ∷ []))
+    ≡ with_digit (run_val n l) b
 unfolding each
 val-snoc n [] b h g = val-digit n b [] g
 val-snoc n (c ∷ l) b h g =

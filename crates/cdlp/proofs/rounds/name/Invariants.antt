@@ -9,7 +9,8 @@ use Rattle.cdlp.proofs.rounds.name.Given as goal
 
 abbrev pub invariant-loop-v : goal.invariant-loop-v
 invariant-loop-v l =
-    (length l.res ≡ length l.initial.res) × (l.v ≤ length l.initial.res) × (l.res ≡ column (look (pos 0) l.ids l.labels) 0 l.v ++ drop l.v l.initial.res)
+    (length l.res ≡ length l.initial.res) × (l.v ≤ length l.initial.res)
+    × (l.res ≡ column (look (pos 0) l.ids l.labels) 0 l.v ++ drop l.v l.initial.res)
 
 abbrev pub decreases-loop-v : goal.decreases-loop-v
 decreases-loop-v l = length l.initial.res - l.v

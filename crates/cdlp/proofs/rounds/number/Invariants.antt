@@ -11,7 +11,8 @@ own v = v
 
 abbrev pub invariant-loop-v : goal.invariant-loop-v
 invariant-loop-v l =
-    (length l.labels ≡ length l.initial.labels) × (l.v ≤ length l.initial.labels) × (l.labels ≡ column own 0 l.v ++ drop l.v l.initial.labels)
+    (length l.labels ≡ length l.initial.labels) × (l.v ≤ length l.initial.labels)
+    × (l.labels ≡ column own 0 l.v ++ drop l.v l.initial.labels)
 
 abbrev pub decreases-loop-v : goal.decreases-loop-v
 decreases-loop-v l = length l.initial.labels - l.v

@@ -6,7 +6,8 @@ use Rattle.cdlp.proofs.rounds.round.Given as goal
 
 abbrev pub invariant-loop-v : goal.invariant-loop-v
 invariant-loop-v l =
-    (l.v ≤ length l.labels) × (length l.next ≡ length l.initial.next) × (l.counts ≡ l.initial.counts) × Filled l.in_offsets l.in_sources l.out_offsets l.out_targets l.labels l.initial.next l.next l.v
+    (l.v ≤ length l.labels) × (length l.next ≡ length l.initial.next) × (l.counts ≡ l.initial.counts)
+    × Filled l.in_offsets l.in_sources l.out_offsets l.out_targets l.labels l.initial.next l.next l.v
 
 abbrev pub decreases-loop-v : goal.decreases-loop-v
 decreases-loop-v l = length l.labels - l.v

@@ -8,7 +8,8 @@ use Rattle.graph.proofs.walk.all_walked.Given as goal
 
 abbrev pub invariant-loop-u : goal.invariant-loop-u
 invariant-loop-u l =
-    (l.u ≤ l.n) × (length l.cursors ≡ length l.initial.cursors) × (all_walked l.in_sources (part_of l.n l.out_offsets l.out_targets) l.u l.initial.cursors
+    (l.u ≤ l.n) × (length l.cursors ≡ length l.initial.cursors)
+    × (all_walked l.in_sources (part_of l.n l.out_offsets l.out_targets) l.u l.initial.cursors
     ≡ arcs_checked true l.cursors)
 
 abbrev pub decreases-loop-u : goal.decreases-loop-u

@@ -22,7 +22,8 @@ pub returns-then-in_sources-cursor-2 : goal.returns-then-in_sources-cursor-2
 returns-then-in_sources-cursor-2 c = search step-differs
 
 pub offset_bounds-cursors-w-in-loop-i : goal.offset_bounds-cursors-w-in-loop-i
-offset_bounds-cursors-w-in-loop-i c = let low : get_or c.args.targets.now c.loop-i.i 0 < length c.loop-i.cursors = search target-low in omega arith
+offset_bounds-cursors-w-in-loop-i c = let low : get_or c.args.targets.now c.loop-i.i 0 < length c.loop-i.cursors = search target-low in
+    omega arith
 
 pub bounds-cursors-w-in-loop-i : goal.bounds-cursors-w-in-loop-i
 bounds-cursors-w-in-loop-i c = let low : get_or c.args.targets.now c.loop-i.i 0 < length c.loop-i.cursors = search target-low in omega arith

@@ -7,7 +7,8 @@ use Rattle.wcc.proofs.groups.join_arcs.Given as goal
 
 abbrev pub invariant-loop-u : goal.invariant-loop-u
 invariant-loop-u l =
-    (l.u ≤ l.n) × (length l.entries ≡ length l.initial.entries) × (l.entries ≡ join_arcs (part_of l.n l.offsets l.targets) l.u l.initial.entries)
+    (l.u ≤ l.n) × (length l.entries ≡ length l.initial.entries)
+    × (l.entries ≡ join_arcs (part_of l.n l.offsets l.targets) l.u l.initial.entries)
 
 abbrev pub decreases-loop-u : goal.decreases-loop-u
 decreases-loop-u l = l.n - l.u

@@ -8,7 +8,8 @@ use Rattle.wcc.proofs.groups.note_heads.Given as goal
 
 abbrev pub invariant-loop-v : goal.invariant-loop-v
 invariant-loop-v l =
-    (l.v ≤ length l.initial.heads) × (length l.heads ≡ length l.initial.heads) × (l.heads ≡ column (head_here l.entries) 0 l.v ++ drop l.v l.initial.heads)
+    (l.v ≤ length l.initial.heads) × (length l.heads ≡ length l.initial.heads)
+    × (l.heads ≡ column (head_here l.entries) 0 l.v ++ drop l.v l.initial.heads)
 
 abbrev pub decreases-loop-v : goal.decreases-loop-v
 decreases-loop-v l = length l.initial.heads - l.v
