@@ -98,9 +98,30 @@ static struct lists make(const char *name, int directed, enum shape shape, size_
     return l;
 }
 
-static struct graph areas(size_t n, size_t arcs) {
-    struct graph g = {0, 0, room(n, 8), room(n + 1, 8), room(arcs, 8), room(n + 1, 8), room(arcs, 8)};
+/* The same lists with a weight behind each edge: from 0 to 999.999, some of them zero. */
+static struct lists weigh(struct lists l) {
+    struct text t = {room(l.edge_file.length + l.edges * 8, 1), 0};
+    for (size_t i = 0; i < l.edge_file.length; i++) {
+        if (l.edge_file.bytes[i] != '\n') t.bytes[t.length++] = l.edge_file.bytes[i];
+        else if (dice() % 16 == 0) t.length += (size_t)sprintf((char *)t.bytes + t.length, " 0\n");
+        else t.length += (size_t)sprintf((char *)t.bytes + t.length, " %d.%03d\n", (int)(dice() % 1000), (int)(dice() % 1000));
+    }
+    free(l.edge_file.bytes);
+    l.edge_file = t;
+    return l;
+}
+
+/* Areas for a graph of so many arcs, of which so many have weights. */
+static struct graph areas(size_t n, size_t arcs, size_t weights) {
+    struct graph g = {0, 0, room(n, 8), room(n + 1, 8), room(arcs, 8), room(n + 1, 8), room(arcs, 8), 0, NULL, NULL};
+    g.out_weights = room(weights, 8);
+    g.in_weights = room(weights, 8);
     return g;
+}
+
+static void give_back(struct graph g) {
+    void *all[] = {g.ids, g.out_offsets, g.out_targets, g.in_offsets, g.in_sources, g.out_weights, g.in_weights};
+    for (size_t i = 0; i < sizeof all / sizeof *all; i++) free(all[i]);
 }
 
 /* ---- measuring */
@@ -128,8 +149,11 @@ static void same(const void *a, const void *b, size_t bytes, const char *what) {
     }
 }
 
-#define GRAPH(g, n, m) \
-    (g).vertices, (g).arcs, (g).ids, n, (g).out_offsets, (n) + 1, (g).out_targets, m, (g).in_offsets, (n) + 1, (g).in_sources, m
+#define AREAS(g, n, m) (g).ids, n, (g).out_offsets, (n) + 1, (g).out_targets, m, (g).in_offsets, (n) + 1, (g).in_sources, m
+#define GRAPH(g, n, m) (g).vertices, (g).arcs, AREAS(g, n, m)
+/* with its weight areas, of so many places each */
+#define WEIGHED(g, n, m, weights) \
+    (g).vertices, (g).arcs, (uint64_t)(g).weighted, AREAS(g, n, m), (g).out_weights, weights, (g).in_weights, weights
 
 static struct text claim_of(const struct graph *g, const int64_t *result) {
     struct text t = {room(g->vertices, 48), 0};
@@ -184,7 +208,7 @@ static size_t far_reaching(const struct graph *g, int64_t *depth, size_t *queue)
 
 static void measure(struct lists l, int with_lcc, int with_groups, int times) {
     size_t n = l.vertices, m = l.directed ? l.edges : 2 * l.edges;
-    struct graph g = areas(n, m), p = areas(n, m);
+    struct graph g = areas(n, m, 0), p = areas(n, m, 0);
     int64_t *result = room(n, 8), *right = room(n, 8), *claimed = room(n, 8);
     size_t *a = room(n, 8), *b = room(n, 8), *c = room(n, 8), *x = room(n, 8), *y = room(n, 8), *lines = room(n, 8);
     double engine = 0, plain = 0, sound = 0, check = 0, bfs = 0;
@@ -193,20 +217,18 @@ static void measure(struct lists l, int with_lcc, int with_groups, int times) {
 #define TIMES(...) for (int k_ = 0; k_ < times; k_++) __VA_ARGS__
 #define FILES l.vertex_file.bytes, l.vertex_file.length, l.edge_file.bytes, l.edge_file.length
     TURNS {
-        BEST(engine, TIMES(said = trace_load((uint64_t)l.directed, FILES, g.ids, n, g.out_offsets, n + 1, g.out_targets, m,
-                                             g.in_offsets, n + 1, g.in_sources, m)));
+        BEST(engine, TIMES(said = trace_load((uint64_t)l.directed, FILES, AREAS(g, n, m), g.out_weights, 0, g.in_weights, 0)));
         BEST(plain, TIMES(plain_load(l.directed, FILES, &p)));
     }
-    g.vertices = (size_t)(said / 10000000);
-    g.arcs = (size_t)(said % 10000000);
+    g.vertices = TRACE_LOADED_VERTICES(said);
+    g.arcs = TRACE_LOADED_ARCS(said);
     if (g.vertices != n || g.arcs != p.arcs) exit(1);
     same(g.ids, p.ids, n * 8, "identifiers");
     same(g.out_targets, p.out_targets, m * 8, "outward targets");
     same(g.in_sources, p.in_sources, m * 8, "inward sources");
     same(g.in_offsets, p.in_offsets, (n + 1) * 8, "inward offsets");
     row(l.name, "load", engine, plain);
-    void *second[] = {p.ids, p.out_offsets, p.out_targets, p.in_offsets, p.in_sources};
-    for (size_t i = 0; i < 5; i++) free(second[i]);
+    give_back(p);
     /* from here on both work on one graph and in the same areas, so that where these lie in memory favours neither */
     p = g;
 
@@ -257,8 +279,9 @@ static void measure(struct lists l, int with_lcc, int with_groups, int times) {
     row(l.name, "cdlp 10 core", engine - sound, plain - check);
     struct text labels = claim_of(&p, right);
 
-#define JUDGE(kernel, parameter, claim) \
-    trace_judge(GRAPH(g, n, m), kernel, parameter, (claim).bytes, (claim).length, result, n, claimed, n, a, n, b, n, c, n, lines, n)
+#define JUDGED(graph, kernel, parameter, claim) \
+    trace_judge(graph, kernel, parameter, (claim).bytes, (claim).length, result, n, claimed, n, a, n, b, n, c, n, lines, n)
+#define JUDGE(kernel, parameter, claim) JUDGED(WEIGHED(g, n, m, 0), kernel, parameter, claim)
     /* the same claim in each order, `t`, beside a plain engine that takes any */
 #define IN_EACH_ORDER(kind, claim, kernel, parameter, ...)                    \
     for (enum order order = IN_ORDER; order < ORDERS; order++) {              \
@@ -345,15 +368,97 @@ static void measure(struct lists l, int with_lcc, int with_groups, int times) {
         printf("the engines differ: a mismatch at line %" PRIu64 " or %zu\n", TRACE_LINE(said), line);
         exit(1);
     }
-    void *all[] = {l.vertex_file.bytes, l.edge_file.bytes, g.ids, g.out_offsets, g.out_targets, g.in_offsets, g.in_sources, result, right,
-                   claimed, a, b, c, x, y, lines, depths.bytes, groups.bytes, labels.bytes, wrong.bytes};
+    void *all[] = {l.vertex_file.bytes, l.edge_file.bytes, result, right, claimed, a, b, c, x, y, lines, depths.bytes, groups.bytes,
+                   labels.bytes, wrong.bytes};
     for (size_t i = 0; i < sizeof all / sizeof *all; i++) free(all[i]);
+    give_back(g);
+}
+
+/* A claim of distances: plain decimals of six places, or the word. */
+static struct text claim_of_distances(const struct graph *g, const int64_t *distance) {
+    struct text t = {room(g->vertices, 48), 0};
+    for (size_t v = 0; v < g->vertices; v++) {
+        char *to = (char *)t.bytes + t.length;
+        if (distance[v] == INT64_MAX) t.length += (size_t)sprintf(to, "%" PRId64 " infinity\n", g->ids[v]);
+        else
+            t.length += (size_t)sprintf(to, "%" PRId64 " %" PRId64 ".%06" PRId64 "\n", g->ids[v], distance[v] / 1000000,
+                                        distance[v] % 1000000);
+    }
+    return t;
+}
+
+/* Weighted lists: their load, the check with weights, distances beside a plain Dijkstra, and the verdict on a claim of them. */
+static void measure_routes(struct lists l) {
+    size_t n = l.vertices, m = l.directed ? l.edges : 2 * l.edges;
+    struct graph g = areas(n, m, m), p = areas(n, m, m);
+    int64_t *result = room(n, 8), *right = room(n, 8), *claimed = room(n, 8);
+    size_t *a = room(n, 8), *b = room(n, 8), *c = room(n, 8), *lines = room(n, 8);
+    double engine = 0, plain = 0, sound = 0, check = 0;
+    uint64_t said = 0, verdict = 0;
+    TURNS {
+        BEST(engine, said = trace_load((uint64_t)l.directed, FILES, AREAS(g, n, m), g.out_weights, m, g.in_weights, m));
+        BEST(plain, if (!plain_load(l.directed, FILES, &p)) exit(1));
+    }
+    g.vertices = TRACE_LOADED_VERTICES(said);
+    g.arcs = TRACE_LOADED_ARCS(said);
+    g.weighted = TRACE_LOADED_WEIGHTED(said) == 1;
+    if (!g.weighted || !p.weighted || g.vertices != n || g.arcs != p.arcs) exit(1);
+    same(g.out_targets, p.out_targets, m * 8, "outward targets of a weighted list");
+    same(g.in_sources, p.in_sources, m * 8, "inward sources of a weighted list");
+    same(g.out_weights, p.out_weights, m * 8, "outward weights");
+    same(g.in_weights, p.in_weights, m * 8, "inward weights");
+    row(l.name, "load, weighted", engine, plain);
+    give_back(p);
+    p = g;
+
+    /* a root that is not there is refused right behind the check */
+#define SSSP(root) trace_sssp(WEIGHED(g, n, m, m), root, result, n, a, n, b, n, c, n)
+#define WEIGHTS_CHECKED(...)                       \
+    do {                                           \
+        if (!plain_sound_weighted(&p, a)) exit(1); \
+        __VA_ARGS__;                               \
+    } while (0)
+    size_t root = far_reaching(&p, result, a);
+    TURNS {
+        BEST(sound, said = SSSP(1));
+        if (TRACE_NUMBER(said) != 10) exit(1);
+        BEST(check, WEIGHTS_CHECKED());
+        BEST(plain, WEIGHTS_CHECKED(plain_sssp(&p, root, result, a, b)));
+        memcpy(right, result, n * 8);
+        BEST(engine, said = SSSP(g.ids[root]));
+        same(result, right, n * 8, "distances");
+    }
+    row(l.name, "soundness, weighted", sound, check);
+    row(l.name, "sssp core", engine - sound, plain - check);
+
+    struct text distances = claim_of_distances(&p, right);
+    for (enum order order = IN_ORDER; order < ORDERS; order++) {
+        char stage[32];
+        struct text t = put(distances, n, order);
+        TURNS {
+            BEST(engine, verdict |= JUDGED(WEIGHED(g, n, m, m), TRACE_SSSP, g.ids[root], t));
+            BEST(plain, {
+                WEIGHTS_CHECKED(plain_sssp(&p, root, result, a, b));
+                verdict |= plain_judge_distances_any(&p, result, t.bytes, t.length, lines);
+            });
+        }
+        snprintf(stage, sizeof stage, "verdict sssp, %s", orders[order]);
+        row(l.name, stage, engine, plain);
+        free(t.bytes);
+    }
+    if (verdict != UINT64_C(300000000000000)) {
+        printf("a verdict on distances is not a match: %" PRIu64 "\n", verdict);
+        exit(1);
+    }
+    void *all[] = {l.vertex_file.bytes, l.edge_file.bytes, result, right, claimed, a, b, c, lines, distances.bytes};
+    for (size_t i = 0; i < sizeof all / sizeof *all; i++) free(all[i]);
+    give_back(g);
 }
 
 /* LCC at the library's limits, where a call takes long: beside the plain walk and beside a plain engine that marks neighbours. */
 static void measure_lcc(struct lists l, int turns) {
     size_t n = l.vertices, m = l.directed ? l.edges : 2 * l.edges;
-    struct graph g = areas(n, m);
+    struct graph g = areas(n, m, 0);
     size_t *a = room(n, 8), *b = room(n, 8), *c = room(n, 8), *x = room(n, 8), *y = room(n, 8);
     int64_t *result = room(n, 8);
     uint8_t *marks = room(n, 1);
@@ -381,9 +486,9 @@ static void measure_lcc(struct lists l, int turns) {
     repeat = several;
     row(l.name, "lcc core", engine - sound, walk - check);
     row(l.name, "lcc core : marking", engine - sound, marked - check);
-    void *all[] = {l.vertex_file.bytes, l.edge_file.bytes, g.ids, g.out_offsets, g.out_targets, g.in_offsets, g.in_sources, a, b, c, x, y,
-                   result, marks};
+    void *all[] = {l.vertex_file.bytes, l.edge_file.bytes, a, b, c, x, y, result, marks};
     for (size_t i = 0; i < sizeof all / sizeof *all; i++) free(all[i]);
+    give_back(g);
 }
 
 static void measure_book(size_t n, size_t calls) {
@@ -488,6 +593,9 @@ int main(int argc, char **argv) {
         measure_lcc(make(name[0], 1, UNIFORM, 65536 / part, 1000000 / part), quick ? 1 : 5);
         measure_lcc(make(name[1], 1, HUBS, 65536 / part, 300000 / part), quick ? 1 : 5);
         measure_lcc(make(name[2], 0, UNIFORM, 65536 / part, 500000 / part), quick ? 1 : 5);
+        measure_routes(weigh(make(name[0], 1, UNIFORM, 65536 / part, 1000000 / part)));
+        measure_routes(weigh(make(name[1], 1, HUBS, 65536 / part, 300000 / part)));
+        measure_routes(weigh(make(name[2], 0, UNIFORM, 65536 / part, 500000 / part)));
     }
     measure_lcc(make("64 vats", 1, VATS, 65536, 300000), quick ? 1 : 3);
     measure_lcc(make("star of 65,535", 0, STAR, 65536, 65535), quick ? 1 : 3);

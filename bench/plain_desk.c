@@ -76,7 +76,7 @@ static void run(const struct graph *g, size_t at) {
 int main(void) {
     static int64_t ids[VERTICES];
     static size_t oo[VERTICES + 1], ot[ARCS], io[VERTICES + 1], is[ARCS];
-    struct graph g = {0, 0, ids, oo, ot, io, is};
+    struct graph g = {0, 0, ids, oo, ot, io, is, 0, NULL, NULL};
     size_t length = 0;
     for (ssize_t got; (got = read(0, sheet + length, sizeof sheet - length)) > 0;) length += (size_t)got;
     size_t vertices = past(past(0, 1), 1), edges = past(vertices, (size_t)number_at(past(0, 1)));

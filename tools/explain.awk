@@ -20,20 +20,40 @@ BEGIN {
     vertex[2] = "a vertex line is one number; " number
     vertex[3] = range
     vertex[4] = "the vertex is not above the one before it: vertices have to rise, and none stands twice"
-    edge[2] = "an edge line is two numbers with one space between them; " number
+    pair = "an edge line is two numbers with one space between them; " number
+    weight = "in a sheet with weights an edge line is two numbers and a weight with one space between each two; " number "; " \
+        "a weight is 0, or digits without a leading zero, and behind them a point and one to six digits or no point"
     edge[3] = range
     edge[4] = "the edge is not above the one before it: edges have to rise by their first number, then by their second, " \
         "and none stands twice"
     edge[5] = "the edge joins a vertex to itself"
     edge[6] = "the sheet is undirected, and the larger number stands first"
     edge[7] = "the edge names a vertex that is not in the vertex list"
+    edge[13] = "the weight is above 100000"
     job[10] = "the vertex to start from is not in the vertex list"
     job[11] = "the number of rounds is below 0 or above 1000"
+    job[14] = "the edges have no weights, and sssp asks for them"
 }
 
 # a count line, with the limit of what it counts
 function counted(refusal, limit) {
     return refusal == 1 ? "the desk takes at most " limit : "a count has to be 0, or a digit 1 to 9 and more digits"
+}
+
+# whether an edge line goes on behind its second number, as one with a weight does
+function weighs(at,    i, spaces) {
+    for (i = from[at]; i < from[at] + size(at); i++) {
+        if (byte[i] != 32) continue
+        if (i == from[at] || byte[i - 1] == 32) return 0
+        if (++spaces == 2) return 1
+    }
+    return 0
+}
+
+# what an edge line has to be: the first one, which may have a weight, says so of all
+function edge_form(at) {
+    if (weighs(edges + 1)) return weight
+    return (weighs(at) ? "the first edge has no weight, so " : "") pair
 }
 
 # what is wrong with a line that the check of the sheet refuses: what stands before it is as it should be
@@ -44,7 +64,7 @@ function unchecked(refusal, at) {
     if (at == 2) return counted(refusal, "1,024 vertices")
     if (at == edges) return counted(refusal, "2,048 edges")
     if (at == jobs) return counted(refusal, "16 jobs")
-    return refusal == 3 ? range : "a job is bfs ID, wcc, cdlp N or lcc; " number
+    return refusal == 3 ? range : "a job is bfs ID, wcc, cdlp N, lcc or sssp ID; " number
 }
 
 # how many bytes a line has before its line end
@@ -92,7 +112,7 @@ function blank(text) {
 function explained(refusal, file, at, column) {
     if (file == 4 && at == 0) { print "  (the sheet is longer than 65,536 bytes)"; return }
     if (file == 1) { what = vertex[refusal]; place = ", vertex " at; at += 2 }
-    else if (file == 2) { what = edge[refusal]; place = ", edge " at; at += edges }
+    else if (file == 2) { place = ", edge " at; at += edges; what = refusal == 2 ? edge_form(at) : edge[refusal] }
     else if (file == 4) { what = unchecked(refusal, at); place = "" }
     else { what = job[refusal]; place = ", job " done; at = jobs + done }
     print "  (the sheet's line " at place (column > 0 ? ", column " column : "") ": " what ")"

@@ -1,6 +1,6 @@
 /* judge [--explain] MODE KERNEL PARAMETER VERTICES EDGES CLAIM: the verdict on a claim, in words. MODE is undirected or directed, KERNEL
-   bfs, wcc, cdlp or lcc, PARAMETER the root, the number of rounds, or anything where the kernel has none; the other three are files. The
-   claim's lines come in any order. --explain adds what is wrong, and the line. */
+   bfs, wcc, cdlp, lcc or sssp, PARAMETER the root, the number of rounds, or anything where the kernel has none; the other three are files.
+   The claim's lines come in any order. --explain adds what is wrong, and the line. */
 #include "trace.h"
 
 #include <inttypes.h>
@@ -50,18 +50,38 @@ static struct line line_of(struct file f, uint64_t line) {
     return (struct line){from, to ? to : end, to != NULL};
 }
 
-/* What a line of a file has to be. */
-static const char *form(uint64_t file, uint64_t kernel) {
-    if (file == 1) return "a vertex line is one number";
-    if (file == 2) return "an edge line is two numbers with one space between them";
-    if (kernel != TRACE_LCC) return "a claim line is two numbers with one space between them";
-    return "a coefficient's line is a number, one space and a decimal: 0 or digits without a leading zero,\n"
-           "  then . and digits or no point, then e, a sign and two digits or no e; at most 17 digits before any e,\n"
-           "  a leading 0 counted";
+/* Whether a line goes on behind its second field, as one with a weight does. */
+static int goes_on(struct line l) {
+    for (int field = 0; field < 2; field++) {
+        const uint8_t *space = memchr(l.from, ' ', (size_t)(l.to - l.from));
+        if (!space || space == l.from) return 0;
+        l.from = space + 1;
+    }
+    return 1;
+}
+
+/* What an edge line has to be: the first line, which may have a weight, says so of all. */
+static const char *edge_form(struct line first, struct line l) {
+    if (goes_on(first))
+        return "in a file with weights an edge line is two numbers and a weight with one space between each two;\n"
+               "  a weight is 0 or digits without a leading zero, then . and one to six digits or no point";
+    if (goes_on(l)) return "the first line has no weight, so an edge line is two numbers with one space between them";
+    return "an edge line is two numbers with one space between them";
+}
+
+#define DECIMAL                                                                                                                       \
+    "0 or digits without a leading zero,\n  then . and digits or no point, then e, a sign and two digits or no e; at most 17 digits " \
+    "before any e,\n  a leading 0 counted"
+
+/* What a line of a claim has to be. */
+static const char *claim_form(uint64_t kernel) {
+    if (kernel == TRACE_LCC) return "a coefficient's line is a number, one space and a decimal: " DECIMAL;
+    if (kernel == TRACE_SSSP) return "a distance's line is a number, one space and infinity or a decimal: " DECIMAL;
+    return "a claim line is two numbers with one space between them";
 }
 
 /* What a refusal means; trace_verdict, which loads its graph into areas of its own, has no 8 and no 9. */
-static const char *reason(uint64_t number, uint64_t file, uint64_t kernel) {
+static const char *reason(uint64_t number) {
     static const char *const reasons[] = {
         [1] = "the lists take at most 1,024 vertices and 2,048 edges, the claim 1,024 lines",
         [3] = "a number is outside -9223372036854775808 to 9223372036854775807",
@@ -71,9 +91,11 @@ static const char *reason(uint64_t number, uint64_t file, uint64_t kernel) {
         [7] = "the edge names a vertex that is not in the vertex file",
         [10] = "the vertex to start from is not in the vertex file",
         [11] = "the number of rounds is below 0 or above 1,000",
-        [12] = "the mode is directed or undirected, the kernel bfs, wcc, cdlp or lcc",
+        [12] = "the mode is directed or undirected, the kernel bfs, wcc, cdlp, lcc or sssp",
+        [13] = "the weight is above 100000",
+        [14] = "the edge file has no weights, and sssp asks for them",
     };
-    return number == 2 ? form(file, kernel) : reasons[number];
+    return reasons[number];
 }
 
 /* A line as it reads: bytes that do not print as in C or as a question mark. */
@@ -88,8 +110,11 @@ static void print_line(struct line l) {
 }
 
 /* What is wrong, and the line. */
-static void explain(uint64_t number, uint64_t file, uint64_t kernel, struct line l) {
-    printf("  (%s)\n", number == 2 && !l.ended ? "the line has no line end" : reason(number, file, kernel));
+static void explain(uint64_t number, uint64_t file, uint64_t kernel, struct line first, struct line l) {
+    const char *what = reason(number);
+    if (number == 2 && !l.ended) what = "the line has no line end";
+    else if (number == 2) what = file == 1 ? "a vertex line is one number" : file == 2 ? edge_form(first, l) : claim_form(kernel);
+    printf("  (%s)\n", what);
     if (file != 0) print_line(l);
 }
 
@@ -122,7 +147,7 @@ static void explain_missing(struct file vertices, struct file claim) {
 }
 
 int main(int argc, char **argv) {
-    static const char *const modes[] = {"undirected", "directed", NULL}, *const kernels[] = {"bfs", "wcc", "cdlp", "lcc", NULL};
+    static const char *const modes[] = {"undirected", "directed", NULL}, *const kernels[] = {"bfs", "wcc", "cdlp", "lcc", "sssp", NULL};
     static const char *const files[] = {"", " of the vertex file", " of the edge file", " of the claim"};
     int explained = argc > 1 && strcmp(argv[1], "--explain") == 0;
     if (explained) argc--, argv++;
@@ -142,7 +167,7 @@ int main(int argc, char **argv) {
     else printf("refused %" PRIu64 " at line %" PRIu64 "%s\n", number, line, files[file]);
     if (!explained || number == TRACE_MATCH) return 0;
     struct line at = line_of(file == 1 ? v : file == 2 ? e : c, line);
-    if (TRACE_VERDICT_REFUSED(said)) explain(number, file, kernel, at);
+    if (TRACE_VERDICT_REFUSED(said)) explain(number, file, kernel, line_of(e, 1), at);
     else if (number == TRACE_MISMATCH) printf("  (of the vertices at fault this is the smallest)\n"), print_line(at);
     else if (at.ended) explain_line(c, line, at);
     else explain_missing(v, c);

@@ -1,5 +1,5 @@
-//! Claims at the edges: coefficients on the line, labels permuted, merged and split, every order of the lines, with lines wrong, missing,
-//! doubled, replaced and surplus, damaged lines of each kind.
+//! Claims at the edges: coefficients and distances on the line, labels permuted, merged and split, every order of the lines, with lines
+//! wrong, missing, doubled, replaced and surplus, damaged lines of each kind.
 
 use trace_engine::{given, verdict, File, Graph, Kernel, Mode, Reason, Refusal, Verdict};
 
@@ -7,6 +7,9 @@ use trace_engine::{given, verdict, File, Graph, Kernel, Mode, Reason, Refusal, V
 const VERTICES: &[u8] = b"-3\n2\n5\n9\n20\n";
 const EDGES: &[u8] = b"2 5\n2 9\n5 2\n5 9\n9 20\n";
 const IDS: [i64; 5] = [-3, 2, 5, 9, 20];
+
+/// The same edges with weights: from 2 the distances are infinity, 0, 0.5, 3.000001, 100003.000001.
+const ROUTES: &[u8] = b"2 5 0.5\n2 9 4\n5 2 0\n5 9 2.500001\n9 20 100000\n";
 
 /// Numbers below, between and above the identifiers.
 const UNKNOWN: [i64; 5] = [i64::MIN, 0, 19, 21, i64::MAX];
@@ -18,8 +21,9 @@ fn judged_on(mode: Mode, vertices: &[u8], edges: &[u8], kernel: Kernel, claim: &
     said
 }
 
+/// Distances are claimed of the edges with weights, everything else of those without.
 fn judged(kernel: Kernel, claim: &str) -> Result<Verdict, Refusal> {
-    judged_on(Mode::Directed, VERTICES, EDGES, kernel, claim)
+    judged_on(Mode::Directed, VERTICES, if let Kernel::Sssp(_) = kernel { ROUTES } else { EDGES }, kernel, claim)
 }
 
 /// A claim of the five coefficients with one of them as given.
@@ -27,6 +31,13 @@ fn coefficients(place: usize, value: &str) -> Result<Verdict, Refusal> {
     let mut values = ["0", "0.5", "0.5", "0.3333", "0"];
     values[place] = value;
     judged(Kernel::Lcc, &IDS.iter().zip(values).map(|(id, v)| format!("{} {}\n", id, v)).collect::<String>())
+}
+
+/// A claim of the five distances from 2 with one of them as given.
+fn distances(place: usize, value: &str) -> Result<Verdict, Refusal> {
+    let mut values = ["infinity", "0", "0.5", "3.000001", "100003.000001"];
+    values[place] = value;
+    judged(Kernel::Sssp(2), &IDS.iter().zip(values).map(|(id, v)| format!("{} {}\n", id, v)).collect::<String>())
 }
 
 /// Every order of n things.
@@ -149,6 +160,53 @@ fn main() {
         assert_eq!(coefficients(1, form), fault(Reason::BadForm, 2), "{}", form);
     }
 
+    // distances: 0.5, 3.000001 and 100003.000001 on both edges of the bound and just past them
+    for (place, inside, outside) in [
+        (2, "0.50005", "0.500050000000001"),
+        (2, "0.49995", "0.4999499999999999"),
+        (2, "5.0005000000000000e-01", "5.0005000000000001e-01"),
+        (2, "49995e-05", "49994999999999999e-17"),
+        (3, "3.0003010001", "3.00030100010001"),
+        (3, "2.9997009999", "2.99970099989999"),
+        (3, "3.0003010001000000", "3.0003010001000001"),
+        (3, "0.30003010001e+01", "0.300301000100001e+01"),
+        (4, "100013.0003010001", "100013.00030100011"),
+        (4, "99992.9997009999", "99992.999700999899"),
+        (4, "1.000130003010001e+05", "1.0001300030100011e+05"),
+    ] {
+        let line = place as u64 + 1;
+        assert_eq!((distances(place, inside), distances(place, outside)), (Ok(Match), Ok(Mismatch(line))), "{} {}", inside, outside);
+    }
+    // the unit is the weights', not a millionth; 0 matches only zero; infinity exactly where there is no route
+    assert_eq!((distances(2, "500000"), distances(1, "0.0e-99"), distances(1, "1e-99")), (Ok(Mismatch(3)), Ok(Match), Ok(Mismatch(2))));
+    for finite in ["0", "9223372036854.7758", "9.2233720368547758e+12", "9.2233720368547758e+18", "99999999999999999e+99"] {
+        assert_eq!(distances(0, finite), Ok(Mismatch(1)), "{}", finite);
+    }
+    for place in 1..5 {
+        assert_eq!(distances(place, "infinity"), Ok(Mismatch(place as u64 + 1)));
+    }
+    for form in [
+        "Infinity",
+        "INFINITY",
+        "inf",
+        "infinit",
+        "infinityy",
+        "infinity ",
+        "-infinity",
+        "+infinity",
+        "nan",
+        "",
+        "0.5e",
+        "-0.5",
+        "9223372036854775807",
+    ] {
+        assert_eq!(distances(2, form), fault(Reason::BadForm, 3), "{}", form);
+    }
+    let alone = |kernel, edges: &[u8]| verdict(Mode::Directed, VERTICES, edges, kernel, b"-3 infinity\n");
+    assert_eq!(alone(Kernel::Sssp(2), ROUTES), Ok(Incomplete(2)));
+    assert_eq!(alone(Kernel::Bfs(2), ROUTES), fault(Reason::BadForm, 1));
+    assert_eq!(alone(Kernel::Lcc, ROUTES), fault(Reason::BadForm, 1));
+
     // labels: permuted, merged, split
     assert_eq!(judged(Kernel::Wcc, "-3 7\n2 -1\n5 -1\n9 -1\n20 -1\n"), Ok(Match));
     assert_eq!(judged(Kernel::Wcc, "-3 7\n2 7\n5 7\n9 7\n20 7\n"), Ok(Mismatch(2)));
@@ -170,7 +228,8 @@ fn main() {
     every_order(Kernel::Cdlp(2), ["-3", "2", "5", "2", "2"], wrong, least);
     every_order(Kernel::Lcc, ["0", "0.5", "0.5", "0.3333", "0"], wrong, least);
     every_order(Kernel::Wcc, ["1", "2", "2", "2", "2"], wrong, least_split);
-    [Kernel::Bfs(2), Kernel::Wcc, Kernel::Cdlp(2), Kernel::Lcc].into_iter().for_each(every_incomplete);
+    every_order(Kernel::Sssp(2), ["infinity", "0", "0.5", "3", "100003"], ["0", "infinity", "0.6", "4", "infinity"], least);
+    [Kernel::Bfs(2), Kernel::Wcc, Kernel::Cdlp(2), Kernel::Lcc, Kernel::Sssp(2)].into_iter().for_each(every_incomplete);
     // labels merged with a vertex of the other component: 2 disagrees with -3, by its line
     assert_eq!(judged(Kernel::Wcc, "20 7\n9 7\n5 7\n2 7\n-3 7\n"), Ok(Mismatch(4)));
     // a vertex that is not there before one that is named twice, and behind it; and both a doubled and a missing one
@@ -184,15 +243,19 @@ fn main() {
     assert_eq!(judged(Kernel::Bfs(2), "2 0\n2 0\n21 1\n-0 1\n"), fault(Reason::BadForm, 4));
     assert_eq!(judged(Kernel::Bfs(3), "x"), Err(Refusal { reason: Reason::NotThere, file: File::None, line: 0 }));
     assert_eq!(judged(Kernel::Cdlp(-1), "x"), Err(Refusal { reason: Reason::BadRounds, file: File::None, line: 0 }));
+    assert_eq!(judged(Kernel::Sssp(3), "x"), Err(Refusal { reason: Reason::NotThere, file: File::None, line: 0 }));
+    let unweighted = Err(Refusal { reason: Reason::Unweighted, file: File::None, line: 0 });
+    assert_eq!(judged_on(Mode::Directed, VERTICES, EDGES, Kernel::Sssp(3), "x"), unweighted);
+    assert_eq!(judged_on(Mode::Undirected, VERTICES, b"", Kernel::Sssp(2), ""), unweighted);
 
-    // how a host that lends its own areas reads an answer: a verdict is no refusal, and only the numbers 1 to 12 are
+    // how a host that lends its own areas reads an answer: a verdict is no refusal, and only the numbers 1 to 14 are
     let coded = |number: u64, file: u64, rest: u64| number * 10_u64.pow(15) + file * 10_u64.pow(14) + rest;
     assert_eq!(trace_engine::judged(coded(0, 3, 0)), Ok(Match));
     assert_eq!(trace_engine::judged(coded(20, 3, 5)), Ok(Incomplete(5)));
     assert_eq!(trace_engine::judged(coded(21, 3, 65_536)), Ok(Mismatch(65_536)));
     assert_eq!(trace_engine::judged(coded(3, 3, 7)), fault(Reason::OutOfRange, 7));
     assert_eq!(given(coded(0, 0, 5 * 10_000_000 + 5)), Ok(50_000_005));
-    let all = (1..=12).map(|number| given(coded(number, 0, 0)).unwrap_err().reason as u64);
-    assert!(all.eq(1..=12));
+    let all = (1..=14).map(|number| given(coded(number, 0, 0)).unwrap_err().reason as u64);
+    assert!(all.eq(1..=14));
     println!("claims: verdicts at the edges are as they should be");
 }

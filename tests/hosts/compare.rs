@@ -1,7 +1,7 @@
 //! compare [CASES]: the engine's host calls against the independent implementation, on random and damaged inputs from fixed seeds; every
 //! area that is lent stands between pages that may not be touched. compare sheets COUNT FOLDER: writes so many random and damaged sheets,
-//! each with what the independent implementation prints for it. compare lines COUNT FOLDER: writes so many random and damaged lines for the
-//! program `columns`, in files that it takes, each with what it has to print.
+//! each with what the independent implementation prints for it. compare lines COUNT FOLDER [KINDS]: writes so many random and damaged lines
+//! for the program `columns`, of the kinds `vecl` or of those named, in files that it takes, each with what it has to print.
 
 mod fence;
 mod inputs;
@@ -56,7 +56,7 @@ impl Run {
 
     /// Room for n places: just enough, more, or at times one too few.
     fn places(&mut self, n: usize) -> usize {
-        match self.dice.below(12) {
+        match self.dice.below(14) {
             0 => n.saturating_sub(1),
             1 | 2 => n + self.dice.below(4),
             _ => n,
@@ -109,13 +109,18 @@ impl Run {
             out_targets: self.places(m),
             in_offsets: self.places(n + 1),
             in_sources: self.places(m),
+            out_weights: if self.dice.one_in(4) { 0 } else { self.places(m) },
+            in_weights: if self.dice.one_in(4) { 0 } else { self.places(m) },
         };
         let mut ids = self.signed(room.ids);
         let (mut oo, mut ot) = (self.numbers(room.out_offsets), self.numbers(room.out_targets));
         let (mut io, mut is) = (self.numbers(room.in_offsets), self.numbers(room.in_sources));
-        let said = calls::load(mode, &self.lend(&l.vertices), &self.lend(&l.edges), &mut ids, &mut oo, &mut ot, &mut io, &mut is);
+        let (mut ow, mut iw) = (self.numbers(room.out_weights), self.numbers(room.in_weights));
+        let (vertices, edges) = (self.lend(&l.vertices), self.lend(&l.edges));
+        let said = calls::load(mode, &vertices, &edges, &mut ids, &mut oo, &mut ot, &mut io, &mut is, &mut ow, &mut iw);
         let loaded = lists::load(mode, &l.vertices, &l.edges, LIBRARY, room);
-        let right = loaded.as_ref().map_or_else(|r| refused(*r), |g| (g.ids.len() * 10_000_000 + g.arcs()) as u64);
+        let weighted = |g: &Graph| usize::from(g.weights.is_some()) * 1_000_000_000_000;
+        let right = loaded.as_ref().map_or_else(|r| refused(*r), |g| (weighted(g) + g.ids.len() * 10_000_000 + g.arcs()) as u64);
         let story = || format!("load {}\n{:?}\n{:?}", mode, text(&l.vertices), text(&l.edges));
         assert_eq!(said, right, "{}", story());
         let stored = loaded.ok().map(|g| Lent::of(&g));
@@ -125,6 +130,8 @@ impl Run {
         assert_eq!(&ot[..], &shown(g.map(|g| &g.out_targets[..]), room.out_targets)[..], "{}", story());
         assert_eq!(&io[..], &shown(g.map(|g| &g.in_offsets[..]), room.in_offsets)[..], "{}", story());
         assert_eq!(&is[..], &shown(g.map(|g| &g.in_sources[..]), room.in_sources)[..], "{}", story());
+        assert_eq!(&ow[..], &shown(g.map(|g| &g.out_weights[..]), room.out_weights)[..], "{}", story());
+        assert_eq!(&iw[..], &shown(g.map(|g| &g.in_weights[..]), room.in_weights)[..], "{}", story());
     }
 
     /// A lent graph, at times damaged: a stated count, an entry or an area's length.
@@ -133,15 +140,18 @@ impl Run {
         let mut g = Lent::of(&lists::load(l.mode, &l.vertices, &l.edges, LIBRARY, lists::ROOM_ENOUGH).unwrap());
         if self.dice.one_in(3) {
             let value = *self.dice.pick(&[0, 1, 2, 3, g.vertices, g.arcs, 65_537, usize::MAX]);
-            match self.dice.below(8) {
+            match self.dice.below(12) {
                 0 => g.vertices = value,
                 1 => g.arcs = value,
                 2 if g.ids.len() > 1 => g.ids.swap(0, 1),
                 3 => drop(g.ids.pop()),
                 4 => drop(g.out_offsets.pop()),
+                5 => g.weighted = !g.weighted,
+                6 => drop(g.out_weights.pop()),
+                7 => drop(g.in_weights.pop()),
                 k => {
-                    let area =
-                        [&mut g.out_offsets, &mut g.out_targets, &mut g.in_offsets, &mut g.in_sources].into_iter().nth(k % 4).unwrap();
+                    let areas = [&mut g.out_offsets, &mut g.out_targets, &mut g.in_offsets, &mut g.in_sources];
+                    let area = areas.into_iter().chain([&mut g.out_weights, &mut g.in_weights]).nth(k % 6).unwrap();
                     if !area.is_empty() {
                         let i = self.dice.below(area.len());
                         area[i] = value;
@@ -154,22 +164,26 @@ impl Run {
 
     fn kernels(&mut self) {
         let g = self.lent();
-        let graph = g.graph();
         let n = g.vertices.min(200);
         let (ids, oo, ot) =
             (Fenced::of(&g.ids, self.at_end), Fenced::of(&g.out_offsets, self.at_end), Fenced::of(&g.out_targets, self.at_end));
         let (io, is) = (Fenced::of(&g.in_offsets, self.at_end), Fenced::of(&g.in_sources, self.at_end));
+        let (ow, iw) = (Fenced::of(&g.out_weights, self.at_end), Fenced::of(&g.in_weights, self.at_end));
         let size = calls::Size { vertices: g.vertices, arcs: g.arcs };
         let lent = calls::Lent { size, ids: &ids, out_offsets: &oo, out_targets: &ot, in_offsets: &io, in_sources: &is };
-        let any = Graph { ids: g.ids.clone(), out: Vec::new(), into: Vec::new() };
+        let weighted = if g.weighted { *self.dice.pick(&[1, 1, 2, 1 << 32, u64::MAX]) } else { 0 };
+        let weights = calls::Weights { weighted, out: &ow, into: &iw };
+        let any = Graph { ids: g.ids.clone(), out: Vec::new(), into: Vec::new(), weights: None };
         let (kernel, parameter) = inputs::kernel(&mut self.dice, &any);
+        // the unweighted kernels do not look at the weights
+        let graph = if kernel == 5 { g.weighted_graph() } else { g.graph() };
         let rooms: Vec<usize> = (0..6).map(|_| self.places(n)).collect();
         let (mut result, mut claimed) = (self.signed(rooms[0]), self.signed(rooms[1]));
         let (mut first, mut second, mut third) = (self.numbers(rooms[2]), self.numbers(rooms[3]), self.numbers(rooms[4]));
         let mut lines = self.numbers(rooms[5]);
-        let judge = self.dice.one_in(2) || !(1..=4).contains(&kernel);
+        let judge = self.dice.one_in(2) || !(1..=5).contains(&kernel);
         let claim = match &graph {
-            Ok(g) if (1..=4).contains(&kernel) => inputs::claim(&mut self.dice, g, kernel, parameter),
+            Ok(g) if (1..=5).contains(&kernel) => inputs::claim(&mut self.dice, g, kernel, parameter),
             _ => b"1 1\n".to_vec(),
         };
         let mut claim = claim;
@@ -181,7 +195,7 @@ impl Run {
             (true, _) => &[0, 1, 2, 3, 4, 5],
             (_, 1) => &[0, 2],
             (_, 2) => &[0, 2],
-            (_, 3) => &[0, 2, 3, 4],
+            (_, 3) | (_, 5) => &[0, 2, 3, 4],
             _ => &[2, 3, 4],
         };
         let said = if judge {
@@ -193,12 +207,13 @@ impl Run {
                 third: &mut third,
                 lines: &mut lines,
             };
-            calls::judge(&lent, kernel, parameter, &self.lend(&claim), &mut areas)
+            calls::judge(&lent, &weights, kernel, parameter, &self.lend(&claim), &mut areas)
         } else {
             match kernel {
                 1 => calls::bfs(&lent, parameter, &mut result, &mut first),
                 2 => calls::wcc(&lent, &mut result, &mut first),
                 3 => calls::cdlp(&lent, parameter, &mut result, &mut first, &mut second, &mut third),
+                5 => calls::sssp(&lent, &weights, parameter, &mut result, &mut first, &mut second, &mut third),
                 _ => calls::lcc(&lent, &mut first, &mut second, &mut third),
             }
         };
@@ -276,9 +291,9 @@ struct Done {
     denominators: Vec<usize>,
 }
 
-/// 12 of a verdict, then 9, 10 or 11, 8; else the kernel's results.
+/// 12 of a verdict, then 9, 14, 10 or 11, 8; else the kernel's results.
 fn ran(graph: &Result<Graph, Refusal>, kernel: u64, parameter: i64, judge: bool, room: bool) -> Result<Done, Refusal> {
-    if judge && !(1..=4).contains(&kernel) {
+    if judge && !(1..=5).contains(&kernel) {
         return Err(plain(12));
     }
     let g = graph.as_ref().map_err(|r| *r)?;
@@ -286,6 +301,7 @@ fn ran(graph: &Result<Graph, Refusal>, kernel: u64, parameter: i64, judge: bool,
         1 => kernels::bfs(g, parameter)?,
         2 => kernels::wcc(g),
         3 => kernels::cdlp(g, parameter)?,
+        5 => kernels::sssp(g, parameter)?,
         _ => Vec::new(),
     };
     if !room {
@@ -335,20 +351,25 @@ fn column_line(record: &[u8]) -> String {
     let (kind, line) = record.split_first().unwrap();
     let form = match kind.to_ascii_lowercase() {
         b'v' => Form::Vertex,
+        b'w' => Form::Weighted,
+        b'f' => Form::FirstEdge,
         b'l' => Form::Coefficient,
+        b'd' => Form::Distance,
         _ => Form::Pair,
     };
     let file = if kind.is_ascii_uppercase() { &line[..line.len() - 1] } else { line };
     match lists::lines(file).first().map(|line| places::fault(form, line)) {
+        // a weight that is too large has the right form: 13 is said by the test of its edge, not by the line's reader
+        Some((13, _)) => "0 0\n".to_string(),
         Some((number, column)) => format!("{} {}\n", number, column),
         None => "end\n".to_string(),
     }
 }
 
-fn write_lines(count: u64, folder: &str) {
+fn write_lines(count: u64, folder: &str, kinds: &[u8]) {
     let mut files: Vec<(Vec<u8>, String)> = vec![Default::default()];
     for seed in 0..count {
-        let record = inputs::record(&mut Dice::new(seed + 2_000_000_011));
+        let record = inputs::record(&mut Dice::new(seed + 2_000_000_011), kinds);
         if files.last().unwrap().0.len() + record.len() > 65_536 {
             files.push(Default::default());
         }
@@ -367,8 +388,9 @@ fn main() {
     match words.iter().map(String::as_str).collect::<Vec<_>>()[..] {
         [] => agree(24_000),
         ["sheets", count, folder] => write_sheets(count.parse().unwrap(), folder),
-        ["lines", count, folder] => write_lines(count.parse().unwrap(), folder),
+        ["lines", count, folder] => write_lines(count.parse().unwrap(), folder, b"vecl"),
+        ["lines", count, folder, kinds] => write_lines(count.parse().unwrap(), folder, kinds.as_bytes()),
         [cases] => agree(cases.parse().unwrap()),
-        _ => panic!("compare [CASES] | compare sheets COUNT FOLDER | compare lines COUNT FOLDER"),
+        _ => panic!("compare [CASES] | compare sheets COUNT FOLDER | compare lines COUNT FOLDER [KINDS]"),
     }
 }

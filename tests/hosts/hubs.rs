@@ -41,7 +41,7 @@ fn graph(dice: &mut Dice) -> Graph {
         out.iter_mut().for_each(|part| part.sort_unstable());
         out.iter_mut().for_each(Vec::dedup);
     }
-    Graph { ids: (0..n as i64).collect(), into: reversed(&out), out }
+    Graph { ids: (0..n as i64).collect(), into: reversed(&out), out, weights: None }
 }
 
 fn reversed(way: &[Vec<usize>]) -> Vec<Vec<usize>> {

@@ -1,8 +1,8 @@
 //! Random lists, claims, lines, books and damage, from a seed.
 
 use reference::dice::Dice;
-use reference::kernels;
 use reference::lists::Graph;
+use reference::{kernels, sheet};
 
 /// Two lists of one graph, and the mode that they are written for.
 pub struct Lists {
@@ -26,7 +26,26 @@ fn identifiers(dice: &mut Dice) -> Vec<i64> {
     ids
 }
 
+/// A weight: none at all, one of a few that many routes share, with any digits behind the point, or at an end of the range.
+pub fn weight(dice: &mut Dice) -> String {
+    match dice.below(10) {
+        0 | 1 => "0".to_string(),
+        2..=4 => dice.below(4).to_string(),
+        5 => format!("{}.{}", dice.below(10), dice.below(10)),
+        6 => format!("{}.{:06}", dice.below(100), dice.below(1_000_000)),
+        7 => dice.pick(&["0.0", "0.000000", "0.000001", "1.50", "99999.999999", "100000", "100000.0", "100000.000000"]).to_string(),
+        8 => format!("{}.{:03}", dice.below(100_000), dice.below(1_000)),
+        _ => dice.below(100_001).to_string(),
+    }
+}
+
+/// Lists with weights or without.
 pub fn lists(dice: &mut Dice) -> Lists {
+    let weighted = dice.one_in(2);
+    lists_with(dice, weighted)
+}
+
+pub fn lists_with(dice: &mut Dice, weighted: bool) -> Lists {
     let mode = dice.below(2) as u64;
     let ids = identifiers(dice);
     let mut pairs: Vec<(i64, i64)> = Vec::new();
@@ -41,7 +60,8 @@ pub fn lists(dice: &mut Dice) -> Lists {
     pairs.sort_unstable();
     pairs.dedup();
     let vertices = ids.iter().map(|z| format!("{}\n", z)).collect::<String>().into_bytes();
-    let edges = pairs.iter().map(|(a, b)| format!("{} {}\n", a, b)).collect::<String>().into_bytes();
+    let third = |dice: &mut Dice| if weighted { format!(" {}", weight(dice)) } else { String::new() };
+    let edges = pairs.iter().map(|(a, b)| format!("{} {}{}\n", a, b, third(dice))).collect::<String>().into_bytes();
     Lists { mode, vertices, edges }
 }
 
@@ -57,6 +77,7 @@ pub fn mode(dice: &mut Dice, right: u64) -> u64 {
 /// One damage: a byte changed, left out or put in, a line twice, exchanged or gone, the end cut off.
 pub fn damage(dice: &mut Dice, file: &mut Vec<u8>) {
     const BYTES: &[u8] = b"0123456789-+. e\n\r\t/x\0\xff";
+    const NUMBERS: &str = "9223372036854775808 -9223372036854775809 -0 007 99999999999999999999999999 100000.000001 0.1234567 1. infinity ";
     let lines = |f: &[u8]| -> Vec<Vec<u8>> { f.split_inclusive(|&b| b == b'\n').map(<[u8]>::to_vec).collect() };
     let at = dice.below(file.len() + 1);
     match dice.below(9) {
@@ -79,7 +100,7 @@ pub fn damage(dice: &mut Dice, file: &mut Vec<u8>) {
             *file = all.concat();
         }
         _ => {
-            let number = *dice.pick(&["9223372036854775808", "-9223372036854775809", "-0", "007", "99999999999999999999999999", ""]);
+            let number = *dice.pick(&NUMBERS.split(' ').collect::<Vec<_>>());
             let mut all = lines(file);
             if all.is_empty() {
                 return;
@@ -133,11 +154,38 @@ fn near(dice: &mut Dice, (a, b): (u64, u64)) -> String {
     }
 }
 
+/// A distance as it may be claimed: exactly, within the bound, at its edge or just outside; the word `infinity`, at times a wrong one.
+pub fn distance(dice: &mut Dice, millionths: i64) -> String {
+    if (millionths == kernels::UNREACHABLE) != dice.one_in(40) {
+        return "infinity".to_string();
+    }
+    if millionths == 0 || millionths == kernels::UNREACHABLE {
+        return dice.pick(&["0", "0.0", "0e+99", "0.0000e-07", "1e-99", "9223372036854.7758", "9223372036854775807", "9e+99"]).to_string();
+    }
+    let factor = *dice.pick(&[1.0, 1.0, 1.0, 1.000_1, 0.999_9, 1.000_09, 0.999_91, 1.000_11, 0.999_89]);
+    let value = millionths as f64 / 1e6 * factor;
+    let places = dice.below(17);
+    match dice.below(8) {
+        0 => scientific(&format!("{:.*e}", places, value)),
+        1 => format!("{:.*}", places.min(9), value),
+        2 => {
+            // the last decimal before an edge or the first behind it, of as many places as an edge has
+            let edge = millionths * *dice.pick(&[9_999, 10_001]) + dice.below(3) as i64 - 1;
+            format!("{}.{:010}", edge / 10_i64.pow(10), edge % 10_i64.pow(10))
+        }
+        3 | 4 => {
+            let digits = 14 + dice.below(4) as u32;
+            at_edge(dice, millionths as u64, 1_000_000, digits)
+        }
+        _ => sheet::distance(millionths),
+    }
+}
+
 /// A kernel with a parameter, mostly one that it takes.
 pub fn kernel(dice: &mut Dice, g: &Graph) -> (u64, i64) {
-    let number = if dice.one_in(25) { *dice.pick(&[0, 5, u64::MAX]) } else { dice.below(4) as u64 + 1 };
+    let number = if dice.one_in(25) { *dice.pick(&[0, 6, u64::MAX]) } else { dice.below(5) as u64 + 1 };
     let parameter = match number {
-        1 if !g.ids.is_empty() && !dice.one_in(12) => *dice.pick(&g.ids),
+        1 | 5 if !g.ids.is_empty() && !dice.one_in(12) => *dice.pick(&g.ids),
         3 if !dice.one_in(12) => dice.below(5) as i64,
         _ => *dice.pick(&[-1, 0, 7, 1_000, 1_001, i64::MIN, i64::MAX]),
     };
@@ -153,6 +201,7 @@ pub fn claim_lines(dice: &mut Dice, g: &Graph, number: u64, parameter: i64) -> V
             kernels::wcc(g).iter().map(|&z| if turn { z.wrapping_mul(-1).wrapping_add(shift) } else { z }.to_string()).collect()
         }
         3 => kernels::cdlp(g, parameter).unwrap_or_default().iter().map(i64::to_string).collect(),
+        5 => kernels::sssp(g, parameter).unwrap_or_default().into_iter().map(|d| distance(dice, d)).collect(),
         _ => kernels::lcc(g).into_iter().map(|r| near(dice, r)).collect(),
     };
     for _ in 0..*dice.pick(&[0, 0, 0, 0, 1, 2]) {
@@ -179,12 +228,13 @@ pub fn claim(dice: &mut Dice, g: &Graph, number: u64, parameter: i64) -> Vec<u8>
 pub fn sheet(dice: &mut Dice, lists: &Lists) -> Vec<u8> {
     let count = |f: &[u8]| f.iter().filter(|&&b| b == b'\n').count();
     let jobs: Vec<String> = (0..dice.below(6))
-        .map(|_| match dice.below(5) {
+        .map(|_| match dice.below(6) {
             0 => format!("bfs {}", dice.below(40) as i64 - 20),
             1 => format!("cdlp {}", dice.below(12) as i64 - 1),
             2 => "lcc".to_string(),
             3 => "wcc".to_string(),
-            _ => dice.pick(&["cdlp 1001", "bfs 9223372036854775807", "wcc", "lcc"]).to_string(),
+            4 => format!("sssp {}", dice.below(40) as i64 - 20),
+            _ => dice.pick(&["cdlp 1001", "bfs 9223372036854775807", "sssp -9223372036854775808", "wcc", "lcc"]).to_string(),
         })
         .collect();
     let mut text = format!("{}directed\n{}\n", if lists.mode == 0 { "un" } else { "" }, count(&lists.vertices)).into_bytes();
@@ -306,10 +356,11 @@ fn coefficient(dice: &mut Dice) -> String {
 /// One damage to a line: a byte changed, gone, put in or twice, the line cut short, something behind it, or a number of another form.
 fn damage_line(dice: &mut Dice, line: &mut Vec<u8>) {
     const BYTES: &[u8] = b"0123456789-+. eE\t\r\0\x01\x1f\x7f\x80\xff/:x";
-    const ENDS: &[&str] = &[" ", "\t", "\r", "\0", " 1", "x", ".", ".5", "e", "e+", "e+1", "e-001", "e12", "E+00"];
+    const ENDS: &[&str] = &[" ", "\t", "\r", "\0", " 1", " 0.5", "x", ".", ".5", "e", "e+", "e+1", "e-001", "e12", "E+00"];
     const NUMBERS: &str =
         " - -0 -01 --1 00 007 +1 9223372036854775808 -9223372036854775809 99999999999999999999999999 0. .5 1..5 1.5.5 01.5 \
-        -0.5 1e 1e5 1e+5 1e+005 1E+05 1.e+05 e+05 0e-00 12345678901234567. 12345678901234567e+17 123456789012345678 0.12345678901234567";
+        -0.5 1e 1e5 1e+5 1e+005 1E+05 1.e+05 e+05 0e-00 12345678901234567. 12345678901234567e+17 123456789012345678 0.12345678901234567 \
+        0.123456 0.1234567 100000 100000.000001 100001 infinity infinit infinite Infinity inf";
     let at = dice.below(line.len() + 1);
     match dice.below(9) {
         0 | 1 if at < line.len() => line[at] = *dice.pick(BYTES),
@@ -337,13 +388,18 @@ pub fn damage_within(dice: &mut Dice, file: &mut Vec<u8>) {
     }
 }
 
-/// A line for the program `columns`, mostly a damaged one: its kind (`v` vertex, `e` edge, `c` claim of numbers, `l` of coefficients; a
-/// capital letter where the line ends with the file), its bytes, an LF.
-pub fn record(dice: &mut Dice) -> Vec<u8> {
-    let kind = *dice.pick(b"vecl");
+/// A line for the program `columns`, mostly a damaged one: its kind, one of those given (`v` vertex, `e` edge without a weight, `w` with
+/// one, `f` the first edge, `c` claim of numbers, `l` of coefficients, `d` of distances; a capital letter where the line ends with the
+/// file), its bytes, an LF.
+pub fn record(dice: &mut Dice, kinds: &[u8]) -> Vec<u8> {
+    let kind = *dice.pick(kinds);
     let mut line = match kind {
         b'v' => number(dice),
         b'l' => format!("{} {}", number(dice), coefficient(dice)),
+        b'd' if dice.one_in(2) => format!("{} infinity", number(dice)),
+        b'd' => format!("{} {}", number(dice), coefficient(dice)),
+        b'w' => format!("{} {} {}", number(dice), number(dice), weight(dice)),
+        b'f' if dice.one_in(2) => format!("{} {} {}", number(dice), number(dice), weight(dice)),
         _ => format!("{} {}", number(dice), number(dice)),
     }
     .into_bytes();

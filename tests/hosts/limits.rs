@@ -1,6 +1,6 @@
 //! The engine at its limits, through the Rust crate: what the paper says to run, and each limit passed by one.
 
-use trace_engine::{calls, given, verdict, Book, File, Graph, Kernel, Mode, Reason, Refusal, Verdict};
+use trace_engine::{calls, given, verdict, Book, Distance, File, Graph, Kernel, Mode, Reason, Refusal, Verdict};
 
 fn vertices(n: usize) -> Vec<u8> {
     (0..n).map(|i| format!("{}\n", i)).collect::<String>().into_bytes()
@@ -39,6 +39,7 @@ fn main() {
         assert_eq!((empty.identifiers().len(), empty.arcs()), (0, 0));
         assert_eq!(empty.components(), Ok(vec![]));
         assert_eq!(empty.depths(0), Err(refused(Reason::NotThere, File::None, 0)));
+        assert_eq!((empty.is_weighted(), empty.sssp(0)), (false, Err(refused(Reason::Unweighted, File::None, 0))));
     }
 
     // "65,536 vertices load and 65,537 is 1 at that line"
@@ -76,13 +77,13 @@ fn main() {
         assert_eq!(alone.judge(kernel, &backwards(&line_more)), Err(refused(Reason::TooMany, File::Claim, 65_537)));
     }
 
-    // a mode that is neither 0 nor 1: 12 before anything else, and all five areas are zero
+    // a mode that is neither 0 nor 1: 12 before anything else, and all seven areas are zero
     for mode in [2, 3, 1 << 32, u64::MAX] {
         let mut ids = [7; 3];
-        let (mut oo, mut ot, mut io, mut is) = ([7; 4], [7; 5], [7; 6], [7; 1]);
-        let said = given(calls::load(mode, b"1\nx\n", b"1 1", &mut ids, &mut oo, &mut ot, &mut io, &mut is));
+        let (mut oo, mut ot, mut io, mut is, mut ow, mut iw) = ([7; 4], [7; 5], [7; 6], [7; 1], [7; 2], [7; 8]);
+        let said = given(calls::load(mode, b"1\nx\n", b"1 1", &mut ids, &mut oo, &mut ot, &mut io, &mut is, &mut ow, &mut iw));
         assert_eq!(said, Err(refused(Reason::UnknownNumber, File::None, 0)));
-        assert_eq!((ids, oo, ot, io, is), ([0; 3], [0; 4], [0; 5], [0; 6], [0; 1]));
+        assert_eq!((ids, oo, ot, io, is, ow, iw), ([0; 3], [0; 4], [0; 5], [0; 6], [0; 1], [0; 2], [0; 8]));
     }
 
     // 1,048,576 edges load, one more is 1 at that line
@@ -97,6 +98,40 @@ fn main() {
     let path = Graph::load(Mode::Undirected, &full, pairs.as_bytes()).unwrap();
     assert_eq!(path.depths(0).unwrap()[65_535], 65_535);
     assert_eq!(path.communities(1_001), Err(refused(Reason::BadRounds, File::None, 0)));
+    assert_eq!(path.sssp(0), Err(refused(Reason::Unweighted, File::None, 0)));
+
+    // the longest route that there can be: 65,535 of the heaviest arcs; a weight above that is 13 at its line, of however many digits
+    let hauls = (0..65_535).map(|i| format!("{} {} 100000\n", i, i + 1)).collect::<String>();
+    let longest = Graph::load(Mode::Undirected, &full, hauls.as_bytes()).unwrap();
+    assert_eq!((longest.is_weighted(), longest.arcs(), longest.outward_weights(1)), (true, 131_070, &[100_000_000_000; 2][..]));
+    for (root, other) in [(0, 65_535), (65_535, 0)] {
+        let far = longest.sssp(root).unwrap()[other];
+        assert_eq!((far, far.to_string()), (Distance::Millionths(6_553_500_000_000_000), "6553500000".to_string()));
+    }
+    for heavy in ["100000.000001", "100001", "18446744073709551617", &"9".repeat(70_000)] {
+        let edges = hauls.replace("65533 65534 100000\n", &format!("65533 65534 {}\n", heavy));
+        assert_eq!(Graph::load(Mode::Directed, &full, edges.as_bytes()), Err(refused(Reason::TooHeavy, File::Edges, 65_534)));
+    }
+    let exact = (0..65_536_u64).map(|v| format!("{} {}\n", v, v * 100_000)).collect::<String>();
+    assert_eq!(longest.judge(Kernel::Sssp(0), exact.as_bytes()), Ok(Verdict::Match));
+    assert_eq!(longest.judge(Kernel::Sssp(0), &backwards(exact.as_bytes())), Ok(Verdict::Match));
+    assert_eq!(
+        longest.judge(Kernel::Sssp(0), exact.replace("65535 6553500000\n", "65535 6554155351\n").as_bytes()),
+        Ok(Verdict::Mismatch(65_536))
+    );
+    assert_eq!(longest.judge(Kernel::Sssp(0), exact.replace("65535 6553500000\n", "65535 6554155350\n").as_bytes()), Ok(Verdict::Match));
+    assert_eq!(longest.judge(Kernel::Sssp(0), &line_more), Err(refused(Reason::TooMany, File::Claim, 65_537)));
+    assert_eq!(longest.judge(Kernel::Sssp(-1), &line_more), Err(refused(Reason::NotThere, File::None, 0)));
+
+    // 1,048,576 weighted edges load, one more is 1 at that line; all arcs weigh one, so that distances are hops
+    let heaps = String::from_utf8(many.clone()).unwrap().replace('\n', " 1\n").into_bytes();
+    let last = heaps[..heaps.len() - 1].iter().rposition(|&b| b == b'\n').unwrap() + 1;
+    let weighed = Graph::load(Mode::Directed, &full, &heaps[..last]).unwrap();
+    assert_eq!((weighed.arcs(), weighed.is_weighted()), (1_048_576, true));
+    assert_eq!(Graph::load(Mode::Directed, &full, &heaps), Err(refused(Reason::TooMany, File::Edges, 1_048_577)));
+    let hops = weighed.depths(7).unwrap();
+    assert!(hops == graph.depths(7).unwrap() && weighed.components() == graph.components());
+    assert!(weighed.sssp(7).unwrap().iter().zip(hops).all(|(&d, hops)| d == Distance::Millionths(hops as u64 * 1_000_000)));
 
     // a hub with an arc to each of 65,535 lots, of which one has an arc to another: 1/4294770690, the least there is above 0;
     // the last decimal of 17 digits inside the upper edge of the bound, and the first outside
@@ -122,6 +157,15 @@ fn main() {
     assert_eq!(verdict(Mode::Directed, &desk, b"", Kernel::Wcc, &turned), Ok(Verdict::Match));
     assert_eq!(verdict(Mode::Directed, &desk, b"", Kernel::Wcc, &doubled), Ok(Verdict::Incomplete(2)));
     assert_eq!(verdict(Mode::Directed, &desk, b"", Kernel::Wcc, &backwards(&doubled)), Ok(Verdict::Incomplete(1_024)));
+
+    let weighed = String::from_utf8(edges(1_024, 2_048)).unwrap().replace('\n', " 0\n");
+    let zeros = (0..1_024).rev().map(|v| format!("{} 0.0\n", v)).collect::<String>();
+    assert_eq!(verdict(Mode::Directed, &desk, weighed.as_bytes(), Kernel::Sssp(5), zeros.as_bytes()), Ok(Verdict::Match));
+    let one_more = weighed + "1023 1024 0";
+    assert_eq!(
+        verdict(Mode::Directed, &desk, one_more.as_bytes(), Kernel::Sssp(5), b""),
+        Err(refused(Reason::TooMany, File::Edges, 2_049))
+    );
 
     // four vertices, joins 0-1, 2-3, 1-3
     let mut four = Book::open(4).unwrap();

@@ -11,31 +11,41 @@ mod inputs;
 use fence::Fenced;
 use reference::claims::{self, Verdict};
 use reference::dice::Dice;
-use reference::lists::{self, Graph};
-use reference::{at, kernels, plain, Refusal, DESK, LIBRARY};
+use reference::lists::{self, Graph, Lent, Weights};
+use reference::{at, kernels, plain, sheet, Refusal, DESK, LIBRARY};
 use trace_engine::calls;
 
 /// A graph between fences.
 struct Held {
     size: calls::Size,
+    weighted: bool,
     ids: Fenced<i64>,
     out_offsets: Fenced<usize>,
     out_targets: Fenced<usize>,
     in_offsets: Fenced<usize>,
     in_sources: Fenced<usize>,
+    out_weights: Fenced<usize>,
+    in_weights: Fenced<usize>,
 }
 
 impl Held {
     fn of(g: &Graph, at_end: bool) -> Held {
-        let ((oo, ot), (io, is)) = (Graph::stored(&g.out), Graph::stored(&g.into));
+        let g = Lent::of(g);
         Held {
-            size: calls::Size { vertices: g.ids.len(), arcs: g.arcs() },
+            size: calls::Size { vertices: g.vertices, arcs: g.arcs },
+            weighted: g.weighted,
             ids: Fenced::of(&g.ids, at_end),
-            out_offsets: Fenced::of(&oo, at_end),
-            out_targets: Fenced::of(&ot, at_end),
-            in_offsets: Fenced::of(&io, at_end),
-            in_sources: Fenced::of(&is, at_end),
+            out_offsets: Fenced::of(&g.out_offsets, at_end),
+            out_targets: Fenced::of(&g.out_targets, at_end),
+            in_offsets: Fenced::of(&g.in_offsets, at_end),
+            in_sources: Fenced::of(&g.in_sources, at_end),
+            out_weights: Fenced::of(&g.out_weights, at_end),
+            in_weights: Fenced::of(&g.in_weights, at_end),
         }
+    }
+
+    fn weights(&self) -> calls::Weights<'_> {
+        calls::Weights { weighted: u64::from(self.weighted), out: &self.out_weights, into: &self.in_weights }
     }
 
     fn lent(&self) -> calls::Lent<'_> {
@@ -64,9 +74,10 @@ impl Six {
         Six { signed, numbers }
     }
 
-    fn judge(&mut self, g: &calls::Lent<'_>, asked: &Asked<'_>, claim: &[u8]) -> u64 {
+    fn judge(&mut self, g: &Held, asked: &Asked<'_>, claim: &[u8]) -> u64 {
         let ([result, claimed], [first, second, third, lines]) = (&mut self.signed, &mut self.numbers);
-        calls::judge(g, asked.kernel, asked.parameter, claim, &mut calls::Areas { result, claimed, first, second, third, lines })
+        let mut areas = calls::Areas { result, claimed, first, second, third, lines };
+        calls::judge(&g.lent(), &g.weights(), asked.kernel, asked.parameter, claim, &mut areas)
     }
 
     /// The results stand in the areas that they belong to, and everything else is zero.
@@ -104,6 +115,7 @@ impl Asked<'_> {
             1 => results.numbers = kernels::bfs(self.g, self.parameter)?,
             2 => results.numbers = kernels::wcc(self.g),
             3 => results.numbers = kernels::cdlp(self.g, self.parameter)?,
+            5 => results.numbers = kernels::sssp(self.g, self.parameter)?,
             _ => (results.numerators, results.denominators) = kernels::lcc(self.g).iter().map(|r| (r.0 as usize, r.1 as usize)).unzip(),
         }
         Ok(results)
@@ -124,7 +136,7 @@ impl Asked<'_> {
     /// The lent graph judged with areas of so many places: the answer and every area are right.
     fn judged(&self, dice: &mut Dice, claim: &[u8], places: [usize; 6], at_end: bool) -> Result<Verdict, Refusal> {
         let mut six = Six::of(dice, places, at_end);
-        let said = six.judge(&Held::of(self.g, at_end).lent(), self, &Fenced::of(claim, at_end));
+        let said = six.judge(&Held::of(self.g, at_end), self, &Fenced::of(claim, at_end));
         let (right, results) = self.right(claim, places.iter().all(|&k| k >= self.g.ids.len()));
         let (ids, text) = (&self.g.ids[..self.g.ids.len().min(90)], String::from_utf8_lossy(&claim[..claim.len().min(4_000)]));
         let story = || format!("kernel {} {} on {:?}\n{}", self.kernel, self.parameter, ids, text);
@@ -207,7 +219,7 @@ fn arrange(dice: &mut Dice, ids: &[i64], lines: &mut Vec<String>, how: &str) -> 
 #[derive(Default)]
 struct Tally {
     how: [usize; 9],
-    outcomes: [[usize; 5]; 4],
+    outcomes: [[usize; 5]; 5],
     late: usize,
 }
 
@@ -259,8 +271,8 @@ fn one(seed: u64, tally: &mut Tally) {
     let dice = &mut dice;
     let l = inputs::lists(dice);
     let g = &lists::load(l.mode, &l.vertices, &l.edges, DESK, lists::ROOM_ENOUGH).unwrap();
-    let (n, kernel) = (g.ids.len(), 1 + dice.below(4) as u64);
-    let parameter = if kernel == 1 && n > 0 { *dice.pick(&g.ids) } else { dice.below(4) as i64 };
+    let (n, kernel) = (g.ids.len(), 1 + dice.below(5) as u64);
+    let parameter = if (kernel == 1 || kernel == 5) && n > 0 { *dice.pick(&g.ids) } else { dice.below(4) as i64 };
     let asked = Asked { g, kernel, parameter };
     let mut lines = inputs::claim_lines(dice, g, kernel, parameter);
     let how = dice.below(if lines.len() < 2 { 3 } else { HOW.len() });
@@ -289,11 +301,11 @@ fn one(seed: u64, tally: &mut Tally) {
         if v.number != 20 {
             law(dice, &asked, &lines, v, &verdict, at_end);
         }
-        tally.late += usize::from(v.number == 21 && kernel % 2 == 1 && at_fault_before(&asked, &lines, v.line));
+        tally.late += usize::from(v.number == 21 && (kernel == 1 || kernel == 3) && at_fault_before(&asked, &lines, v.line));
     }
 }
 
-/// A graph of so many vertices with a few arcs each, its identifiers far apart.
+/// A graph of so many vertices with a few arcs each, its identifiers far apart; an arc weighs what its ends' numbers say, or nothing.
 fn large(dice: &mut Dice, n: usize) -> Graph {
     let step = u64::MAX / n as u64;
     let ids = (0..n).map(|v| (i64::MIN as i128 + (v as u64 * step + dice.next() % step) as i128) as i64).collect();
@@ -305,14 +317,20 @@ fn large(dice: &mut Dice, n: usize) -> Graph {
         part.dedup();
         part.iter().for_each(|&w| into[w].push(v));
     }
-    Graph { ids, out, into }
+    let weigh = |u: usize, v: usize| if u % 7 == v % 3 { 0 } else { (u * 65_537 + v) % 100_000_000_001 };
+    let beside = |way: &[Vec<usize>], weight: &dyn Fn(usize, usize) -> usize| -> Vec<Vec<usize>> {
+        way.iter().enumerate().map(|(u, part)| part.iter().map(|&v| weight(u, v)).collect()).collect()
+    };
+    let weights = Weights { out: beside(&out, &weigh), into: beside(&into, &|v, u| weigh(u, v)) };
+    Graph { ids, out, into, weights: Some(weights) }
 }
 
 /// The lines of a right claim, in vertex order.
 fn right_lines(asked: &Asked<'_>) -> Vec<String> {
     let results = asked.results().unwrap_or_default();
     let fractions = results.numerators.iter().zip(&results.denominators).map(|(&a, &b)| format!("{:.12}", a as f64 / b as f64));
-    let values = results.numbers.iter().map(i64::to_string).chain(fractions);
+    let number = |&z: &i64| if asked.kernel == 5 { sheet::distance(z) } else { z.to_string() };
+    let values = results.numbers.iter().map(number).chain(fractions);
     asked.g.ids.iter().zip(values).map(|(id, value)| format!("{} {}\n", id, value)).collect()
 }
 
@@ -321,12 +339,12 @@ fn many(seed: u64, n: usize, kernel: u64) {
     let (mut dice, at_end) = (Dice::new(seed), seed % 2 == 0);
     let dice = &mut dice;
     let g = &large(dice, n);
-    let asked = Asked { g, kernel, parameter: if kernel == 1 { g.ids[n / 2] } else { 3 } };
+    let asked = Asked { g, kernel, parameter: if kernel == 1 || kernel == 5 { g.ids[n / 2] } else { 3 } };
     let right = right_lines(&asked);
     for (how, wrong) in HOW[..8].iter().flat_map(|how| [(how, 0), (how, 2)]) {
         let mut lines = right.clone();
         for v in [dice.below(n), dice.below(n)].into_iter().take(wrong) {
-            lines[v] = format!("{} 1234567\n", g.ids[v]);
+            lines[v] = format!("{} 1234567890123\n", g.ids[v]);
         }
         let line = arrange(dice, &g.ids, &mut lines, how);
         let said = asked.judged(dice, lines.concat().as_bytes(), [n; 6], at_end).map(|v| (v.number, v.line));
@@ -343,7 +361,7 @@ fn main() {
     let mut tally = Tally::default();
     (0..cases).for_each(|seed| one(seed, &mut tally));
     tally.print(cases);
-    for (seed, n, kernel) in [(1, 65_536, 1), (2, 65_536, 3), (3, 65_536, 4), (4, 4_096, 2), (5, 65_535, 1)] {
+    for (seed, n, kernel) in [(1, 65_536, 1), (2, 65_536, 3), (3, 65_536, 4), (4, 4_096, 2), (5, 65_535, 1), (6, 65_536, 5)] {
         many(seed, n, kernel);
     }
 }

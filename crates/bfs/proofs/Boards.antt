@@ -10,11 +10,11 @@ use lib.IntN.{ℤ, pos}
 use lib.ListN.{length, get_or, set, drop, replicate, length-set, drop_of_length-le}
 use lib.Seq.{drop-cons}
 use borrow.Author.Tests.{ne_eqb}
+use Rattle.basis.specs.Area.{infinity, unreachable}
 use Rattle.basis.specs.Scan.{all_below}
 use Rattle.basis.proofs.Tests.{bool_cases}
 use Rattle.basis.proofs.Scans.{below_at}
 use Rattle.basis.proofs.Orders.{signed-order}
-use Rattle.bfs.specs.Depth.{infinity, unreachable}
 use Rattle.bfs.specs.Steps.{Board, is_far, entered, relaxed, relaxed_all, seen, Queued}
 
 -- ---- how many vertices are seen

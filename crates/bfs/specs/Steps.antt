@@ -1,9 +1,9 @@
 -- What the kernel's private functions do and need: the steps of the queue.
 use Rattle.std.specs.Prelude.{ℕ, zero, suc, ◌+◌, ◌<◌, ◌≡◌, Bool, true, cond, List, [], ◌∷◌, ℤ, pos, length, get_or, set, eqb}
+use Rattle.basis.specs.Area.{unreachable}
 use Rattle.basis.specs.Order.{same_z}
 use Rattle.graph.specs.Sound.{Graph, sound_graph}
 use Rattle.bfs.specs.declared.Ring.{Ring}
-use Rattle.bfs.specs.Depth.{unreachable}
 use Rattle.bfs.specs.Call.{room_for}
 
 -- the areas can be filled: the graph is sound, the root is one of its vertices, and each area has room for them

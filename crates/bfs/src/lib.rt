@@ -2,17 +2,18 @@
 #![tactic(auto)]
 
 ghost use Rattle.std.specs.Prelude.{◌≡◌, true, ◌≤◌, ◌<◌, pos, length};
+ghost use Rattle.basis.specs.Area.{infinity};
 ghost use Rattle.basis.specs.Refusal.{gives};
 ghost use Rattle.basis.specs.Scan.{all_below, Inside};
 ghost use Rattle.graph.specs.declared.find.Found.TheVariants.{At};
 ghost use Rattle.graph.specs.Part.{part_of};
 ghost use Rattle.graph.specs.Sound.{lent};
 ghost use Rattle.kernels.specs.Answer.{says};
-ghost use Rattle.bfs.specs.Depth.{infinity, depths};
+ghost use Rattle.bfs.specs.Depth.{depths};
 ghost use Rattle.bfs.specs.Call.{outcome, refusal, room_for, left_by, bfs_call};
 ghost use Rattle.bfs.specs.Steps.{Ready, Queued, board, relaxed, relaxed_all, advanced};
 
-use basis::area::{clear, clear_signed, fill_signed};
+use basis::area::{UNREACHABLE, clear, clear_signed, fill_signed};
 use basis::order::{lesser, same};
 use basis::refusal::{NO_ROOM, NOT_THERE, UNSOUND};
 use graph::Size;
@@ -20,9 +21,6 @@ use graph::find::{Found, find};
 use graph::walk::sound_over;
 use kernels::{Answer, refused};
 use view::neighbours;
-
-// `Depth.infinity`, as a result area holds it.
-const UNREACHABLE: i64 = 9223372036854775807;
 
 // The ring that is served: it ends at a place of the queue, and its vertices have one depth. So no depth is read back from the results.
 #[derive(Drop)]

@@ -1,6 +1,7 @@
 -- What an answer says determines it: of kernels, files and loads. The other crates have theirs. Assumes nothing.
 use Prim.Native.Nat.{ℕ}
 use mathlib.Core.Path.{◌≡◌, refl}
+use mathlib.Core.Bool.{Bool}
 use Rattle.basis.specs.Refusal.{Said, gives, refuses}
 use Rattle.basis.proofs.Saids.{one_of}
 use Rattle.graph.specs.declared.Size.{Size}
@@ -33,12 +34,12 @@ listed_back (Listed.Refused r) = refl
 pub one-listed : (x y : Listed) → listed_says x ≡ listed_says y → x ≡ y
 one-listed = one_of listed_says listed listed_back
 
-abbrev loaded : Said Size → Loaded
-loaded (gives size) = Loaded.Graph size
+abbrev loaded : Said (Size × Bool) → Loaded
+loaded (gives g) = Loaded.Graph g.0 g.1
 loaded (refuses r) = Loaded.Refused r
 
 loaded-back : (x : Loaded) → loaded (L.says x) ≡ x
-loaded-back (Loaded.Graph size) = refl
+loaded-back (Loaded.Graph size weighted) = refl
 loaded-back (Loaded.Refused r) = refl
 
 pub one-loaded : (x y : Loaded) → L.says x ≡ L.says y → x ≡ y

@@ -40,6 +40,12 @@ use Rattle.text.specs.contracts.line.Cursor.claim as text-claim
 use Rattle.text.proofs.line.Cursor.claim.Reads as text-claim-reads
 use Rattle.text.specs.contracts.line.Cursor.coefficient_claim as text-coefficient_claim
 use Rattle.text.proofs.line.Cursor.coefficient_claim.Reads as text-coefficient_claim-reads
+use Rattle.text.specs.contracts.line.Cursor.listed_edge as text-listed_edge
+use Rattle.text.proofs.line.Cursor.listed_edge.Reads as text-listed_edge-reads
+use Rattle.text.specs.contracts.line.Cursor.distance_claim as text-distance_claim
+use Rattle.text.proofs.line.Cursor.distance_claim.Reads as text-distance_claim-reads
+use Rattle.text.specs.contracts.line.has_weights as text-has_weights
+use Rattle.text.proofs.line.has_weights.Reads as text-has_weights-reads
 use Rattle.write.specs.contracts.bytes.put as write-put
 use Rattle.write.proofs.bytes.put.Reads as write-put-reads
 use Rattle.write.specs.contracts.bytes.put_bytes as write-put_bytes
@@ -48,6 +54,8 @@ use Rattle.write.specs.contracts.numbers.put_number as write-put_number
 use Rattle.write.proofs.numbers.put_number.Reads as write-put_number-reads
 use Rattle.write.specs.contracts.numbers.put_signed as write-put_signed
 use Rattle.write.proofs.numbers.put_signed.Reads as write-put_signed-reads
+use Rattle.write.specs.contracts.millionths.put_millionths as write-put_millionths
+use Rattle.write.proofs.millionths.put_millionths.Reads as write-put_millionths-reads
 use Rattle.book.specs.contracts.opening.open_book as book-open_book
 use Rattle.book.proofs.opening.open_book.Reads as book-open_book-reads
 use Rattle.book.specs.contracts.joining.join as book-join
@@ -72,6 +80,10 @@ use Rattle.graph.specs.contracts.walk.sound_over as graph-sound_over
 use Rattle.graph.proofs.walk.sound_over.Reads as graph-sound_over-reads
 use Rattle.graph.specs.contracts.part.part as graph-part
 use Rattle.graph.proofs.part.part.Reads as graph-part-reads
+use Rattle.graph.specs.contracts.weights.is_weighted as graph-is_weighted
+use Rattle.graph.proofs.weights.is_weighted.Reads as graph-is_weighted-reads
+use Rattle.graph.specs.contracts.weights.weighted_sound_over as graph-weighted_sound_over
+use Rattle.graph.proofs.weights.weighted_sound_over.Reads as graph-weighted_sound_over-reads
 use Rattle.view.specs.contracts.held.view_of as view-view_of
 use Rattle.view.specs.contracts.held.of_vertex as view-of_vertex
 use Rattle.view.specs.contracts.neighbours as view-neighbours
@@ -82,6 +94,8 @@ use Rattle.store.specs.contracts.spread.spread as store-spread
 use Rattle.store.proofs.spread.spread.Reads as store-spread-reads
 use Rattle.store.specs.contracts.sums.sum_up as store-sum_up
 use Rattle.store.proofs.sums.sum_up.Reads as store-sum_up-reads
+use Rattle.store.specs.contracts.weigh.spread_weighed as store-spread_weighed
+use Rattle.store.proofs.weigh.spread_weighed.Reads as store-spread_weighed-reads
 use Rattle.lists.specs.contracts.vertices.read_vertices as lists-read_vertices
 use Rattle.lists.proofs.vertices.read_vertices.Reads as lists-read_vertices-reads
 use Rattle.lists.specs.contracts.edges.read_edges as lists-read_edges
@@ -106,12 +120,18 @@ use Rattle.lcc.specs.contracts.ratio.gcd as lcc-gcd
 use Rattle.lcc.proofs.ratio.gcd.Reads as lcc-gcd-reads
 use Rattle.lcc.specs.contracts.ratio.reduced as lcc-reduced
 use Rattle.lcc.proofs.ratio.reduced.Reads as lcc-reduced-reads
+use Rattle.sssp.specs.contracts.sssp as sssp-sssp
+use Rattle.sssp.proofs.sssp.Reads as sssp-sssp-reads
 use Rattle.matching.specs.contracts.close.close as matching-close
 use Rattle.matching.proofs.close.close.Reads as matching-close-reads
 use Rattle.matching.specs.contracts.numbers.judge_numbers as matching-judge_numbers
 use Rattle.matching.proofs.numbers.judge_numbers.Reads as matching-judge_numbers-reads
 use Rattle.matching.specs.contracts.coefficients.judge_coefficients as matching-judge_coefficients
 use Rattle.matching.proofs.coefficients.judge_coefficients.Reads as matching-judge_coefficients-reads
+use Rattle.matching.specs.contracts.near.near_distance as matching-near_distance
+use Rattle.matching.proofs.near.near_distance.Reads as matching-near_distance-reads
+use Rattle.matching.specs.contracts.distances.judge_distances as matching-judge_distances
+use Rattle.matching.proofs.distances.judge_distances.Reads as matching-judge_distances-reads
 use Rattle.verdicts.specs.contracts.verdict.verdict_within as verdicts-verdict_within
 use Rattle.verdicts.proofs.verdict.verdict_within.Reads as verdicts-verdict_within-reads
 use Rattle.verdicts.specs.contracts.verdict.verdict as verdicts-verdict
@@ -142,6 +162,12 @@ use Rattle.listing.specs.contracts.results.put_pairs as listing-put_pairs
 use Rattle.listing.proofs.results.put_pairs.Reads as listing-put_pairs-reads
 use Rattle.listing.specs.contracts.results.put_ratios as listing-put_ratios
 use Rattle.listing.proofs.results.put_ratios.Reads as listing-put_ratios-reads
+use Rattle.listing.specs.contracts.routes.put_distance as listing-put_distance
+use Rattle.listing.proofs.routes.put_distance.Reads as listing-put_distance-reads
+use Rattle.listing.specs.contracts.routes.put_route as listing-put_route
+use Rattle.listing.proofs.routes.put_route.Reads as listing-put_route-reads
+use Rattle.listing.specs.contracts.routes.put_routes as listing-put_routes
+use Rattle.listing.proofs.routes.put_routes.Reads as listing-put_routes-reads
 use Rattle.sheet.specs.contracts.jobs.run_jobs as sheet-run_jobs
 use Rattle.sheet.proofs.jobs.run_jobs.Reads as sheet-run_jobs-reads
 use Rattle.sheet.specs.contracts.answer as sheet-answer
@@ -156,6 +182,8 @@ use Rattle.trace.specs.contracts.four_kernels.trace_cdlp as trace-trace_cdlp
 use Rattle.trace.proofs.four_kernels.trace_cdlp.Reads as trace-trace_cdlp-reads
 use Rattle.trace.specs.contracts.four_kernels.trace_lcc as trace-trace_lcc
 use Rattle.trace.proofs.four_kernels.trace_lcc.Reads as trace-trace_lcc-reads
+use Rattle.trace.specs.contracts.routes.trace_sssp as trace-trace_sssp
+use Rattle.trace.proofs.routes.trace_sssp.Reads as trace-trace_sssp-reads
 use Rattle.trace.specs.contracts.group_book.trace_book_open as trace-opened
 use Rattle.trace.proofs.group_book.trace_book_open.Reads as trace-opened-reads
 use Rattle.trace.specs.contracts.group_book.trace_book_join as trace-trace_book_join
@@ -174,23 +202,7 @@ use Rattle.trace.specs.contracts.judging.trace_judge as trace-trace_judge
 use Rattle.trace.proofs.judging.trace_judge.Reads as trace-trace_judge-reads
 use Rattle.trace.specs.contracts.judging.trace_verdict as trace-trace_verdict
 use Rattle.trace.proofs.judging.trace_verdict.Reads as trace-trace_verdict-reads
-use Rattle.graph.specs.contracts.weights.is_weighted as graph-is_weighted
-use Rattle.graph.proofs.weights.is_weighted.Reads as graph-is_weighted-reads
-use Rattle.graph.specs.contracts.weights.weighted_sound_over as graph-weighted_sound_over
-use Rattle.graph.proofs.weights.weighted_sound_over.Reads as graph-weighted_sound_over-reads
-use Rattle.sssp.specs.contracts.sssp as sssp-sssp
-use Rattle.sssp.proofs.sssp.Reads as sssp-sssp-reads
-use Rattle.store.specs.contracts.weigh.spread_weighed as store-spread_weighed
-use Rattle.store.proofs.weigh.spread_weighed.Reads as store-spread_weighed-reads
-use Rattle.text.specs.contracts.line.Cursor.distance_claim as text-distance_claim
-use Rattle.text.proofs.line.Cursor.distance_claim.Reads as text-distance_claim-reads
-use Rattle.text.specs.contracts.line.has_weights as text-has_weights
-use Rattle.text.proofs.line.has_weights.Reads as text-has_weights-reads
-use Rattle.text.specs.contracts.line.Cursor.listed_edge as text-listed_edge
-use Rattle.text.proofs.line.Cursor.listed_edge.Reads as text-listed_edge-reads
-use Rattle.write.specs.contracts.millionths.put_millionths as write-put_millionths
-use Rattle.write.proofs.millionths.put_millionths.Reads as write-put_millionths-reads
-use Rattle.text.proofs.Saids.{count-one, scan-one, vertex-one, edge-one, coefficient-one, weighed-one, distance-one}
+use Rattle.text.proofs.Saids.{count-one, scan-one, vertex-one, edge-one, weighed-one, coefficient-one, distance-one}
 use Rattle.graph.proofs.Finds.{searched-is}
 use Rattle.book.proofs.Answers.{one-opened, one-joined, one-joined_each, one-headed, one-compared, one-reading}
 use Rattle.plan.proofs.Saids.{job_one, checked-one}
@@ -603,7 +615,7 @@ lists-read_edges-one = record {
   told = refl;
   one = λ _ _ z z' _ _ p q. (
     one-listed z z' (ap (λ o. o.answer) (meet p q)),
-    ap (λ o. tt & tt & tt & tt & o.counts & o.targets & tt) (meet p q),
+    ap (λ o. tt & tt & tt & tt & o.counts & o.targets & o.weights & tt) (meet p q),
   );
 }
 
@@ -614,7 +626,9 @@ load-load_within-one = record {
   told = refl;
   one = λ _ _ z z' _ _ p q. (
     one-loaded z z' (ap (λ o. o.answer) (meet p q)),
-    ap (λ o. tt & tt & tt & tt & o.ids & o.out_offsets & o.out_targets & o.in_offsets & o.in_sources & tt) (meet p q),
+    ap
+        (λ o. tt & tt & tt & tt & o.ids & o.out_offsets & o.out_targets & o.in_offsets & o.in_sources & o.out_weights & o.in_weights & tt)
+        (meet p q),
   );
 }
 
@@ -624,7 +638,9 @@ load-load-one = record {
   told = refl;
   one = λ _ _ z z' _ _ p q. (
     one-loaded z z' (ap (λ o. o.answer) (meet p q)),
-    ap (λ o. tt & tt & tt & o.ids & o.out_offsets & o.out_targets & o.in_offsets & o.in_sources & tt) (meet p q),
+    ap
+        (λ o. tt & tt & tt & o.ids & o.out_offsets & o.out_targets & o.in_offsets & o.in_sources & o.out_weights & o.in_weights & tt)
+        (meet p q),
   );
 }
 
@@ -701,6 +717,7 @@ lcc-reduced-one = record {
   one = λ _ _ _ _ _ _ p q. (meet p q, refl);
 }
 
+-- ---- sssp
 pub sssp-sssp-one : One sssp-sssp.ended (λ M 𝓤 𝓛. sssp-sssp.clauses 𝓛)
 sssp-sssp-one = record {
   promise = sssp-sssp-reads.Learnt;
@@ -739,6 +756,23 @@ matching-judge_coefficients-one = record {
   );
 }
 
+pub matching-near_distance-one : One matching-near_distance.ended (λ M 𝓤 𝓛. matching-near_distance.clauses 𝓛)
+matching-near_distance-one = record {
+  promise = matching-near_distance-reads.Learnt;
+  told = refl;
+  one = λ _ _ _ _ _ _ p q. (meet p q, refl);
+}
+
+pub matching-judge_distances-one : One matching-judge_distances.ended (λ M 𝓤 𝓛. matching-judge_distances.clauses 𝓛)
+matching-judge_distances-one = record {
+  promise = matching-judge_distances-reads.Learnt;
+  told = refl;
+  one = λ _ _ z z' _ _ p q. (
+    says-apart z z' (ap (λ o. o.said) (meet p q)),
+    ap (λ o. tt & tt & tt & tt & o.lines & tt) (meet p q),
+  );
+}
+
 -- ---- verdicts
 pub verdicts-verdict_within-one : One verdicts-verdict_within.ended (λ M 𝓤 𝓛. verdicts-verdict_within.clauses 𝓛)
 verdicts-verdict_within-one = record {
@@ -747,7 +781,8 @@ verdicts-verdict_within-one = record {
   one = λ _ _ z z' _ _ p q. (
     says-apart z z' (ap (λ o. o.said) (meet p q)),
     ap
-        (λ o. tt & tt & tt & tt & tt & tt & tt & tt & tt & tt & o.result & o.claimed & o.first & o.second & o.third & o.lines & tt)
+        (λ o. tt & tt & tt & tt & tt & tt & tt & tt & tt & tt & tt & tt & tt & o.result & o.claimed & o.first & o.second
+        & o.third & o.lines & tt)
         (meet p q),
   );
 }
@@ -759,7 +794,8 @@ verdicts-verdict-one = record {
   one = λ _ _ z z' _ _ p q. (
     says-apart z z' (ap (λ o. o.said) (meet p q)),
     ap
-        (λ o. tt & tt & tt & tt & tt & tt & tt & tt & tt & o.result & o.claimed & o.first & o.second & o.third & o.lines & tt)
+        (λ o. tt & tt & tt & tt & tt & tt & tt & tt & tt & tt & tt & tt & o.result & o.claimed & o.first & o.second
+        & o.third & o.lines & tt)
         (meet p q),
   );
 }
@@ -878,6 +914,36 @@ listing-put_ratios-one = record {
   );
 }
 
+pub listing-put_distance-one : One listing-put_distance.ended (λ M 𝓤 𝓛. listing-put_distance.clauses 𝓛)
+listing-put_distance-one = record {
+  promise = listing-put_distance-reads.Learnt;
+  told = refl;
+  one = λ _ _ _ _ _ _ p q. (
+    ap (λ o. o.next) (meet p q),
+    ap (λ o. o.area & tt & tt & tt) (meet p q),
+  );
+}
+
+pub listing-put_route-one : One listing-put_route.ended (λ M 𝓤 𝓛. listing-put_route.clauses 𝓛)
+listing-put_route-one = record {
+  promise = listing-put_route-reads.Learnt;
+  told = refl;
+  one = λ _ _ _ _ _ _ p q. (
+    ap (λ o. o.next) (meet p q),
+    ap (λ o. o.area & tt & tt & tt & tt) (meet p q),
+  );
+}
+
+pub listing-put_routes-one : One listing-put_routes.ended (λ M 𝓤 𝓛. listing-put_routes.clauses 𝓛)
+listing-put_routes-one = record {
+  promise = listing-put_routes-reads.Learnt;
+  told = refl;
+  one = λ _ _ _ _ _ _ p q. (
+    ap (λ o. o.next) (meet p q),
+    ap (λ o. o.area & tt & tt & tt & tt) (meet p q),
+  );
+}
+
 -- ---- sheet
 pub sheet-run_jobs-one : One sheet-run_jobs.ended (λ M 𝓤 𝓛. sheet-run_jobs.clauses 𝓛)
 sheet-run_jobs-one = record {
@@ -885,7 +951,7 @@ sheet-run_jobs-one = record {
   told = refl;
   one = λ _ _ _ _ _ _ p q. (
     ap (λ o. o.next) (meet p q),
-    ap (λ o. tt & tt & tt & tt & tt & tt & tt & tt & tt & o.area & tt & tt) (meet p q),
+    ap (λ o. tt & tt & tt & tt & tt & tt & tt & tt & tt & tt & tt & tt & o.area & tt & tt) (meet p q),
   );
 }
 
@@ -906,7 +972,9 @@ trace-trace_load-one = record {
   told = refl;
   one = λ _ _ _ _ _ _ p q. (
     ap (λ o. o.answer) (meet p q),
-    ap (λ o. tt & tt & tt & o.ids & o.out_offsets & o.out_targets & o.in_offsets & o.in_sources & tt) (meet p q),
+    ap
+        (λ o. tt & tt & tt & o.ids & o.out_offsets & o.out_targets & o.in_offsets & o.in_sources & o.out_weights & o.in_weights & tt)
+        (meet p q),
   );
 }
 
@@ -947,6 +1015,16 @@ trace-trace_lcc-one = record {
   one = λ _ _ _ _ _ _ p q. (
     ap (λ o. o.answer) (meet p q),
     ap (λ o. tt & tt & tt & tt & tt & tt & tt & o.numerators & o.denominators & o.work & tt) (meet p q),
+  );
+}
+
+pub trace-trace_sssp-one : One trace-trace_sssp.ended (λ M 𝓤 𝓛. trace-trace_sssp.clauses 𝓛)
+trace-trace_sssp-one = record {
+  promise = trace-trace_sssp-reads.Learnt;
+  told = refl;
+  one = λ _ _ _ _ _ _ p q. (
+    ap (λ o. o.answer) (meet p q),
+    ap (λ o. tt & tt & tt & tt & tt & tt & tt & tt & tt & tt & tt & o.distance & o.settled & o.waiting & o.tree & tt) (meet p q),
   );
 }
 
@@ -1012,7 +1090,8 @@ trace-trace_judge-one = record {
   one = λ _ _ _ _ _ _ p q. (
     ap (λ o. o.answer) (meet p q),
     ap
-        (λ o. tt & tt & tt & tt & tt & tt & tt & tt & tt & tt & o.result & o.claimed & o.first & o.second & o.third & o.lines & tt)
+        (λ o. tt & tt & tt & tt & tt & tt & tt & tt & tt & tt & tt & tt & tt & o.result & o.claimed & o.first & o.second
+        & o.third & o.lines & tt)
         (meet p q),
   );
 }

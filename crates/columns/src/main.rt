@@ -1,7 +1,7 @@
 // A program beside the layers. Reads records on standard input, at most 65,536 bytes, and prints what the line readers answer of each: the
 // refusal's number and column, `0 0` of a good line, `end` where no line is left. A record is a byte for the kind of line, `v` vertex, `e`
-// edge, `c` claim, `l` claim of LCC, and a line up to its LF. With a capital the reader is lent the input up to that LF alone, so that the
-// line ends with the file.
+// edge, `c` claim, `l` claim of LCC, `d` claim of SSSP, `w` edge in a file with weights, `f` first edge of a file, and a line up to its LF.
+// With a capital the reader is lent the input up to that LF alone, so that the line ends with the file.
 #![tactic(auto)]
 
 ghost use Rattle.std.specs.Prelude.{◌≤◌, ◌<◌, IfOk, length};
@@ -10,7 +10,8 @@ use std::io;
 use std::io::Read;
 use text::Cursor;
 use text::count::line_end;
-use text::line::{CoefficientLine, EdgeLine, VertexLine};
+use text::distance::DistanceLine;
+use text::line::{CoefficientLine, EdgeLine, VertexLine, WeighedLine, has_weights};
 
 // How many bytes are read.
 const MOST: usize = 65536;
@@ -49,6 +50,31 @@ fn shown_coefficient(rt: &impl Print, line: CoefficientLine) -> io::Result<()> {
     }
 }
 
+fn shown_weighed(rt: &impl Print, line: WeighedLine) -> io::Result<()> {
+    match line {
+        WeighedLine::End(_) => print_end(rt),
+        WeighedLine::Fault(number, column, _) => print_two(rt, number, column),
+        WeighedLine::Line(_, _, _, _) => print_two(rt, 0, 0),
+    }
+}
+
+fn shown_distance(rt: &impl Print, line: DistanceLine) -> io::Result<()> {
+    match line {
+        DistanceLine::End(_) => print_end(rt),
+        DistanceLine::Fault(number, column, _) => print_two(rt, number, column),
+        DistanceLine::Line(_, _, _) => print_two(rt, 0, 0),
+    }
+}
+
+// The line at a place as the first of an edge file, which says whether the file has weights.
+fn shown_first(rt: &impl Print, s: &[u8], at: usize) -> io::Result<()> {
+    if s.len() <= at {
+        return print_end(rt);
+    }
+    let rest = &s[at..];
+    shown_weighed(rt, Cursor { at: 0 }.listed_edge(rest, has_weights(rest)))
+}
+
 // The line of a kind at a place.
 fn read_line(rt: &impl Print, s: &[u8], at: usize, kind: u8) -> io::Result<()> {
     let place = Cursor { at };
@@ -56,6 +82,9 @@ fn read_line(rt: &impl Print, s: &[u8], at: usize, kind: u8) -> io::Result<()> {
         b'v' => shown_vertex(rt, place.vertex(s)),
         b'e' => shown_edge(rt, place.edge(s)),
         b'c' => shown_edge(rt, place.claim(s)),
+        b'd' => shown_distance(rt, place.distance_claim(s)),
+        b'w' => shown_weighed(rt, place.listed_edge(s, true)),
+        b'f' => shown_first(rt, s, at),
         _ => shown_coefficient(rt, place.coefficient_claim(s)),
     }
 }

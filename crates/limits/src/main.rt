@@ -22,7 +22,7 @@ fn number(rt: &impl Print, n: usize) -> io::Result<()> {
 
 fn shown(rt: &impl Print, answer: Loaded) -> io::Result<()> {
     match answer {
-        Loaded::Graph(size) => {
+        Loaded::Graph(size, _) => {
             words(rt, b"loaded ")?;
             number(rt, size.vertices)?;
             words(rt, b" ")?;
@@ -49,6 +49,8 @@ fn run(rt: &impl Print, vertices: &[u8]) -> io::Result<()> {
     let mut out_targets = [0usize; 1];
     let mut in_offsets = [0usize; MOST_VERTICES + 1];
     let mut in_sources = [0usize; 1];
+    let mut out_weights = [0usize; 1];
+    let mut in_weights = [0usize; 1];
     shown(
         rt,
         load::load(
@@ -60,6 +62,8 @@ fn run(rt: &impl Print, vertices: &[u8]) -> io::Result<()> {
             &mut out_targets,
             &mut in_offsets,
             &mut in_sources,
+            &mut out_weights,
+            &mut in_weights,
         ),
     )
 }
@@ -95,6 +99,8 @@ fn run_above(rt: &impl Print, vertices: &[u8]) -> io::Result<()> {
     let mut out_targets = [0usize; 1];
     let mut in_offsets = [0usize; 1];
     let mut in_sources = [0usize; 1];
+    let mut out_weights = [0usize; 1];
+    let mut in_weights = [0usize; 1];
     shown(
         rt,
         load::load_within(
@@ -110,6 +116,8 @@ fn run_above(rt: &impl Print, vertices: &[u8]) -> io::Result<()> {
             &mut out_targets,
             &mut in_offsets,
             &mut in_sources,
+            &mut out_weights,
+            &mut in_weights,
         ),
     )
 }

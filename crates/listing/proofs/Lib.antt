@@ -1,2 +1,3 @@
--- Laws of the writers of lines.
+-- Laws of the writers of lines, and what is printed of a distance.
 pub mod Lines
+pub mod Distances

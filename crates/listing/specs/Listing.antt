@@ -1,8 +1,12 @@
 -- 01 "Layers, desk program, host call": the lines that the desk program prints, byte for byte.
-use Rattle.std.specs.Prelude.{ℕ, List, [], ◌∷◌, ◌++◌, ℤ}
+use Rattle.std.specs.Prelude.{ℕ, cond, List, [], ◌∷◌, ◌++◌, ℤ, pos, negsuc}
 use Rattle.basis.specs.declared.refusal.Refusal.{Refusal}
+use Rattle.basis.specs.Area.{unreachable}
+use Rattle.basis.specs.Order.{same_z}
 use Rattle.text.specs.Bytes.{bytes, lf, space}
+use Rattle.text.specs.Distance.{infinity_word}
 use Rattle.write.specs.Number.{count_text, signed_text}
+use Rattle.write.specs.Millionths.{millionths_text}
 
 -- the byte of `/`
 abbrev pub slash : ℕ
@@ -44,11 +48,32 @@ fraction_text numerator denominator = count_text numerator ++ (slash ∷ count_t
 unfoldable pub ratio_text : ℤ → ℕ → ℕ → List ℕ
 ratio_text id numerator denominator = named_text id ++ (fraction_text numerator denominator ++ (lf ∷ []))
 
--- the lines of all vertices, as far as the lists go
-unfoldable pub pair_lines : List ℤ → List ℤ → List ℕ
-pair_lines [] values = []
-pair_lines (id ∷ ids) [] = []
-pair_lines (id ∷ ids) (v ∷ values) = pair_text id v ++ pair_lines ids values
+-- 02 K3: "held as whole millionths": how many a distance has; a number below 0 is none, and counts as 0
+abbrev pub millionths_in : ℤ → ℕ
+millionths_in (pos n) = n
+millionths_in (negsuc n) = 0
+
+-- 02 K3: "printed as the shortest plain decimal or `infinity`"
+unfoldable pub distance_text : ℤ → List ℕ
+distance_text z = cond (same_z z unreachable) infinity_word (millionths_text (millionths_in z))
+
+-- a vertex's line where the value is a distance: identifier, one space, distance, LF
+unfoldable pub route_text : ℤ → ℤ → List ℕ
+route_text id distance = named_text id ++ (distance_text distance ++ (lf ∷ []))
+
+-- the lines of all vertices, as far as the lists go, by the text of one
+unfoldable pub lines_by : (ℤ → ℤ → List ℕ) → List ℤ → List ℤ → List ℕ
+lines_by text [] values = []
+lines_by text (id ∷ ids) [] = []
+lines_by text (id ∷ ids) (v ∷ values) = text id v ++ lines_by text ids values
+
+-- the lines of whole numbers
+abbrev pub pair_lines : List ℤ → List ℤ → List ℕ
+pair_lines = lines_by pair_text
+
+-- the lines of distances
+abbrev pub route_lines : List ℤ → List ℤ → List ℕ
+route_lines = lines_by route_text
 
 -- the same of coefficients, as far as all three lists go
 unfoldable pub ratio_lines : List ℤ → List ℕ → List ℕ → List ℕ

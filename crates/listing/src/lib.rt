@@ -4,6 +4,8 @@
 
 pub mod refused;
 pub mod results;
+pub mod routes;
 
 pub use refused::put_refused;
 pub use results::{put_head, put_pairs, put_ratios};
+pub use routes::put_routes;

@@ -19,7 +19,7 @@ pub fn put_head(out: &mut [u8], at: usize, line: &[u8], n: usize) -> usize
 }
 
 // An identifier and a space.
-fn put_named(out: &mut [u8], at: usize, id: i64) -> usize
+pub(crate) fn put_named(out: &mut [u8], at: usize, id: i64) -> usize
     ensures { written out.new result ≡ put_at out.old at (named_text id) }
 {
     let next = put_signed(out, at, id);

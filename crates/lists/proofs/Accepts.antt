@@ -1,26 +1,32 @@
 -- A file is accepted exactly where it has the form and order that 01 asks for, and refused exactly at its first fault, said of its bytes.
 -- Assumes nothing.
 use Prim.Native.Nat.{ℕ}
-use mathlib.Core.Path.{◌≡◌, refl, sym, ◌∙◌}
+use mathlib.Core.Path.{◌≡◌, refl, sym, ap, ap₂, subst, ◌∙◌}
 use mathlib.Core.Logic.{◌↔◌}
 use mathlib.Core.Bool.{Bool, true, false, cond, not, ◌&&◌}
 use mathlib.Core.List.{List, [], ◌∷◌}
 use native.Mathlib.Omega.{arith}
 use borrow.Author.Tests.{not-true}
+use lib.Dec.{leb}
 use lib.IntN.{ℤ}
+use lib.ListN.{length, replicate}
 use lib.Signed.{lt_z}
 use Rattle.basis.specs.declared.refusal.Refusal.{Refusal}
 use Rattle.basis.specs.Refusal.{gives, refuses, vertex_file, edge_file}
+use Rattle.basis.specs.Limits.{most_weight}
 use Rattle.basis.specs.Order.{same_z, above_by, rising_by, rising_z}
 use Rattle.basis.specs.Scan.{each}
-use Rattle.basis.proofs.Tests.{and_first, and_second, and_both}
-use Rattle.text.specs.Word.{ident_of}
-use Rattle.text.specs.Line.{two_of, ident_form, edge_form}
-use Rattle.text.specs.File.{Before, first, after, Passes, FirstFault}
-use Rattle.text.proofs.Breaks.{ident-right, edge-right}
+use Rattle.basis.proofs.Tests.{and_first, and_second, and_both, no-case}
+use Rattle.text.specs.Word.{Word, malformed, outside, value, ident_of}
+use Rattle.text.specs.Line.{two_of, ident_form}
+use Rattle.text.specs.Weighed.{unweighed, edge_form_by, has_weights}
+use Rattle.text.specs.File.{Before, first, after, Says, Passes, FirstFault}
+use Rattle.text.proofs.Breaks.{ident-right}
+use Rattle.text.proofs.Listed.{listed-right}
 use Rattle.text.proofs.Files.{file-accepted, file-refused}
+use Rattle.graph.specs.declared.find.Found.{Found}
 use Rattle.graph.specs.Find.{place_in, is_there}
-use Rattle.lists.specs.Files.{vertex_test, identifiers, above_pair, is_above, edge_test, edges_of}
+use Rattle.lists.specs.Files.{vertex_test, identifiers, Edge, above_pair, is_above, edge_test, edges_of, weights_in}
 use Rattle.lists.specs.Good.{GoodVertices, GoodEdges}
 
 -- ---- identifiers that were accepted rise
@@ -61,82 +67,90 @@ vertices-accepted most s ids = (
 )
 
 -- ---- what the test of an edge says
-pub record Tested (undirected : Bool) (ids : List ℤ) (before : Before (ℤ × ℤ)) (e : ℤ × ℤ) : Type 0 where
-  pub apart : same_z e.0 e.1 ≡ false
-  pub smaller : (undirected && lt_z e.1 e.0) ≡ false
+pub record Tested (undirected : Bool) (ids : List ℤ) (before : Before Edge) (e : Edge) : Type 0 where
+  pub light : leb e.1.1 most_weight ≡ true
+  pub apart : same_z e.0 e.1.0 ≡ false
+  pub smaller : (undirected && lt_z e.1.0 e.0) ≡ false
   pub above : is_above before e ≡ true
   pub from : is_there (place_in ids e.0) ≡ true
-  pub to : is_there (place_in ids e.1) ≡ true
+  pub to : is_there (place_in ids e.1.0) ≡ true
 
-pub test-passed : (undirected : Bool) (ids : List ℤ) (before : Before (ℤ × ℤ)) (e : ℤ × ℤ) → edge_test undirected (place_in ids) before e
-    ≡ 0
+pub test-passed : (undirected : Bool) (ids : List ℤ) (before : Before Edge) (e : Edge) → edge_test undirected (place_in ids) before e ≡ 0
     → Tested undirected ids before e
 unfolding edge_test
 test-passed undirected ids before e h =
-    go (same_z e.0 e.1) (undirected && lt_z e.1 e.0) (is_above before e) (is_there (place_in ids e.0))
-    (is_there (place_in ids e.1))
-    refl refl refl refl refl h
+    go (leb e.1.1 most_weight) (same_z e.0 e.1.0) (undirected && lt_z e.1.0 e.0) (is_above before e)
+    (is_there (place_in ids e.0))
+    (is_there (place_in ids e.1.0))
+    refl refl refl refl refl refl h
   where
-    go : (p q r x y : Bool) → same_z e.0 e.1 ≡ p → (undirected && lt_z e.1 e.0) ≡ q → is_above before e ≡ r
-        → is_there (place_in ids e.0) ≡ x → is_there (place_in ids e.1) ≡ y
-        → ◌≡◌ {A = ℕ} (cond p 5 (cond q 6 (cond r (cond (x && y) 0 7) 4))) 0 → Tested undirected ids before e
-    go true q r x y a b c d f h = absurd (let z : ⊥ = omega arith in z)
-    go false true r x y a b c d f h = absurd (let z : ⊥ = omega arith in z)
-    go false false false x y a b c d f h = absurd (let z : ⊥ = omega arith in z)
-    go false false true false y a b c d f h = absurd (let z : ⊥ = omega arith in z)
-    go false false true true false a b c d f h = absurd (let z : ⊥ = omega arith in z)
-    go false false true true true a b c d f h = record { apart = a; smaller = b; above = c; from = d; to = f }
+    go : (l p q r x y : Bool) → leb e.1.1 most_weight ≡ l → same_z e.0 e.1.0 ≡ p → (undirected && lt_z e.1.0 e.0) ≡ q →
+        is_above before e ≡ r
+        → is_there (place_in ids e.0) ≡ x → is_there (place_in ids e.1.0) ≡ y
+        → ◌≡◌ {A = ℕ} (cond l (cond p 5 (cond q 6 (cond r (cond (x && y) 0 7) 4))) 13) 0 → Tested undirected ids before e
+    go false p q r x y k a b c d f h = absurd (let z : ⊥ = omega arith in z)
+    go true true q r x y k a b c d f h = absurd (let z : ⊥ = omega arith in z)
+    go true false true r x y k a b c d f h = absurd (let z : ⊥ = omega arith in z)
+    go true false false false x y k a b c d f h = absurd (let z : ⊥ = omega arith in z)
+    go true false false true false y k a b c d f h = absurd (let z : ⊥ = omega arith in z)
+    go true false false true true false k a b c d f h = absurd (let z : ⊥ = omega arith in z)
+    go true false false true true true k a b c d f h = record { light = k; apart = a; smaller = b; above = c; from = d; to = f }
 
-passed-test : (undirected : Bool) (ids : List ℤ) (before : Before (ℤ × ℤ)) (e : ℤ × ℤ) → Tested undirected ids before e
+passed-test : (undirected : Bool) (ids : List ℤ) (before : Before Edge) (e : Edge) → Tested undirected ids before e
     → edge_test undirected (place_in ids) before e ≡ 0
 unfolding edge_test
-passed-test undirected ids before e t = rw (t.apart, t.smaller, t.above, t.from, t.to)
+passed-test undirected ids before e t = rw (t.light, t.apart, t.smaller, t.above, t.from, t.to)
 
 -- ---- the edge file
 module _ (undirected : Bool) (ids : List ℤ) where
-  abbrev is_apart : ℤ × ℤ → Bool
-  is_apart e = not (same_z e.0 e.1)
+  abbrev is_apart : Edge → Bool
+  is_apart e = not (same_z e.0 e.1.0)
 
-  abbrev is_smaller : ℤ × ℤ → Bool
-  is_smaller e = not (undirected && lt_z e.1 e.0)
+  abbrev is_smaller : Edge → Bool
+  is_smaller e = not (undirected && lt_z e.1.0 e.0)
 
-  abbrev are_there : ℤ × ℤ → Bool
-  are_there e = is_there (place_in ids e.0) && is_there (place_in ids e.1)
+  abbrev are_there : Edge → Bool
+  are_there e = is_there (place_in ids e.0) && is_there (place_in ids e.1.0)
+
+  abbrev is_light : Edge → Bool
+  is_light e = leb e.1.1 most_weight
 
   -- each line is above the one before it, if there is one
-  abbrev chain : Before (ℤ × ℤ) → List (ℤ × ℤ) → Bool
+  abbrev chain : Before Edge → List Edge → Bool
   chain first es = rising_by above_pair es
   chain (after d) es = above_by above_pair d es
 
   -- what the tests of all lines say, clause by clause
-  record Clauses (before : Before (ℤ × ℤ)) (es : List (ℤ × ℤ)) : Type 0 where
+  record Clauses (before : Before Edge) (es : List Edge) : Type 0 where
+    light : each is_light es ≡ true
     above : chain before es ≡ true
     apart : each is_apart es ≡ true
     smaller : each is_smaller es ≡ true
     there : each are_there es ≡ true
 
-  chain-cons : (before : Before (ℤ × ℤ)) (e : ℤ × ℤ) (es : List (ℤ × ℤ)) → chain before (e ∷ es) ≡ (is_above before e && chain (after e) es)
+  chain-cons : (before : Before Edge) (e : Edge) (es : List Edge) → chain before (e ∷ es) ≡ (is_above before e && chain (after e) es)
   chain-cons first e es = refl
   chain-cons (after d) e es = refl
 
   not-off : (t : Bool) → t ≡ false → not t ≡ true
   not-off t h = rw h
 
-  clauses-of : (before : Before (ℤ × ℤ)) (es : List (ℤ × ℤ)) → Passes (edge_test undirected (place_in ids)) before es → Clauses before es
+  clauses-of : (before : Before Edge) (es : List Edge) → Passes (edge_test undirected (place_in ids)) before es → Clauses before es
   unfolding each
-  clauses-of first [] p = record { above = refl; apart = refl; smaller = refl; there = refl }
-  clauses-of (after d) [] p = record { above = refl; apart = refl; smaller = refl; there = refl }
+  clauses-of first [] p = record { light = refl; above = refl; apart = refl; smaller = refl; there = refl }
+  clauses-of (after d) [] p = record { light = refl; above = refl; apart = refl; smaller = refl; there = refl }
   clauses-of before (e ∷ es) p =
       let t = test-passed undirected ids before e p.0 in
       let c = clauses-of (after e) es p.1 in
       record {
+        light = and_both t.light c.light;
         above = chain-cons before e es ∙ and_both t.above c.above;
-        apart = and_both (not-off (same_z e.0 e.1) t.apart) c.apart;
-        smaller = and_both (not-off (undirected && lt_z e.1 e.0) t.smaller) c.smaller;
+        apart = and_both (not-off (same_z e.0 e.1.0) t.apart) c.apart;
+        smaller = and_both (not-off (undirected && lt_z e.1.0 e.0) t.smaller) c.smaller;
         there = and_both (and_both t.from t.to) c.there;
       }
 
-  passes_of : (before : Before (ℤ × ℤ)) (es : List (ℤ × ℤ)) → Clauses before es → Passes (edge_test undirected (place_in ids)) before es
+  passes_of : (before : Before Edge) (es : List Edge) → Clauses before es → Passes (edge_test undirected (place_in ids)) before es
   unfolding each
   passes_of before [] c = tt
   passes_of before (e ∷ es) c =
@@ -144,14 +158,16 @@ module _ (undirected : Bool) (ids : List ℤ) where
       let t = and_first (are_there e) (each are_there es) c.there in (
         passed-test undirected ids before e
             (record {
-              apart = not-true (same_z e.0 e.1) (and_first (is_apart e) (each is_apart es) c.apart);
-              smaller = not-true (undirected && lt_z e.1 e.0) (and_first (is_smaller e) (each is_smaller es) c.smaller);
+              light = and_first (is_light e) (each is_light es) c.light;
+              apart = not-true (same_z e.0 e.1.0) (and_first (is_apart e) (each is_apart es) c.apart);
+              smaller = not-true (undirected && lt_z e.1.0 e.0) (and_first (is_smaller e) (each is_smaller es) c.smaller);
               above = and_first (is_above before e) (chain (after e) es) a;
-              from = and_first (is_there (place_in ids e.0)) (is_there (place_in ids e.1)) t;
-              to = and_second (is_there (place_in ids e.0)) (is_there (place_in ids e.1)) t;
+              from = and_first (is_there (place_in ids e.0)) (is_there (place_in ids e.1.0)) t;
+              to = and_second (is_there (place_in ids e.0)) (is_there (place_in ids e.1.0)) t;
             }),
         passes_of (after e) es
             (record {
+              light = and_second (is_light e) (each is_light es) c.light;
               above = and_second (is_above before e) (chain (after e) es) a;
               apart = and_second (is_apart e) (each is_apart es) c.apart;
               smaller = and_second (is_smaller e) (each is_smaller es) c.smaller;
@@ -160,24 +176,35 @@ module _ (undirected : Bool) (ids : List ℤ) where
       )
 
 -- an edge file gives edges exactly where it is a good file of them
-pub edges-accepted : (undirected : Bool) (most : ℕ) (ids : List ℤ) (s : List ℕ) (es : List (ℤ × ℤ))
+pub edges-accepted : (undirected : Bool) (most : ℕ) (ids : List ℤ) (s : List ℕ) (es : List Edge)
     → (edges_of undirected most (place_in ids) s ≡ gives es) ↔ GoodEdges undirected most ids s es
 edges-accepted undirected most ids s es = (
-  (λ e. let a = (file-accepted edge_form edge-right edge_file most (edge_test undirected (place_in ids)) s es).0 e in
+  (λ e. let a = (file-accepted (edge_form_by (has_weights s)) (listed-right (has_weights s)) edge_file most
+      (edge_test undirected (place_in ids)) s
+      es).0 e in
       let c = clauses-of undirected ids first es a.pass in
       record {
         lines = a.lines;
         few = a.few;
+        light = c.light;
         rise = c.above;
         apart = c.apart;
         smaller = c.smaller;
         there = c.there;
       }),
-  λ g. (file-accepted edge_form edge-right edge_file most (edge_test undirected (place_in ids)) s es).1
+  λ g. (file-accepted (edge_form_by (has_weights s)) (listed-right (has_weights s)) edge_file most (edge_test undirected (place_in ids)) s
+      es).1
       (record {
         lines = g.lines;
         few = g.few;
-        pass = passes_of undirected ids first es (record { above = g.rise; apart = g.apart; smaller = g.smaller; there = g.there });
+        pass = passes_of undirected ids first es (record {
+          light = g.light;
+          above = g.rise;
+          apart = g.apart;
+          smaller = g.smaller;
+          there
+              = g.there;
+        });
       }),
 )
 
@@ -190,5 +217,26 @@ vertices-refused most s r = file-refused ident_form ident-right vertex_file most
 -- an edge file is refused exactly at its first fault, said of its bytes
 pub edges-refused : (undirected : Bool) (most : ℕ) (ids : List ℤ) (s : List ℕ) (r : Refusal)
     → (edges_of undirected most (place_in ids) s ≡ refuses r)
-    ↔ FirstFault (two_of ident_of ident_of) edge_file most (edge_test undirected (place_in ids)) s r
-edges-refused undirected most ids s r = file-refused edge_form edge-right edge_file most (edge_test undirected (place_in ids)) s r
+    ↔ FirstFault (edge_form_by (has_weights s)).word edge_file most (edge_test undirected (place_in ids)) s r
+edges-refused undirected most ids s r = file-refused (edge_form_by (has_weights s)) (listed-right (has_weights s)) edge_file most
+    (edge_test undirected (place_in ids)) s r
+
+-- ---- in a file without weights every weight is 0
+no-weights : (ws : List (List ℕ)) (es : List Edge) → Says (edge_form_by false).word ws es → weights_in es ≡ replicate (length es) 0
+no-weights [] [] h = refl
+no-weights [] (e ∷ es) h = absurd h
+no-weights (w ∷ ws) [] h = absurd h
+no-weights (w ∷ ws) (e ∷ es) h = ap₂ (λ (x : ℕ) (l : List ℕ). x ∷ l) (none (two_of ident_of ident_of w) h.1) (no-weights ws es h.2)
+  where
+    none : (x : Word (ℤ × ℤ)) → unweighed x ≡ value e → e.1.1 ≡ 0
+    none malformed q = no-case cc
+    none outside q = no-case cc
+    none (value d) q = let z : ◌≡◌ {A = Edge} (d.0, (d.1, 0)) e = cc in ap (λ (y : Edge). y.1.1) (sym z)
+
+pub plain-weights : (undirected : Bool) (most : ℕ) (place : ℤ → Found) (s : List ℕ) (es : List Edge) → has_weights s ≡ false
+    → edges_of undirected most place s ≡ gives es → weights_in es ≡ replicate (length es) 0
+plain-weights undirected most place s es h e =
+    let a = (file-accepted (edge_form_by (has_weights s)) (listed-right (has_weights s)) edge_file most (edge_test undirected place) s es).0
+    e in
+    no-weights a.lines.words es
+    (subst (λ (t : Bool). Says (edge_form_by t).word a.lines.words es) h a.lines.values)

@@ -18,10 +18,9 @@ use Rattle.graph.specs.declared.find.Found.{Found}
 use Rattle.graph.specs.Arcs.{seconds, bumps}
 use Rattle.lists.specs.declared.Listed.{Listed}
 use Rattle.lists.specs.declared.Listed.TheVariants.{Lines, Refused}
-use Rattle.lists.specs.Files.{identifiers, edges_of, all_numbered}
+use Rattle.lists.specs.Files.{identifiers, edges_of, all_numbered, weights_in}
 use Rattle.lists.specs.Calls.{vertex_outcome, vertex_call, edge_outcome, edge_call}
-use Rattle.lists.specs.Steps.{ids_into, ids_left, numbered_into, edges_left}
-use Rattle.lists.proofs.Lookups.{length-numbered}
+use Rattle.lists.specs.Steps.{ids_into, ids_left, edges_into, edges_left}
 
 -- ---- values written to an area of one value throughout
 module _ {A : Type 0} (z : A) where
@@ -82,29 +81,39 @@ module _ (most : ℕ) (s : List ℕ) (size : ℕ) (a : List ℤ) (e : a ≡ repl
       rw (mapped-refuses (ids_into a 0) (identifiers most s) r (ap (λ y. ids_left y b) (sym q) ∙ told))
       (ap (vertex_outcome (refuses r)) (f ∙ again (pos 0) size a b e k))
 
-module _ (undirected : Bool) (most : ℕ) (place : ℤ → Found) (s : List ℕ) (sc st : ℕ) (a b : List ℕ) (ea : a ≡ replicate sc 0)
-    (eb : b ≡ replicate st 0)
-    (x : Listed) (c t : List ℕ) (told : edges_left x c t ≡ mapped (numbered_into place a b 0) (edges_of undirected most place s)) where
-  pub edges-lines : (n : ℕ) → x ≡ Lines n → edge_outcome (gives n) c t ≡ edge_call undirected most place s sc st
-  edges-lines n q =
-      let g = mapped-gives (numbered_into place a b 0) (edges_of undirected most place s) (n, c, t)
-      (ap (λ y. edges_left y c t) (sym q) ∙ told) in
-      let es = all_numbered place g.0 in
-      let k : n ≡ length g.0 = ap (λ (y : ℕ × List ℕ × List ℕ). y.0) g.2 ∙ zero-add (length es) ∙ length-numbered place g.0 in
-      let u : c ≡ bumps (replicate sc 0) es = ap (λ (y : ℕ × List ℕ × List ℕ). y.1) g.2 ∙ ap (λ (l : List ℕ). bumps l es) ea in
-      let v : t ≡ pad st (take st (seconds es)) =
-      ap (λ (y : ℕ × List ℕ × List ℕ). y.2) g.2 ∙ ap (λ (l : List ℕ). sets l 0 (seconds es)) eb ∙ put_front 0 st (seconds es) in
-      rw g.1 (edges-of k u v)
-    where
-      edges-of : {k m : ℕ} {c d t u : List ℕ} → k ≡ m → c ≡ d → t ≡ u → edge_outcome (gives k) c t ≡ edge_outcome (gives m) d u
-      edges-of p q r = cc
+module _ (undirected : Bool) (most : ℕ) (place : ℤ → Found) (s : List ℕ) (sc st sw : ℕ) (a b e : List ℕ) (ea : a ≡ replicate sc 0)
+    (eb : b ≡ replicate st 0) (ee : e ≡ replicate sw 0)
+    (x : Listed) (c t w : List ℕ) (told : edges_left x c t w ≡ mapped (edges_into place a b e 0) (edges_of undirected most place s)) where
+  abbrev Left : Type 0
+  Left = ℕ × List ℕ × List ℕ × List ℕ
 
-  pub edges-zero : (r : Refusal) → x ≡ Refused r → length c ≡ length a → length t ≡ length b → (d u : List ℕ)
-      → d ≡ replicate (length c) 0 → u ≡ replicate (length t) 0
-      → edge_outcome (refuses r) d u ≡ edge_call undirected most place s sc st
-  edges-zero r q kc kt d u ed eu =
-      rw (mapped-refuses (numbered_into place a b 0) (edges_of undirected most place s) r (ap (λ y. edges_left y c t) (sym q) ∙ told))
-      (ap₂ (λ (l m : List ℕ). edge_outcome (refuses r) l m) (ed ∙ again 0 sc a c ea kc) (eu ∙ again 0 st b t eb kt))
+  pub edges-lines : (n : ℕ) → x ≡ Lines n → edge_outcome (gives n) c t w ≡ edge_call undirected most place s sc st sw
+  edges-lines n q =
+      let g = mapped-gives (edges_into place a b e 0) (edges_of undirected most place s) (n, c, t, w)
+      (ap (λ y. edges_left y c t w) (sym q) ∙ told) in
+      let es = all_numbered place g.0 in
+      let k : n ≡ length g.0 = ap (λ (y : Left). y.0) g.2 ∙ zero-add (length g.0) in
+      let u : c ≡ bumps (replicate sc 0) es = ap (λ (y : Left). y.1) g.2 ∙ ap (λ (l : List ℕ). bumps l es) ea in
+      let v : t ≡ pad st (take st (seconds es)) =
+      ap (λ (y : Left). y.2) g.2 ∙ ap (λ (l : List ℕ). sets l 0 (seconds es)) eb ∙ put_front 0 st (seconds es) in
+      let z : w ≡ pad sw (take sw (weights_in g.0)) =
+      ap (λ (y : Left). y.3) g.2 ∙ ap (λ (l : List ℕ). sets l 0 (weights_in g.0)) ee ∙ put_front 0 sw (weights_in g.0) in
+      rw g.1 (edges-of k u v z)
+    where
+      edges-of : {k m : ℕ} {c d t u w z : List ℕ} → k ≡ m → c ≡ d → t ≡ u → w ≡ z
+          → edge_outcome (gives k) c t w ≡ edge_outcome (gives m) d u z
+      edges-of p q r s = cc
+
+  pub edges-zero : (r : Refusal) → x ≡ Refused r → length c ≡ length a → length t ≡ length b → length w ≡ length e → (d u z : List ℕ)
+      → d ≡ replicate (length c) 0 → u ≡ replicate (length t) 0 → z ≡ replicate (length w) 0
+      → edge_outcome (refuses r) d u z ≡ edge_call undirected most place s sc st sw
+  edges-zero r q kc kt kw d u z ed eu ez =
+      rw (
+        mapped-refuses (edges_into place a b e 0) (edges_of undirected most place s) r (ap (λ y. edges_left y c t w) (sym q) ∙ told),
+        ed ∙ again 0 sc a c ea kc,
+        eu ∙ again 0 st b t eb kt,
+        ez ∙ again 0 sw e w ee kw,
+      )
 
 pub stays-clear : (a e : List ℕ) → a ≡ replicate (length e) 0 → length a ≡ length e → a ≡ replicate (length a) 0
 stays-clear a e p q = p ∙ ap (λ (k : ℕ). replicate k 0) (sym q)

@@ -13,16 +13,16 @@ use Rattle.basis.specs.Refusal.{edge_file}
 use Rattle.basis.specs.Order.{same_z, rising_z}
 use Rattle.basis.proofs.Tests.{clash}
 use Rattle.basis.proofs.Orders.{signed-order, less-places, same-places}
-use Rattle.text.specs.Line.{edge_line}
+use Rattle.text.specs.Weighed.{listed_line, has_weights}
 use Rattle.text.specs.File.{lines_of, Before, first}
 use Rattle.text.proofs.Files.{values_same}
 use Rattle.graph.specs.Find.{place_in, bisected, is_there}
 use Rattle.graph.specs.declared.find.Found.{Found}
 use Rattle.graph.specs.declared.find.Found.TheVariants.{At, Missing}
 use Rattle.graph.proofs.Finds.{find-rising, place_at}
-use Rattle.lists.specs.Files.{vertex_number, edge_test, edges_of, all_numbered}
+use Rattle.lists.specs.Files.{Edge, vertex_number, edge_test, edges_of, all_numbered}
 
-pub length-numbered : (place : ℤ → Found) (es : List (ℤ × ℤ)) → length (all_numbered place es) ≡ length es
+pub length-numbered : (place : ℤ → Found) (es : List Edge) → length (all_numbered place es) ≡ length es
 length-numbered place [] = refl
 length-numbered place (e ∷ es) = ap suc (length-numbered place es)
 
@@ -31,20 +31,20 @@ module _ (ids : List ℤ) (rise : rising_z ids ≡ true) where
   same_place : (id : ℤ) → bisected ids id ≡ place_in ids id
   same_place id = find-rising ids id rise
 
-  same_test : (undirected : Bool) (before : Before (ℤ × ℤ)) (e : ℤ × ℤ)
+  same_test : (undirected : Bool) (before : Before Edge) (e : Edge)
       → edge_test undirected (bisected ids) before e ≡ edge_test undirected (place_in ids) before e
   unfolding edge_test
-  same_test undirected before e = rw (same_place e.0, same_place e.1)
+  same_test undirected before e = rw (same_place e.0, same_place e.1.0)
 
   pub same_edges : (undirected : Bool) (most : ℕ) (s : List ℕ)
       → edges_of undirected most (bisected ids) s ≡ edges_of undirected most (place_in ids) s
   same_edges undirected most s =
       values_same edge_file most (edge_test undirected (bisected ids)) (edge_test undirected (place_in ids)) (same_test undirected) 0 first
-      (lines_of edge_line s)
+      (lines_of (listed_line (has_weights s)) s)
 
-  pub same-numbered : (es : List (ℤ × ℤ)) → all_numbered (bisected ids) es ≡ all_numbered (place_in ids) es
+  pub same-numbered : (es : List Edge) → all_numbered (bisected ids) es ≡ all_numbered (place_in ids) es
   same-numbered [] = refl
-  same-numbered (e ∷ es) = rw (same_place e.0, same_place e.1, same-numbered es)
+  same-numbered (e ∷ es) = rw (same_place e.0, same_place e.1.0, same-numbered es)
 
 -- ---- the numbers of those that are there
 module _ (ids : List ℤ) (rise : rising_z ids ≡ true) where

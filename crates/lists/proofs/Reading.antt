@@ -5,21 +5,23 @@ use mathlib.Core.Bool.{Bool, true, false, cond, ◌&&◌, ◌||◌}
 use mathlib.Core.List.{List}
 use native.Mathlib.Omega.{arith}
 use borrow.Author.Tests.{le-leb, lt-leb, lt-ltb}
-use lib.Dec.{leb}
+use lib.Dec.{leb, ltb}
 use lib.IntN.{ℤ}
 use lib.Signed.{lt_z}
 use Rattle.basis.specs.Refusal.{gives, refuses, at_column, at, too_many, not_above, vertex_file, edge_file}
+use Rattle.basis.specs.Limits.{most_weight}
 use Rattle.basis.specs.Order.{same_z}
 use Rattle.basis.specs.declared.refusal.Refusal.{Refusal}
 use Rattle.basis.proofs.Tests.{no-case}
 use Rattle.basis.specs.Scan.{or_else}
-use Rattle.text.specs.Line.{LineSaid, line, fault, vertex_line, vertex_says, edge_line, edge_says}
-use Rattle.text.specs.File.{Before, fault_of, bad_at}
+use Rattle.text.specs.Line.{LineSaid, line, fault, vertex_line, vertex_says}
+use Rattle.text.specs.Weighed.{listed_line, weighed_says, has_weights}
+use Rattle.text.specs.File.{Before, first, after, fault_of, bad_at}
 use Rattle.text.specs.declared.line.Cursor.{Cursor}
 use Rattle.text.specs.declared.line.VertexLine.{VertexLine}
 use Rattle.text.specs.declared.line.VertexLine.TheVariants as VL
-use Rattle.text.specs.declared.line.EdgeLine.{EdgeLine}
-use Rattle.text.specs.declared.line.EdgeLine.TheVariants as EL
+use Rattle.text.specs.declared.line.WeighedLine.{WeighedLine}
+use Rattle.text.specs.declared.line.WeighedLine.TheVariants as WL
 use Rattle.graph.specs.Find.{bisected, is_there, Searched}
 use Rattle.graph.specs.declared.find.Found.{Found}
 use Rattle.graph.specs.declared.find.Found.TheVariants.{At, Missing}
@@ -28,9 +30,9 @@ use Rattle.lists.specs.declared.vertices.Vertices.{Vertices}
 use Rattle.lists.specs.declared.edges.Edges.{Edges}
 use Rattle.lists.specs.declared.edges.Ends.{Ends}
 use Rattle.lists.specs.declared.edges.Ends.TheVariants as EN
-use Rattle.lists.specs.Files.{vertex_test, is_above, vertex_number, edge_test, numbered}
-use Rattle.lists.specs.Steps.{LineStep, more, stop, by_fault, step_by, before_by, vertex_step, order_fault}
-use Rattle.lists.specs.Steps.{Looked, found, unknown, looked_by, ends_says, pair_of, with_numbers, edge_step}
+use Rattle.lists.specs.Files.{vertex_test, Edge, is_above, vertex_number, edge_test, numbered}
+use Rattle.lists.specs.Steps.{LineStep, more, stop, by_fault, step_by, before_by, vertex_step, weight_fault, order_fault, early_fault}
+use Rattle.lists.specs.Steps.{Looked, found, unknown, looked_by, ends_says, edge_of, with_numbers, edge_step}
 
 -- ---- too many lines come before any other fault
 module _ (most k n : ℕ) where
@@ -74,31 +76,32 @@ module _ (undirected : Bool) (a b : ℤ) where
   way-both e a' b' p q t h = rw (e, ← p, ← q) h
 
 module _ (k : ℕ) (p q a b : ℤ) where
-  pub above-first : k ≡ 0 → true ≡ is_above (before_by k (p, q)) (a, b)
+  pub above-first : k ≡ 0 → true ≡ is_above (before_by k (p, (q, 0))) (a, (b, 0))
   above-first e = rw e
 
   module _ (d : k ≡ 0 → ⊥) (p' a' : ℤ) (hp : p' ≡ p) (ha : a' ≡ a) (t : Bool) (e : t ≡ lt_z p' a') where
-    pair : is_above (before_by k (p, q)) (a, b) ≡ (t || (same_z p a && lt_z q b))
+    pair : is_above (before_by k (p, (q, 0))) (a, (b, 0)) ≡ (t || (same_z p a && lt_z q b))
     pair = rw (lt-ltb 0 k (omega arith), e, hp, ha)
 
-    pub above-less : t ≡ true → true ≡ is_above (before_by k (p, q)) (a, b)
+    pub above-less : t ≡ true → true ≡ is_above (before_by k (p, (q, 0))) (a, (b, 0))
     above-less f = rw (pair, f)
 
     module _ (f : t ≡ false) (u : Bool) (g : u ≡ same_z p' a') where
-      second : is_above (before_by k (p, q)) (a, b) ≡ (u && lt_z q b)
+      second : is_above (before_by k (p, (q, 0))) (a, (b, 0)) ≡ (u && lt_z q b)
       second = rw (pair, f, g, hp, ha)
 
-      pub above-second : u ≡ true → (q' b' : ℤ) → q' ≡ q → b' ≡ b → (v : Bool) → v ≡ lt_z q' b' → v ≡ is_above (before_by k (p, q)) (a, b)
+      pub above-second : u ≡ true → (q' b' : ℤ) → q' ≡ q → b' ≡ b → (v : Bool) → v ≡ lt_z q' b' → v ≡ is_above (before_by k (p, (q, 0)))
+          (a, (b, 0))
       above-second h q' b' hq hb v o = rw (second, h, ← hq, ← hb) o
 
-      pub above-none : u ≡ false → false ≡ is_above (before_by k (p, q)) (a, b)
+      pub above-none : u ≡ false → false ≡ is_above (before_by k (p, (q, 0))) (a, (b, 0))
       above-none h = rw (second, h)
 
 module _ (undirected : Bool) (k : ℕ) (p q a b a' b' : ℤ) (ha : a' ≡ a) (hb : b' ≡ b) (t : Bool) (e : t ≡ same_z a' b') where
   self : same_z a b ≡ t
   self = rw (← ha, ← hb) (sym e)
 
-  pub order-self : t ≡ true → 5 ≡ order_fault undirected (before_by k (p, q)) (a, b)
+  pub order-self : t ≡ true → 5 ≡ order_fault undirected (before_by k (p, (q, 0))) (a, (b, 0))
   unfolding order_fault
   order-self f = rw (self, f)
 
@@ -106,21 +109,55 @@ module _ (undirected : Bool) (k : ℕ) (p q a b a' b' : ℤ) (ha : a' ≡ a) (hb
     way : (undirected && lt_z b a) ≡ u
     way = rw (← ha, ← hb) (sym g)
 
-    pub order-way : u ≡ true → 6 ≡ order_fault undirected (before_by k (p, q)) (a, b)
+    pub order-way : u ≡ true → 6 ≡ order_fault undirected (before_by k (p, (q, 0))) (a, (b, 0))
     unfolding order_fault
     order-way h = rw (self, f, way, h)
 
-    module _ (h : u ≡ false) (p' q' : ℤ) (hp : p' ≡ p) (hq : q' ≡ q) (v : Bool) (o : v ≡ is_above (before_by k (p', q')) (a', b')) where
-      ordered : is_above (before_by k (p, q)) (a, b) ≡ v
-      ordered = rw (← hp, ← hq, ← ha, ← hb) (sym o)
+    module _ (h : u ≡ false) (p' q' : ℤ) (hp : p' ≡ p) (hq : q' ≡ q) (v : Bool) (o : v ≡ is_above (before_by k (p', (q', 0))) (a', (b', 0)))
+      where
+        ordered : is_above (before_by k (p, (q, 0))) (a, (b, 0)) ≡ v
+        ordered = rw (← hp, ← hq, ← ha, ← hb) (sym o)
 
-      pub order-rises : v ≡ true → 0 ≡ order_fault undirected (before_by k (p, q)) (a, b)
-      unfolding order_fault
-      order-rises j = rw (self, f, way, h, ordered, j)
+        pub order-rises : v ≡ true → 0 ≡ order_fault undirected (before_by k (p, (q, 0))) (a, (b, 0))
+        unfolding order_fault
+        order-rises j = rw (self, f, way, h, ordered, j)
 
-      pub order-falls : v ≡ false → 4 ≡ order_fault undirected (before_by k (p, q)) (a, b)
-      unfolding order_fault
-      order-falls j = rw (self, f, way, h, ordered, j)
+        pub order-falls : v ≡ false → 4 ≡ order_fault undirected (before_by k (p, (q, 0))) (a, (b, 0))
+        unfolding order_fault
+        order-falls j = rw (self, f, way, h, ordered, j)
+
+-- ---- the weight comes first, and the order goes by the ends alone
+order-ends : (undirected : Bool) (k : ℕ) (p q a b : ℤ) (x y : ℕ)
+    → order_fault undirected (before_by k (p, (q, 0))) (a, (b, 0)) ≡ order_fault undirected (before_by k (p, (q, x))) (a, (b, y))
+unfolding order_fault
+order-ends undirected k p q a b x y = rw (go (ltb 0 k))
+  where
+    go : (t : Bool)
+        → is_above (cond t (after (p, (q, 0))) first) (a, (b, 0)) ≡ is_above (cond t (after (p, (q, x))) first) (a, (b, y))
+    go true = refl
+    go false = refl
+
+pub heavy-weight : (w : ℕ) → most_weight < w → 13 ≡ weight_fault w
+unfolding weight_fault
+heavy-weight w h = rw (lt-leb w most_weight h)
+
+pub light-weight : (w : ℕ) → w ≤ most_weight → 0 ≡ weight_fault w
+unfolding weight_fault
+light-weight w h = rw (le-leb w most_weight h)
+
+-- the first of two faults
+pub sooner-first : (x y : ℕ) → (x ≡ 0 → ⊥) → x ≡ or_else x y
+sooner-first zero y d = absurd (d refl)
+sooner-first (suc n) y d = refl
+
+-- the numbers are handed on as others
+pub early-faults : (undirected : Bool) (c : Edges) (a b : ℤ) (w : ℕ) (p' q' a' b' : ℤ) → p' ≡ c.first → q' ≡ c.second → a' ≡ a → b' ≡ b
+    → (x o : ℕ) → x ≡ weight_fault w → o ≡ order_fault undirected (before_by c.lines (p', (q', 0))) (a', (b', 0)) → (r : ℕ) → r
+    ≡ or_else x o
+    → r ≡ early_fault undirected (before_by c.lines (edge_of c)) (a, (b, w))
+unfolding early_fault
+early-faults undirected c a b w p' q' a' b' hp hq ha hb x o f e r g =
+    g ∙ ap₂ or_else f (e ∙ rw (hp, hq, ha, hb) (order-ends undirected c.lines c.first c.second a b c.weight w))
 
 -- ---- the vertices of an edge
 module _ (ids : List ℤ) (a b a' : ℤ) (ha : a' ≡ a) (x : Found) (e : Searched ids a' x) where
@@ -187,26 +224,28 @@ module _ (s : List ℕ) (most : ℕ) (c : Vertices) (x : VertexLine) (e : vertex
     vertex-more o =
         rw a (by-more vertex_file most vertex_test c.lines (before_by c.lines c.last) z p.at f faulted o ∙ by (VL.Line z p) q)
 
--- ---- the test of an edge: its order, then its vertices
+-- ---- the test of an edge: its weight and order, then its vertices
 abbrev look_fault : Looked → ℕ
 look_fault (found e) = 0
 look_fault unknown = 7
 
-test_by : (undirected : Bool) (place : ℤ → Found) (before : Before (ℤ × ℤ)) (e : ℤ × ℤ)
-    → edge_test undirected place before e ≡ or_else (order_fault undirected before e) (look_fault (looked_by (place e.0) (place e.1)))
-unfolding edge_test order_fault
+test_by : (undirected : Bool) (place : ℤ → Found) (before : Before Edge) (e : Edge)
+    → edge_test undirected place before e ≡ or_else (early_fault undirected before e) (look_fault (looked_by (place e.0) (place e.1.0)))
+unfolding edge_test weight_fault order_fault early_fault
 test_by undirected place before e =
-    go (same_z e.0 e.1) (undirected && lt_z e.1 e.0) (is_above before e) (place e.0) (place e.1)
+    go (leb e.1.1 most_weight) (same_z e.0 e.1.0) (undirected && lt_z e.1.0 e.0) (is_above before e) (place e.0)
+    (place e.1.0)
   where
-    go : (p q r : Bool) (x y : Found)
-        → cond p 5 (cond q 6 (cond r (cond (is_there x && is_there y) 0 7) 4))
-        ≡ or_else (cond p 5 (cond q 6 (cond r 0 4))) (look_fault (looked_by x y))
-    go true q r x y = refl
-    go false true r x y = refl
-    go false false false x y = refl
-    go false false true Missing y = refl
-    go false false true (At u) Missing = refl
-    go false false true (At u) (At v) = refl
+    go : (l p q r : Bool) (x y : Found)
+        → cond l (cond p 5 (cond q 6 (cond r (cond (is_there x && is_there y) 0 7) 4))) 13
+        ≡ or_else (or_else (cond l 0 13) (cond p 5 (cond q 6 (cond r 0 4)))) (look_fault (looked_by x y))
+    go false p q r x y = refl
+    go true true q r x y = refl
+    go true false true r x y = refl
+    go true false false false x y = refl
+    go true false false true Missing y = refl
+    go true false false true (At u) Missing = refl
+    go true false false true (At u) (At v) = refl
 
 -- a limit that is not passed, and no fault of order
 pub limit-none : (most k o : ℕ) → cond (leb most k) too_many o ≡ 0 → (leb most k ≡ false) × (o ≡ 0)
@@ -216,48 +255,48 @@ limit-none most k o e = go (leb most k) refl e
     go true q h = absurd (let z : ⊥ = omega arith in z)
     go false q h = (q, h)
 
-module _ (undirected : Bool) (most : ℕ) (place : ℤ → Found) (s : List ℕ) (c : Edges) (x : EdgeLine)
-    (e : edge_says x ≡ edge_line s c.at.at) where
-  abbrev step : LineSaid (ℤ × ℤ) → LineStep (ℤ × ℤ)
-  step = step_by edge_file most (edge_test undirected place) c.lines (before_by c.lines (pair_of c))
+module _ (undirected : Bool) (most : ℕ) (place : ℤ → Found) (s : List ℕ) (c : Edges) (weighted : Bool)
+    (known : weighted ≡ has_weights s) (x : WeighedLine) (e : weighed_says x ≡ listed_line weighted s c.at.at) where
+  abbrev step : LineSaid Edge → LineStep Edge
+  step = step_by edge_file most (edge_test undirected place) c.lines (before_by c.lines (edge_of c))
 
-  by-edge : (y : EdgeLine) → x ≡ y → with_numbers place (step (edge_says y)) ≡ with_numbers place (edge_step undirected most place s c)
+  by-edge : (y : WeighedLine) → x ≡ y → with_numbers place (step (weighed_says y))
+      ≡ with_numbers place (edge_step undirected most place s c)
   unfolding edge_step
-  by-edge y q = ap (λ l. with_numbers place (step l)) (ap edge_says (sym q) ∙ e)
+  by-edge y q = ap (λ l. with_numbers place (step l)) (ap weighed_says (sym q) ∙ e ∙ ap (λ (t : Bool). listed_line t s c.at.at) known)
 
-  pub edge-end : (p : Cursor) → x ≡ EL.End p → stop (gives c.lines) ≡ with_numbers place (edge_step undirected most place s c)
-  edge-end p q = by-edge (EL.End p) q
+  pub edge-end : (p : Cursor) → x ≡ WL.End p → stop (gives c.lines) ≡ with_numbers place (edge_step undirected most place s c)
+  edge-end p q = by-edge (WL.End p) q
 
-  pub edge-bad : (n d : ℕ) (p : Cursor) → x ≡ EL.Fault n d p → (r : Refusal)
+  pub edge-bad : (n d : ℕ) (p : Cursor) → x ≡ WL.Fault n d p → (r : Refusal)
       → r ≡ bad_at edge_file most c.lines n d
       → stop (refuses r) ≡ with_numbers place (edge_step undirected most place s c)
   edge-bad n d p q r h =
       ap (with_numbers place)
-      (by-bad edge_file most (edge_test undirected place) c.lines (before_by c.lines (pair_of c)) n d p.at r h)
-      ∙ by-edge (EL.Fault n d p) q
+      (by-bad edge_file most (edge_test undirected place) c.lines (before_by c.lines (edge_of c)) n d p.at r h)
+      ∙ by-edge (WL.Fault n d p) q
 
-  -- the edge from a to b, handed on as a' and b', and the one before it
-  module _ (a b : ℤ) (p : Cursor) (q : x ≡ EL.Line a b p) (a' b' d' e' : ℤ) (ha : a' ≡ a) (hb : b' ≡ b) (hd : d' ≡ c.first)
-      (he : e' ≡ c.second)
-      (o : ℕ) (h : o ≡ order_fault undirected (before_by c.lines (d', e')) (a', b')) (f : ℕ)
+  -- the edge from a to b of weight w, handed on as a' and b'
+  module _ (a b : ℤ) (w : ℕ) (p : Cursor) (q : x ≡ WL.Line a b w p) (a' b' : ℤ) (ha : a' ≡ a) (hb : b' ≡ b)
+      (o : ℕ) (h : o ≡ early_fault undirected (before_by c.lines (edge_of c)) (a', (b', w))) (f : ℕ)
       (g : f ≡ cond (leb most c.lines) too_many o) where
-    abbrev before : Before (ℤ × ℤ)
-    before = before_by c.lines (pair_of c)
+    abbrev before : Before Edge
+    before = before_by c.lines (edge_of c)
 
     abbrev line_fault : ℕ
-    line_fault = fault_of edge_file most (edge_test undirected place) c.lines before (a, b)
+    line_fault = fault_of edge_file most (edge_test undirected place) c.lines before (a, (b, w))
 
-    order_is : order_fault undirected before (a, b) ≡ o
-    order_is = rw (← ha, ← hb, ← hd, ← he) (sym h)
+    order_is : early_fault undirected before (a, (b, w)) ≡ o
+    order_is = rw (← ha, ← hb) (sym h)
 
-    tested : edge_test undirected place before (a, b) ≡ or_else o (look_fault (looked_by (place a) (place b)))
-    tested = test_by undirected place before (a, b) ∙ rw order_is
+    tested : edge_test undirected place before (a, (b, w)) ≡ or_else o (look_fault (looked_by (place a) (place b)))
+    tested = test_by undirected place before (a, (b, w)) ∙ rw order_is
 
     pub edge-fault : (f ≡ 0 → ⊥) → (r : Refusal) → r ≡ at f edge_file (c.lines + 1)
         → stop (refuses r) ≡ with_numbers place (edge_step undirected most place s c)
     edge-fault d r j =
-        ap (with_numbers place) (by-fault edge_file most (edge_test undirected place) c.lines before (a, b) p.at f same d r j)
-        ∙ by-edge (EL.Line a b p) q
+        ap (with_numbers place) (by-fault edge_file most (edge_test undirected place) c.lines before (a, (b, w)) p.at f same d r j)
+        ∙ by-edge (WL.Line a b w p) q
       where
         go : (t : Bool) (m : ℕ) → (cond t too_many o ≡ 0 → ⊥) → cond t too_many o ≡ cond t too_many (or_else o m)
         go true m d = refl
@@ -270,29 +309,30 @@ module _ (undirected : Bool) (most : ℕ) (place : ℤ → Found) (s : List ℕ)
         same : f ≡ line_fault
         same = g ∙ rw tested (go (leb most c.lines) (look_fault (looked_by (place a) (place b))) (λ z. d (g ∙ z)))
 
-    module _ (z : f ≡ 0) (y : Ends) (w : ends_says y ≡ looked_by (place a') (place b')) where
+    module _ (z : f ≡ 0) (y : Ends) (j : ends_says y ≡ looked_by (place a') (place b')) where
       looked : looked_by (place a) (place b) ≡ ends_says y
-      looked = rw (← ha, ← hb) (sym w)
+      looked = rw (← ha, ← hb) (sym j)
 
       by-look : look_fault (ends_says y) ≡ line_fault
       by-look = let n = limit-none most c.lines o (sym g ∙ z) in rw (tested, n.0, n.1, looked)
 
       pub edge-unknown : y ≡ EN.Unknown → (r : Refusal) → r ≡ at 7 edge_file (c.lines + 1)
           → stop (refuses r) ≡ with_numbers place (edge_step undirected most place s c)
-      edge-unknown u r j =
+      edge-unknown u r i =
           let l : 7 ≡ line_fault = ap (λ t. look_fault (ends_says t)) (sym u) ∙ by-look in
-          ap (with_numbers place) (by-fault edge_file most (edge_test undirected place) c.lines before (a, b) p.at 7 l (λ i. omega arith)
-          r j)
-          ∙ by-edge (EL.Line a b p) q
+          ap (with_numbers place) (by-fault edge_file most (edge_test undirected place) c.lines before (a, (b, w)) p.at 7 l
+          (λ z. omega arith)
+          r i)
+          ∙ by-edge (WL.Line a b w p) q
 
       pub edge_more : (u v : ℕ) → y ≡ EN.Known u v
-          → more ((a', b'), (u, v)) p.at (c.lines + 1) ≡ with_numbers place (edge_step undirected most place s c)
+          → more ((a', (b', w)), (u, v)) p.at (c.lines + 1) ≡ with_numbers place (edge_step undirected most place s c)
       edge_more u v k =
           let l : 0 ≡ line_fault = ap (λ t. look_fault (ends_says t)) (sym k) ∙ by-look in
-          let n : numbered place (a, b) ≡ (u, v) = numbers (place a) (place b) (looked ∙ ap ends_says k) in
+          let n : numbered place (a, (b, w)) ≡ (u, v) = numbers (place a) (place b) (looked ∙ ap ends_says k) in
           rw (ha, hb, ← n) (ap (with_numbers place)
-          (by-more edge_file most (edge_test undirected place) c.lines before (a, b) p.at 0 l refl)
-          ∙ by-edge (EL.Line a b p) q)
+          (by-more edge_file most (edge_test undirected place) c.lines before (a, (b, w)) p.at 0 l refl)
+          ∙ by-edge (WL.Line a b w p) q)
         where
           numbers : (x y : Found) → looked_by x y ≡ found (u, v) → ◌≡◌ {A = ℕ × ℕ} (vertex_number x, vertex_number y) (u, v)
           numbers (At i) (At j) h = cc

@@ -6,7 +6,7 @@ use Rattle.graph.specs.declared.find.Found.{Found}
 use Rattle.graph.specs.Arcs.{seconds, bumps}
 use Rattle.lists.specs.declared.Listed.{Listed}
 use Rattle.lists.specs.declared.Listed.TheVariants.{Lines, Refused}
-use Rattle.lists.specs.Files.{identifiers, edges_of, all_numbered}
+use Rattle.lists.specs.Files.{identifiers, Edge, edges_of, all_numbered, weights_in}
 
 -- how many lines a file has, or why it was refused
 abbrev pub listed_says : Listed → Said ℕ
@@ -30,30 +30,36 @@ ids_area size s = area_of (pos 0) size (take size) s
 abbrev pub vertex_call : ℕ → List ℕ → ℕ → VerticesRead
 vertex_call most s size = vertex_outcome (mapped length (identifiers most s)) (ids_area size (identifiers most s))
 
--- the same of an edge file: the answer, how many edges begin at each vertex, and their second ends
+-- the same of an edge file: the answer, how many edges begin at each vertex, their second ends and their weights
 pub record EdgesRead : Type 0 where
   pub answer : Said ℕ
   pub counts : List ℕ
   pub targets : List ℕ
+  pub weights : List ℕ
 
--- the same, by its fields in order: the count of lines or the refusal, the edges counted at their first ends, their second ends
-abbrev pub edge_outcome : Said ℕ → List ℕ → List ℕ → EdgesRead
-edge_outcome answer counts targets = record { answer = answer; counts = counts; targets = targets }
+-- the same, by its fields in order: the count of lines or the refusal, the edges counted at their first ends, their second ends, their
+-- weights
+abbrev pub edge_outcome : Said ℕ → List ℕ → List ℕ → List ℕ → EdgesRead
+edge_outcome answer counts targets weights = record { answer = answer; counts = counts; targets = targets; weights = weights }
 
 -- how many edges begin at each vertex, in an area of the given length
-abbrev pub counts_area : (ℤ → Found) → ℕ → Said (List (ℤ × ℤ)) → List ℕ
+abbrev pub counts_area : (ℤ → Found) → ℕ → Said (List Edge) → List ℕ
 counts_area place size (gives es) = bumps (replicate size 0) (all_numbered place es)
 counts_area place size (refuses r) = replicate size 0
 
 -- their second ends in file order, as far as there is room, and zeros behind them
-abbrev pub targets_area : (ℤ → Found) → ℕ → Said (List (ℤ × ℤ)) → List ℕ
+abbrev pub targets_area : (ℤ → Found) → ℕ → Said (List Edge) → List ℕ
 targets_area place size s = area_of 0 size (λ es. take size (seconds (all_numbered place es))) s
 
+-- their weights in file order, as far as there is room, and zeros behind them
+abbrev pub weights_area : ℕ → Said (List Edge) → List ℕ
+weights_area size s = area_of 0 size (λ es. take size (weights_in es)) s
+
 -- the answer and the areas of an edge file by the edges that it lists, or by its refusal
-abbrev pub edge_call_by : (ℤ → Found) → ℕ → ℕ → Said (List (ℤ × ℤ)) → EdgesRead
-edge_call_by place c t es = edge_outcome (mapped length es) (counts_area place c es) (targets_area place t es)
+abbrev pub edge_call_by : (ℤ → Found) → ℕ → ℕ → ℕ → Said (List Edge) → EdgesRead
+edge_call_by place c t w es = edge_outcome (mapped length es) (counts_area place c es) (targets_area place t es) (weights_area w es)
 
 -- the reading of an edge file of at most so many lines between the vertices that `place` finds, into areas of the given lengths
-abbrev pub edge_call : Bool → ℕ → (ℤ → Found) → List ℕ → ℕ → ℕ → EdgesRead
-edge_call undirected most place s c t =
-    edge_call_by place c t (edges_of undirected most place s)
+abbrev pub edge_call : Bool → ℕ → (ℤ → Found) → List ℕ → ℕ → ℕ → ℕ → EdgesRead
+edge_call undirected most place s c t w =
+    edge_call_by place c t w (edges_of undirected most place s)

@@ -1,10 +1,13 @@
 -- What the loops over a file's lines do with one line, and what they keep.
-use Rattle.std.specs.Prelude.{ℕ, zero, suc, ◌+◌, Bool, cond, ◌&&◌, List, ℤ, length, ltb}
+use Rattle.std.specs.Prelude.{ℕ, zero, suc, ◌+◌, Bool, cond, ◌&&◌, List, ℤ, length, leb, ltb}
 use Rattle.std.proofs.lemmas.List.Edits.{sets}
 use Rattle.std.specs.Int.Signed.{lt_z}
-use Rattle.basis.specs.Refusal.{Said, gives, refuses, at, mapped, not_above, self_edge, larger_first, vertex_file, edge_file}
+use Rattle.basis.specs.Refusal.{Said, gives, refuses, at, mapped, not_above, self_edge, larger_first, too_heavy, vertex_file, edge_file}
+use Rattle.basis.specs.Limits.{most_weight}
 use Rattle.basis.specs.Order.{same_z}
-use Rattle.text.specs.Line.{LineSaid, line, none, fault, vertex_line, edge_line}
+use Rattle.basis.specs.Scan.{or_else}
+use Rattle.text.specs.Line.{LineSaid, line, none, fault, vertex_line}
+use Rattle.text.specs.Weighed.{listed_line, has_weights}
 use Rattle.text.specs.File.{Before, first, after, fault_of, bad_at}
 use Rattle.graph.specs.Arcs.{Arc, seconds, bumps}
 use Rattle.graph.specs.declared.find.Found.{Found}
@@ -20,7 +23,7 @@ use Rattle.lists.specs.declared.edges.Ends.TheVariants as EN
 use Rattle.lists.specs.declared.edges.EdgeStep.{EdgeStep}
 use Rattle.lists.specs.declared.edges.EdgeStep.TheVariants as ES
 use Rattle.lists.specs.Calls.{listed_says}
-use Rattle.lists.specs.Files.{vertex_test, is_above, edge_test, edges_of, numbered, all_numbered}
+use Rattle.lists.specs.Files.{vertex_test, Edge, is_above, edge_test, edges_of, numbered, all_numbered, weights_in}
 
 -- a line more: its values, the place past it and the lines so far; or the end of the reading
 pub data LineStep (A : Type 0) : Type 0 where
@@ -61,14 +64,22 @@ abbrev pub ids_left : Listed → List ℤ → Said (ℕ × List ℤ)
 ids_left (Lines n) area = gives (n, area)
 ids_left (Refused r) area = refuses r
 
--- the edge that a reader passed last, by its two identifiers
-abbrev pub pair_of : Edges → ℤ × ℤ
-pair_of c = (c.first, c.second)
+-- the edge that a reader passed last, by its two identifiers and its weight
+abbrev pub edge_of : Edges → Edge
+edge_of c = (c.first, (c.second, c.weight))
 
--- the fault of an edge whose vertices are not looked up yet
-unfoldable pub order_fault : Bool → Before (ℤ × ℤ) → ℤ × ℤ → ℕ
+-- the fault of an edge whose vertices are not looked up yet, by its ends alone
+unfoldable pub order_fault : Bool → Before Edge → Edge → ℕ
 order_fault undirected before e =
-    cond (same_z e.0 e.1) self_edge (cond (undirected && lt_z e.1 e.0) larger_first (cond (is_above before e) 0 not_above))
+    cond (same_z e.0 e.1.0) self_edge (cond (undirected && lt_z e.1.0 e.0) larger_first (cond (is_above before e) 0 not_above))
+
+-- 02 K3: "13, weight above 100000": the fault of a weight, or 0
+unfoldable pub weight_fault : ℕ → ℕ
+weight_fault w = cond (leb w most_weight) 0 too_heavy
+
+-- the fault of an edge whose vertices are not looked up yet: that of its weight comes first
+unfoldable pub early_fault : Bool → Before Edge → Edge → ℕ
+early_fault undirected before e = or_else (weight_fault e.1.1) (order_fault undirected before e)
 
 -- the vertices of an edge, where both are there
 pub data Looked : Type 0 where
@@ -87,39 +98,38 @@ ends_says (EN.Known u v) = found (u, v)
 ends_says EN.Unknown = unknown
 
 -- an edge's step with the numbers of its vertices beside its identifiers
-abbrev pub with_numbers : (ℤ → Found) → LineStep (ℤ × ℤ) → LineStep ((ℤ × ℤ) × Arc)
+abbrev pub with_numbers : (ℤ → Found) → LineStep Edge → LineStep (Edge × Arc)
 with_numbers place (more e next k) = more (e, numbered place e) next k
 with_numbers place (stop r) = stop r
 
 -- one edge line more, read at the reader's place and tested after the edge that it passed last
-unfoldable pub edge_step : Bool → ℕ → (ℤ → Found) → List ℕ → Edges → LineStep (ℤ × ℤ)
+unfoldable pub edge_step : Bool → ℕ → (ℤ → Found) → List ℕ → Edges → LineStep Edge
 edge_step undirected most place s c =
-    step_by edge_file most (edge_test undirected place) c.lines (before_by c.lines (pair_of c)) (edge_line s c.at.at)
+    step_by edge_file most (edge_test undirected place) c.lines (before_by c.lines (edge_of c))
+    (listed_line (has_weights s) s c.at.at)
 
 -- the same with the numbers of its vertices, which `place` finds
-abbrev pub numbered_step : Bool → ℕ → (ℤ → Found) → List ℕ → Edges → LineStep ((ℤ × ℤ) × Arc)
+abbrev pub numbered_step : Bool → ℕ → (ℤ → Found) → List ℕ → Edges → LineStep (Edge × Arc)
 numbered_step undirected most place s c = with_numbers place (edge_step undirected most place s c)
 
 -- the code's answer as a step: the edge by identifiers and by numbers, the place past its line and the lines so far, or the end of the
 -- reading
-abbrev pub edge_step_says : EdgeStep → LineStep ((ℤ × ℤ) × Arc)
-edge_step_says (ES.More u v d) = more (pair_of d, (u, v)) d.at.at d.lines
+abbrev pub edge_step_says : EdgeStep → LineStep (Edge × Arc)
+edge_step_says (ES.More u v d) = more (edge_of d, (u, v)) d.at.at d.lines
 edge_step_says (ES.Stop r) = stop (listed_says r)
 
--- what edges leave behind: their count, one more for each at its first end, and an area with their second ends at its front, as far as
--- there is room
-abbrev pub edges_into : List ℕ → List ℕ → ℕ → List Arc → ℕ × List ℕ × List ℕ
-edges_into counts targets k es = (k + length es, bumps counts es, sets targets k (seconds es))
+-- what edges, whose vertices `place` finds, leave behind: their count, one more for each at its first end, and areas with their second ends
+-- and their weights at the front, as far as there is room
+abbrev pub edges_into : (ℤ → Found) → List ℕ → List ℕ → List ℕ → ℕ → List Edge → ℕ × List ℕ × List ℕ × List ℕ
+edges_into place counts targets weights k es =
+    (k + length es, bumps counts (all_numbered place es), sets targets k (seconds (all_numbered place es)), sets weights k (weights_in es))
 
--- the same of edges by identifiers, whose vertices `place` finds
-abbrev pub numbered_into : (ℤ → Found) → List ℕ → List ℕ → ℕ → List (ℤ × ℤ) → ℕ × List ℕ × List ℕ
-numbered_into place counts targets k es = edges_into counts targets k (all_numbered place es)
+-- the same of an edge file of at most so many lines, from the first place on: its edges in the three areas, or its refusal
+abbrev pub edges_scanned : Bool → ℕ → (ℤ → Found) → List ℕ → List ℕ → List ℕ → List ℕ → Said (ℕ × List ℕ × List ℕ × List ℕ)
+edges_scanned undirected most place s counts targets weights =
+    mapped (edges_into place counts targets weights 0) (edges_of undirected most place s)
 
--- the same of an edge file of at most so many lines, from the first place on: its edges in the two areas, or its refusal
-abbrev pub edges_scanned : Bool → ℕ → (ℤ → Found) → List ℕ → List ℕ → List ℕ → Said (ℕ × List ℕ × List ℕ)
-edges_scanned undirected most place s counts targets = mapped (numbered_into place counts targets 0) (edges_of undirected most place s)
-
--- the code's answer and the two areas as they stand: the count with the areas, or the refusal alone
-abbrev pub edges_left : Listed → List ℕ → List ℕ → Said (ℕ × List ℕ × List ℕ)
-edges_left (Lines n) counts targets = gives (n, counts, targets)
-edges_left (Refused r) counts targets = refuses r
+-- the code's answer and the three areas as they stand: the count with the areas, or the refusal alone
+abbrev pub edges_left : Listed → List ℕ → List ℕ → List ℕ → Said (ℕ × List ℕ × List ℕ × List ℕ)
+edges_left (Lines n) counts targets weights = gives (n, counts, targets, weights)
+edges_left (Refused r) counts targets weights = refuses r

@@ -1,5 +1,6 @@
 -- Loads by computation: the sheet's graph of 01, a small undirected one, and some that are refused.
 use mathlib.Core.Path.{◌≡◌, refl}
+use mathlib.Core.Bool.{true, false}
 use mathlib.Core.List.{List, [], ◌∷◌}
 use Prim.Native.Nat.{ℕ}
 use lib.IntN.{pos, negsuc}
@@ -9,6 +10,8 @@ use Rattle.basis.specs.Area.{column}
 use Rattle.text.specs.Bytes.{bytes}
 use Rattle.text.specs.Word.{within}
 use Rattle.text.specs.Line.{line_by, two_of, two_stop}
+use Rattle.text.specs.Weight.{millionths_of, weight_of, weight_stop}
+use Rattle.text.specs.Weighed.{has_weights}
 use Rattle.text.specs.File.{lines_from, values_from}
 use Rattle.graph.specs.Find.{place_from}
 use Rattle.lists.specs.Files.{edge_test}
@@ -21,29 +24,31 @@ vertices = bytes "-3\n2\n5\n9\n20\n"
 edges : List ℕ
 edges = bytes "2 5\n2 9\n5 2\n5 9\n9 20\n"
 
-directed : load_call library 1 (room_of 6 7 6 6 5) vertices edges
-    ≡ outcome (gives (record { vertices = 5; arcs = 5 }))
+directed : load_call library 1 (room_of 6 7 6 6 5 0 0) vertices edges
+    ≡ outcome (gives (record { vertices = 5; arcs = 5 }, false))
     (negsuc 2 ∷ pos 2 ∷ pos 5 ∷ pos 9 ∷ pos 20 ∷ pos 0 ∷ [])
     (0 ∷ 0 ∷ 2 ∷ 4 ∷ 5 ∷ 5 ∷ 0 ∷ [])
     (2 ∷ 3 ∷ 1 ∷ 3 ∷ 4 ∷ 0 ∷ [])
     (0 ∷ 0 ∷ 1 ∷ 2 ∷ 4 ∷ 5 ∷ [])
-    (2 ∷ 1 ∷ 1 ∷ 2 ∷ 3 ∷ [])
-unfolding vertices edges each mem column within line_by two_of place_from lines_from values_from edge_test arcs_read lists_read loaded
+    (2 ∷ 1 ∷ 1 ∷ 2 ∷ 3 ∷ []) [] []
+unfolding has_weights vertices edges each mem column within line_by two_of place_from lines_from values_from edge_test arcs_read lists_read
+    loaded
     outcome_of
     load_call
 directed = refl
 
 -- one place in each area: no room for five identifiers (8), before any edge is read
-no-places : load_call library 0 (room_of 1 1 1 1 1) vertices edges
-    ≡ outcome (refuses (plain 8)) (pos 0 ∷ []) (0 ∷ []) (0 ∷ []) (0 ∷ []) (0 ∷ [])
-unfolding vertices edges each mem column within line_by two_of place_from lines_from values_from edge_test arcs_read lists_read loaded
+no-places : load_call library 0 (room_of 1 1 1 1 1 0 0) vertices edges
+    ≡ outcome (refuses (plain 8)) (pos 0 ∷ []) (0 ∷ []) (0 ∷ []) (0 ∷ []) (0 ∷ []) [] []
+unfolding has_weights vertices edges each mem column within line_by two_of place_from lines_from values_from edge_test arcs_read lists_read
+    loaded
     outcome_of
     load_call
 no-places = refl
 
 -- the same files read as undirected: 5 2 has the larger number first (6)
-larger-first : loaded library 0 (room_of 5 6 9 6 9) vertices edges ≡ refuses (at 6 2 3)
-unfolding vertices edges each mem within line_by two_of place_from lines_from values_from edge_test arcs_read lists_read loaded
+larger-first : loaded library 0 (room_of 5 6 9 6 9 0 0) vertices edges ≡ refuses (at 6 2 3)
+unfolding has_weights vertices edges each mem within line_by two_of place_from lines_from values_from edge_test arcs_read lists_read loaded
 larger-first = refl
 
 -- three vertices with two edges, each of which stores two arcs
@@ -53,50 +58,98 @@ three = bytes "1\n2\n3\n"
 star : List ℕ
 star = bytes "1 2\n1 3\n"
 
-undirected : load_call library 0 (room_of 3 4 5 4 4) three star
-    ≡ outcome (gives (record { vertices = 3; arcs = 4 }))
+undirected : load_call library 0 (room_of 3 4 5 4 4 0 0) three star
+    ≡ outcome (gives (record { vertices = 3; arcs = 4 }, false))
     (pos 1 ∷ pos 2 ∷ pos 3 ∷ [])
     (0 ∷ 2 ∷ 3 ∷ 4 ∷ [])
     (1 ∷ 2 ∷ 0 ∷ 0 ∷ 0 ∷ [])
     (0 ∷ 2 ∷ 3 ∷ 4 ∷ [])
-    (1 ∷ 2 ∷ 0 ∷ 0 ∷ [])
-unfolding three star each mem column within line_by two_of place_from lines_from values_from edge_test arcs_read lists_read loaded
+    (1 ∷ 2 ∷ 0 ∷ 0 ∷ []) [] []
+unfolding has_weights three star each mem column within line_by two_of place_from lines_from values_from edge_test arcs_read lists_read
+    loaded
     outcome_of
     load_call
 undirected = refl
 
 -- "empty lists load"
-empty : load_call library 1 (room_of 0 1 0 1 0) [] [] ≡ outcome (gives (record { vertices = 0; arcs = 0 })) [] (0 ∷ []) [] (0 ∷ []) []
-unfolding each mem column within line_by two_of place_from lines_from values_from edge_test arcs_read lists_read loaded outcome_of load_call
+empty : load_call library 1 (room_of 0 1 0 1 0 0 0) [] [] ≡ outcome (gives (record { vertices = 0; arcs = 0 }, false)) [] (0 ∷ []) []
+    (0 ∷ []) [] [] []
+unfolding has_weights each mem column within line_by two_of place_from lines_from values_from edge_test arcs_read lists_read loaded
+    outcome_of
+    load_call
 empty = refl
 
 -- a mode that is unknown (12); one vertex too many, whatever stands in its line (1); no room for the arcs (8)
-unknown-mode : loaded library 2 (room_of 3 4 4 4 4) three star ≡ refuses (plain 12)
-unfolding three star loaded
+unknown-mode : loaded library 2 (room_of 3 4 4 4 4 0 0) three star ≡ refuses (plain 12)
+unfolding has_weights three star loaded
 unknown-mode = refl
 
-too_many : loaded (record { vertices = 2; edges = 2 }) 0 (room_of 3 4 4 4 4) (bytes "1\n2\n-") star ≡ refuses (at 1 1 3)
-unfolding star each mem within line_by two_of place_from lines_from values_from edge_test arcs_read lists_read loaded
+too_many : loaded (record { vertices = 2; edges = 2 }) 0 (room_of 3 4 4 4 4 0 0) (bytes "1\n2\n-") star ≡ refuses (at 1 1 3)
+unfolding has_weights star each mem within line_by two_of place_from lines_from values_from edge_test arcs_read lists_read loaded
 too_many = refl
 
-no_room : loaded library 0 (room_of 3 4 4 4 3) three star ≡ refuses (plain 8)
-unfolding three star each mem within line_by two_of place_from lines_from values_from edge_test arcs_read lists_read loaded
+no_room : loaded library 0 (room_of 3 4 4 4 3 0 0) three star ≡ refuses (plain 8)
+unfolding has_weights three star each mem within line_by two_of place_from lines_from values_from edge_test arcs_read lists_read loaded
 no_room = refl
 
 -- 1 4 names a vertex that isn't there (7); 1 2 twice is not above (4)
-not_there : loaded library 0 (room_of 3 4 4 4 4) three (bytes "1 4\n") ≡ refuses (at 7 2 1)
-unfolding three each mem within line_by two_of place_from lines_from values_from edge_test arcs_read lists_read loaded
+not_there : loaded library 0 (room_of 3 4 4 4 4 0 0) three (bytes "1 4\n") ≡ refuses (at 7 2 1)
+unfolding has_weights three each mem within line_by two_of place_from lines_from values_from edge_test arcs_read lists_read loaded
 not_there = refl
 
-twice : loaded library 0 (room_of 3 4 4 4 4) three (bytes "1 2\n1 2\n") ≡ refuses (at 4 2 2)
-unfolding three each mem within line_by two_of place_from lines_from values_from edge_test arcs_read lists_read loaded
+twice : loaded library 0 (room_of 3 4 4 4 4 0 0) three (bytes "1 2\n1 2\n") ≡ refuses (at 4 2 2)
+unfolding has_weights three each mem within line_by two_of place_from lines_from values_from edge_test arcs_read lists_read loaded
 twice = refl
 
 -- a tab behind the third vertex is in column 2 of line 3, and one behind the first edge's second number in column 4 of line 1
-tab-behind-vertex : loaded library 0 (room_of 3 4 4 4 4) (bytes "1\n2\n3\t\n") star ≡ refuses (at_column 2 1 3 2)
-unfolding star each mem within line_by two_of place_from lines_from values_from edge_test arcs_read lists_read loaded
+tab-behind-vertex : loaded library 0 (room_of 3 4 4 4 4 0 0) (bytes "1\n2\n3\t\n") star ≡ refuses (at_column 2 1 3 2)
+unfolding has_weights star each mem within line_by two_of place_from lines_from values_from edge_test arcs_read lists_read loaded
 tab-behind-vertex = refl
 
-tab-behind-edge : loaded library 0 (room_of 3 4 4 4 4) three (bytes "1 2\t\n") ≡ refuses (at_column 2 2 1 4)
-unfolding three each mem within line_by two_of two_stop place_from lines_from values_from edge_test arcs_read lists_read loaded
+tab-behind-edge : loaded library 0 (room_of 3 4 4 4 4 0 0) three (bytes "1 2\t\n") ≡ refuses (at_column 2 2 1 4)
+unfolding has_weights three each mem within line_by two_of two_stop place_from lines_from values_from edge_test arcs_read lists_read loaded
 tab-behind-edge = refl
+
+-- 02 K3: the same star with weights, 0.5 and 12, undirected: equal both ways; zeros behind them
+hauls : List ℕ
+hauls = bytes "1 2 0.5\n1 3 12\n"
+
+weighted : load_call library 0 (room_of 3 4 4 4 4 5 4) three hauls
+    ≡ outcome (gives (record { vertices = 3; arcs = 4 }, true))
+    (pos 1 ∷ pos 2 ∷ pos 3 ∷ [])
+    (0 ∷ 2 ∷ 3 ∷ 4 ∷ [])
+    (1 ∷ 2 ∷ 0 ∷ 0 ∷ [])
+    (0 ∷ 2 ∷ 3 ∷ 4 ∷ [])
+    (1 ∷ 2 ∷ 0 ∷ 0 ∷ [])
+    (500000 ∷ 12000000 ∷ 500000 ∷ 12000000 ∷ 0 ∷ [])
+    (500000 ∷ 12000000 ∷ 500000 ∷ 12000000 ∷ [])
+unfolding has_weights millionths_of weight_of three hauls each mem column within line_by two_of place_from lines_from values_from edge_test
+    arcs_read
+    lists_read loaded outcome_of load_call
+weighted = refl
+
+-- no room for the weights one way (8); a weight above 100000 (13), before the edge is seen to join a vertex to itself
+no-weight-room : loaded library 0 (room_of 3 4 4 4 4 4 3) three hauls ≡ refuses (plain 8)
+unfolding has_weights millionths_of weight_of three hauls each mem within line_by two_of place_from lines_from values_from edge_test
+    arcs_read
+    lists_read loaded
+no-weight-room = refl
+
+too-heavy : loaded library 0 (room_of 3 4 4 4 4 4 4) three (bytes "1 1 100000.000001\n") ≡ refuses (at 13 2 1)
+unfolding has_weights millionths_of weight_of three each mem within line_by two_of place_from lines_from values_from edge_test arcs_read
+    lists_read
+    loaded
+too-heavy = refl
+
+-- "a line that differs from the first in having a weight is 2": at its LF, and at the space before its weight
+weight-missing : loaded library 0 (room_of 3 4 4 4 4 4 4) three (bytes "1 2 0.5\n1 3\n") ≡ refuses (at_column 2 2 2 4)
+unfolding has_weights millionths_of weight_of weight_stop three each mem within line_by two_of two_stop place_from lines_from values_from
+    edge_test
+    arcs_read lists_read loaded
+weight-missing = refl
+
+weight-stray : loaded library 0 (room_of 3 4 4 4 4 4 4) three (bytes "1 2\n1 3 12\n") ≡ refuses (at_column 2 2 2 4)
+unfolding has_weights millionths_of weight_of weight_stop three each mem within line_by two_of two_stop place_from lines_from values_from
+    edge_test
+    arcs_read lists_read loaded
+weight-stray = refl

@@ -6,4 +6,5 @@ pub mod Loads
 pub mod Refused
 pub mod Accepts
 pub mod Meaning
+pub mod Weighted
 pub mod Examples

@@ -1,4 +1,4 @@
--- Laws of a whole load: from the vertex file and the edge file to the five areas. Assumes nothing.
+-- Laws of a whole load: from the vertex file and the edge file to the seven areas. Assumes nothing.
 use Prim.Native.Nat.{ℕ, ◌-◌, ◌≤◌, ◌<◌, min}
 use mathlib.Core.Path.{◌≡◌, refl, sym, ap, ap₂, subst, ◌∙◌}
 use mathlib.Core.Bool.{Bool, true, false, ◌&&◌}
@@ -14,18 +14,19 @@ use Rattle.basis.specs.declared.refusal.Refusal.{Refusal}
 use Rattle.basis.specs.Area.{pad_z}
 use Rattle.basis.specs.Order.{rising_z}
 use Rattle.basis.proofs.Tests.{and_first, and_second, and-off, no-case}
-use Rattle.basis.proofs.Saids.{mapped-gives, mapped-refuses}
+use Rattle.basis.proofs.Saids.{mapped-gives, mapped-refuses, given-one, check-passed, onward-passed}
 use Rattle.graph.specs.declared.Size.{Size}
-use Rattle.graph.specs.Arcs.{Arc}
 use Rattle.lists.proofs.Accepts.{vertices-accepted}
 use Rattle.load.specs.declared.Limits.{Limits}
 use Rattle.load.specs.declared.Loaded.{Loaded}
 use Rattle.load.specs.declared.Loaded.TheVariants as L
 use Rattle.lists.specs.declared.Listed.{Listed}
 use Rattle.lists.specs.declared.Listed.TheVariants.{Lines, Refused}
-use Rattle.lists.specs.Files.{identifiers}
+use Rattle.text.specs.Weighed.{has_weights}
+use Rattle.graph.specs.Find.{place_in}
+use Rattle.lists.specs.Files.{identifiers, edges_of}
 use Rattle.lists.specs.Calls.{listed_says, VerticesRead, vertex_outcome, ids_area, vertex_call}
-use Rattle.load.specs.Load.{Room, room_in, vertex_room, arcs_read, lists_read, loaded}
+use Rattle.load.specs.Load.{Lists, Room, room_in, vertex_room, lists_of, arcs_fit, arcs_read, lists_read, loaded}
 use Rattle.load.specs.Load.{Outcome, outcome, outcome_of, load_call, library, capped}
 use Rattle.load.specs.Steps.{Storing, Filled, filled, filled_by, filled_left, outcome_by, filled_load, outcome_left, Emptied}
 
@@ -43,31 +44,44 @@ module _ (n ids oo io : ℕ) where
   pub places-all : n ≤ ids → n < oo → n < io → true ≡ vertex_room ids oo io n
   places-all h g k = rw (le-leb n ids h, lt-ltb n oo g, lt-ltb n io k)
 
--- ---- from the areas of the arcs to all five
-module _ (room : Room) (ids : List ℤ) (a : List ℤ) (h : a ≡ pad_z room.ids ids) where
-  pub five-areas : (r : Loaded) (oo ot io is : List ℕ) (x : Said (List Arc))
-      → filled_left r oo ot io is ≡ mapped (filled_by (length ids) room.out_offsets room.out_targets room.in_offsets room.in_sources)
-      x
-      → outcome_left r a oo ot io is ≡ mapped (outcome_by room) (mapped (λ l. record { ids = ids; arcs = l }) x)
-  unfolding outcome_of
-  five-areas (L.Refused o) oo ot io is (gives l) e = no-case cc
-  five-areas (L.Refused o) oo ot io is (refuses q) e = let p : o ≡ q = cc in ap refuses p
-  five-areas (L.Graph size) oo ot io is (refuses q) e = no-case cc
-  five-areas (L.Graph size) oo ot io is (gives l) e =
-      let f : filled size oo ot io is ≡ filled_by (length ids) room.out_offsets room.out_targets room.in_offsets room.in_sources
-      l = cc in
-      ap gives (outcome-of (ap gives (ap (λ (y : Filled). y.size) f)) h (ap (λ (y : Filled). y.out_offsets) f)
-      (ap (λ (y : Filled). y.out_targets) f)
-      (ap (λ (y : Filled). y.in_offsets) f) (ap (λ (y : Filled). y.in_sources) f))
-    where
-      outcome-of : {p q : Said Size} {i i' : List ℤ} {a b c d a' b' c' d' : List ℕ} → p ≡ q → i ≡ i' → a ≡ a' → b ≡ b' → c ≡ c' → d ≡ d'
-          → outcome p i a b c d ≡ outcome q i' a' b' c' d'
-      outcome-of e f g h i j = cc
+-- ---- from the areas of the arcs to all seven
+-- what an edge file says is over the identifiers that it was given
+read-ids : (undirected : Bool) (most : ℕ) (ids : List ℤ) (s : List ℕ) (t t' w w' : ℕ) (g : Lists)
+    → arcs_read undirected most ids s t t' w w' ≡ gives g → g.ids ≡ ids
+unfolding arcs_read
+read-ids undirected most ids s t t' w w' g e =
+    let a = onward-passed (edges_of undirected most (place_in ids) s) _ g e in
+    let l = lists_of undirected (has_weights s) ids a.0 in
+    let c = check-passed (arcs_fit t t' w w' l) no_room (gives l) g a.2 in
+    sym (ap (λ (y : Lists). y.ids) (given-one c.1))
 
--- ---- the filling of five areas
-module _ (limits : Limits) (mode : ℕ) (v e : List ℕ) (ids : List ℤ) (oo ot io is : List ℕ) where
+module _ (room : Room) (ids : List ℤ) (a : List ℤ) (h : a ≡ pad_z room.ids ids) where
+  pub all-areas : (r : Loaded) (oo ot io is ow iw : List ℕ) (x : Said Lists) → ((g : Lists) → x ≡ gives g → g.ids ≡ ids)
+      → filled_left r oo ot io is ow iw
+      ≡ mapped (filled_by room.out_offsets room.out_targets room.in_offsets room.in_sources room.out_weights room.in_weights) x
+      → outcome_left r a oo ot io is ow iw ≡ mapped (outcome_by room) x
+  unfolding outcome_of
+  all-areas (L.Refused o) oo ot io is ow iw (gives g) own e = no-case cc
+  all-areas (L.Refused o) oo ot io is ow iw (refuses q) own e = let p : o ≡ q = cc in ap refuses p
+  all-areas (L.Graph size weighted) oo ot io is ow iw (refuses q) own e = no-case cc
+  all-areas (L.Graph size weighted) oo ot io is ow iw (gives g) own e =
+      let f : filled size weighted oo ot io is ow iw
+      ≡ filled_by room.out_offsets room.out_targets room.in_offsets room.in_sources room.out_weights room.in_weights g = cc in
+      ap gives (outcome-of
+      (ap₂ (λ (s : Size) (b : Bool). gives (s, b)) (ap (λ (y : Filled). y.size) f) (ap (λ (y : Filled). y.weighted) f))
+      (h ∙ ap (pad_z room.ids) (sym (own g refl))) (ap (λ (y : Filled). y.out_offsets) f) (ap (λ (y : Filled). y.out_targets) f)
+      (ap (λ (y : Filled). y.in_offsets) f) (ap (λ (y : Filled). y.in_sources) f) (ap (λ (y : Filled). y.out_weights) f)
+      (ap (λ (y : Filled). y.in_weights) f))
+    where
+      outcome-of : {p q : Said (Size × Bool)} {i i' : List ℤ} {a b c d e f a' b' c' d' e' f' : List ℕ} → p ≡ q → i ≡ i' → a ≡ a' → b ≡ b'
+          → c ≡ c' → d ≡ d' → e ≡ e' → f ≡ f'
+          → outcome p i a b c d e f ≡ outcome q i' a' b' c' d' e' f'
+      outcome-of e f g h i j k l = cc
+
+-- ---- the filling of seven areas
+module _ (limits : Limits) (mode : ℕ) (v e : List ℕ) (ids : List ℤ) (oo ot io is ow iw : List ℕ) where
   abbrev room : Room
-  room = room_in ids oo ot io is
+  room = room_in ids oo ot io is ow iw
 
   abbrev result : Said Outcome
   result = filled_load limits mode room v e
@@ -139,17 +153,19 @@ module _ (limits : Limits) (mode : ℕ) (v e : List ℕ) (ids : List ℤ) (oo ot
                       omega (arith, lent-long);
                 }
 
-            pub fill_end : (r : Loaded) (oo' ot' io' is' : List ℕ)
-                → filled_left r oo' ot' io' is'
-                ≡ mapped (filled_by (length b) (length oo) (length ot) (length io) (length is))
-                (arcs_read (eqb mode 0) limits.edges b e (length ot) (length is))
-                → outcome_left r a oo' ot' io' is' ≡ result
+            pub fill_end : (r : Loaded) (oo' ot' io' is' ow' iw' : List ℕ)
+                → filled_left r oo' ot' io' is' ow' iw'
+                ≡ mapped (filled_by (length oo) (length ot) (length io) (length is) (length ow) (length iw))
+                (arcs_read (eqb mode 0) limits.edges b e (length ot) (length is) (length ow) (length iw))
+                → outcome_left r a oo' ot' io' is' ow' iw' ≡ result
             unfolding loaded lists_read
-            fill_end r oo' ot' io' is' g =
+            fill_end r oo' ot' io' is' ow' iw' g =
                 rw (le-leb mode 1 h, taken.1, same-room ∙ f)
-                (five-areas room list a padded r oo' ot' io' is' (arcs_read (eqb mode 0) limits.edges list e (length ot) (length is))
-                (g ∙ ap (λ (l : List ℤ). mapped (filled_by (length l) (length oo) (length ot) (length io) (length is))
-                (arcs_read (eqb mode 0) limits.edges l e (length ot) (length is))) lent))
+                (all-areas room list a padded r oo' ot' io' is' ow' iw'
+                (arcs_read (eqb mode 0) limits.edges list e (length ot) (length is) (length ow) (length iw))
+                (read-ids (eqb mode 0) limits.edges list e (length ot) (length is) (length ow) (length iw))
+                (g ∙ ap (λ (l : List ℤ). mapped (filled_by (length oo) (length ot) (length io) (length is) (length ow) (length iw))
+                (arcs_read (eqb mode 0) limits.edges l e (length ot) (length is) (length ow) (length iw))) lent))
 
 -- ---- the limits
 pub capped-both : (limits : Limits) (v e : ℕ) → v ≡ min limits.vertices library.vertices → e ≡ min limits.edges library.edges
@@ -157,27 +173,29 @@ pub capped-both : (limits : Limits) (v e : ℕ) → v ≡ min limits.vertices li
 capped-both limits v e p q = cc
 
 -- ---- the whole call: filled, and cleared where it was refused
-module _ (limits : Limits) (mode : ℕ) (v e : List ℕ) (ids : List ℤ) (oo ot io is : List ℕ) (x : Loaded) (ids₁ : List ℤ)
-    (oo₁ ot₁ io₁ is₁ : List ℕ)
-    (told : outcome_left x ids₁ oo₁ ot₁ io₁ is₁ ≡ filled_load limits mode (room_in ids oo ot io is) v e)
+module _ (limits : Limits) (mode : ℕ) (v e : List ℕ) (ids : List ℤ) (oo ot io is ow iw : List ℕ) (x : Loaded) (ids₁ : List ℤ)
+    (oo₁ ot₁ io₁ is₁ ow₁ iw₁ : List ℕ)
+    (told : outcome_left x ids₁ oo₁ ot₁ io₁ is₁ ow₁ iw₁ ≡ filled_load limits mode (room_in ids oo ot io is ow iw) v e)
     (most : Limits) (cap : limits ≡ most) where
   abbrev wide : Room
-  wide = room_in ids oo ot io is
+  wide = room_in ids oo ot io is ow iw
 
-  pub load-graph : (size : Size) → x ≡ L.Graph size → outcome (gives size) ids₁ oo₁ ot₁ io₁ is₁ ≡ load_call most mode wide v e
+  pub load-graph : (size : Size) (weighted : Bool) → x ≡ L.Graph size weighted
+      → outcome (gives (size, weighted)) ids₁ oo₁ ot₁ io₁ is₁ ow₁ iw₁ ≡ load_call most mode wide v e
   unfolding load_call
-  load-graph size q =
-      let g = mapped-gives (outcome_by wide) (loaded limits mode wide v e) (outcome (gives size) ids₁ oo₁ ot₁ io₁ is₁)
-      (ap (λ y. outcome_left y ids₁ oo₁ ot₁ io₁ is₁) (sym q) ∙ told) in
+  load-graph size weighted q =
+      let g = mapped-gives (outcome_by wide) (loaded limits mode wide v e) (outcome (gives (size, weighted)) ids₁ oo₁ ot₁ io₁ is₁ ow₁ iw₁)
+      (ap (λ y. outcome_left y ids₁ oo₁ ot₁ io₁ is₁ ow₁ iw₁) (sym q) ∙ told) in
       g.2 ∙ ap (outcome_of wide) (sym g.1) ∙ ap (λ l. load_call l mode wide v e) cap
 
   pub load-refused : (r : Refusal) → x ≡ L.Refused r → length ids₁ ≡ length ids → length oo₁ ≡ length oo → length ot₁ ≡ length ot
-      → length io₁ ≡ length io → length is₁ ≡ length is
-      → (ids₂ : List ℤ) (oo₂ ot₂ io₂ is₂ : List ℕ) → Emptied ids₁ oo₁ ot₁ io₁ is₁ ids₂ oo₂ ot₂ io₂ is₂
-      → outcome (refuses r) ids₂ oo₂ ot₂ io₂ is₂ ≡ load_call most mode wide v e
+      → length io₁ ≡ length io → length is₁ ≡ length is → length ow₁ ≡ length ow → length iw₁ ≡ length iw
+      → (ids₂ : List ℤ) (oo₂ ot₂ io₂ is₂ ow₂ iw₂ : List ℕ) → Emptied ids₁ oo₁ ot₁ io₁ is₁ ow₁ iw₁ ids₂ oo₂ ot₂ io₂ is₂ ow₂ iw₂
+      → outcome (refuses r) ids₂ oo₂ ot₂ io₂ is₂ ow₂ iw₂ ≡ load_call most mode wide v e
   unfolding load_call outcome_of
-  load-refused r q li loo lot lio lis ids₂ oo₂ ot₂ io₂ is₂ f =
+  load-refused r q li loo lot lio lis low liw ids₂ oo₂ ot₂ io₂ is₂ ow₂ iw₂ f =
       let g = mapped-refuses (outcome_by wide) (loaded limits mode wide v e) r
-      (ap (λ y. outcome_left y ids₁ oo₁ ot₁ io₁ is₁) (sym q) ∙ told) in
-      rw (f.empty_ids, f.empty_out_offsets, f.empty_out_targets, f.empty_in_offsets, f.empty_in_sources, li, loo, lot, lio, lis)
-      (ap (outcome_of wide) (sym g) ∙ ap (λ l. load_call l mode wide v e) cap)
+      (ap (λ y. outcome_left y ids₁ oo₁ ot₁ io₁ is₁ ow₁ iw₁) (sym q) ∙ told) in
+      rw (f.empty_ids, f.empty_out_offsets, f.empty_out_targets, f.empty_in_offsets, f.empty_in_sources, f.empty_out_weights)
+      (rw (f.empty_in_weights, li, loo, lot, lio, lis, low, liw)
+      (ap (outcome_of wide) (sym g) ∙ ap (λ l. load_call l mode wide v e) cap))

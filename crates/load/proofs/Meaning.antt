@@ -20,7 +20,7 @@ use Rattle.basis.specs.Limits.{most_vertices, most_edges}
 use Rattle.basis.specs.Order.{same_z, rising_z}
 use Rattle.basis.specs.Scan.{each, mem}
 use Rattle.basis.proofs.Tests.{and_first, and_second, and_both, eqb_swap, and-swap}
-use Rattle.basis.proofs.Saids.{refused-given, onward-refused, mapped-refuses}
+use Rattle.basis.proofs.Saids.{refused-given, onward-refused}
 use Rattle.basis.proofs.Areas.{pad-length}
 use Rattle.basis.proofs.Orders.{signed-order, same-places}
 use Rattle.graph.specs.Arcs.{Arc, arcs}
@@ -32,9 +32,10 @@ use Rattle.lists.proofs.Accepts.{vertices-accepted, edges-accepted, vertices-ref
 use Rattle.lists.proofs.Lookups.{there}
 use Rattle.lists.specs.Good.{GoodVertices, GoodEdges, has_edge, lists_arc}
 use Rattle.load.specs.declared.Limits.{Limits}
-use Rattle.lists.specs.Files.{identifiers, vertex_number, edges_of, numbered, all_numbered}
-use Rattle.load.specs.Load.{Lists, Room, is_undirected, places_for, arc_room, with_room, listed_arcs, arcs_read}
-use Rattle.load.specs.Load.{lists_read, size_of, loaded, Outcome, outcome_of, load_call, capped}
+use Rattle.text.specs.Weighed.{has_weights}
+use Rattle.lists.specs.Files.{identifiers, Edge, vertex_number, edges_of, numbered, all_numbered}
+use Rattle.load.specs.Load.{Lists, Room, is_undirected, places_for, with_room, listed_arcs, lists_of, arcs_fit, arcs_read}
+use Rattle.load.specs.Load.{lists_read, size_of, given_of, loaded, Outcome, outcome_of, load_call, capped}
 use Rattle.load.specs.Good.{GoodLoad, RefusedLoad, unknown_mode}
 use Rattle.load.specs.Good.{vertex_fault, no_places, edge_fault, no_arcs, graph_left}
 use Rattle.load.proofs.Valids.{valid-file}
@@ -50,32 +51,33 @@ module _ (limits : Limits) (mode : ℕ) (room : Room) (vertices edges : List ℕ
   abbrev Why : Type 0
   Why = RefusedLoad limits mode room vertices edges r
 
-  abbrev has_arcs : List ℤ → List (ℤ × ℤ) → Bool
-  has_arcs ids list = arc_room room.out_targets room.in_sources (length (listed_arcs (is_undirected mode) ids list))
+  abbrev listed : List ℤ → List Edge → Lists
+  listed ids list = lists_of (is_undirected mode) (has_weights edges) ids list
 
-  abbrev edges_said : List ℤ → Said (List (ℤ × ℤ))
+  abbrev has_arcs : List ℤ → List Edge → Bool
+  has_arcs ids list = arcs_fit room.out_targets room.in_sources room.out_weights room.in_weights (listed ids list)
+
+  abbrev edges_said : List ℤ → Said (List Edge)
   edges_said ids = edges_of (is_undirected mode) limits.edges (place_in ids) edges
 
-  abbrev arcs_said : List ℤ → Said (List Arc)
-  arcs_said ids = arcs_read (is_undirected mode) limits.edges ids edges room.out_targets room.in_sources
-
   abbrev lists_said : List ℤ → Said Lists
-  lists_said ids = mapped (λ l. record { ids = ids; arcs = l }) (arcs_said ids)
+  lists_said ids =
+      arcs_read (is_undirected mode) limits.edges ids edges room.out_targets room.in_sources room.out_weights room.in_weights
 
   module _ (m : mode ≤ 1) (ids : List ℤ) (v : GoodVertices limits.vertices vertices ids) where
-    from-edges : places_for room ids ≡ true → arcs_said ids ≡ refuses r → Why
+    from-edges : places_for room ids ≡ true → lists_said ids ≡ refuses r → Why
     unfolding arcs_read
     from-edges p e = by (onward-refused (edges_said ids) _ r e)
       where
-        by : (edges_said ids ≡ refuses r) ⊎ ((list : List (ℤ × ℤ)) × (edges_said ids ≡ gives list)
-            × (with_room (has_arcs ids list) (listed_arcs (is_undirected mode) ids list) ≡ refuses r)) → Why
+        by : (edges_said ids ≡ refuses r) ⊎ ((list : List Edge) × (edges_said ids ≡ gives list)
+            × (with_room (has_arcs ids list) (listed ids list) ≡ refuses r)) → Why
         by (inl f) = edge_fault m ids v p ((edges-refused (is_undirected mode) limits.edges ids edges r).0 f)
         by (inr k) =
-            let w = room-refused (has_arcs ids k.0) (listed_arcs (is_undirected mode) ids k.0) r k.2 in
+            let w = room-refused (has_arcs ids k.0) (listed ids k.0) r k.2 in
             no_arcs m ids v p k.0 ((edges-accepted (is_undirected mode) limits.edges ids edges k.0).0 k.1) w.0 w.1
 
     from_places : (t : Bool) → places_for room ids ≡ t → onward (with_room t ids) lists_said ≡ refuses r → Why
-    from_places true p e = from-edges p (mapped-refuses (λ l. record { ids = ids; arcs = l }) (arcs_said ids) r (sym e))
+    from_places true p e = from-edges p e
     from_places false p e = no_places m ids v p (cc)
 
   refused_why : (t : Bool) → leb mode 1 ≡ t → check t unknown_number (lists_read limits (is_undirected mode) room vertices edges)
@@ -138,43 +140,44 @@ module _ (ids : List ℤ) (rise : rising_z ids ≡ true) (u w : ℕ) (hu : u < l
       let p = there ids rise id t in
       rw p.1 at (same-places signed-order (pos 0) ids rise (vertex_number (place_in ids id)) v p.0 h)
 
-  same-edge : (e : ℤ × ℤ) → is_there (place_in ids e.0) ≡ true → is_there (place_in ids e.1) ≡ true
-      → (eqb (numbered (place_in ids) e).0 u && eqb w (numbered (place_in ids) e).1) ≡ (same_z e.0 (name u) && same_z e.1 (name w))
-  same-edge e a b = rw (same_first e.0 u hu a, same_first e.1 w hw b, eqb_swap w (numbered (place_in ids) e).1)
+  same-edge : (e : Edge) → is_there (place_in ids e.0) ≡ true → is_there (place_in ids e.1.0) ≡ true
+      → (eqb (numbered (place_in ids) e).0 u && eqb w (numbered (place_in ids) e).1) ≡ (same_z e.0 (name u) && same_z e.1.0 (name w))
+  same-edge e a b = rw (same_first e.0 u hu a, same_first e.1.0 w hw b, eqb_swap w (numbered (place_in ids) e).1)
 
-  same_back : (e : ℤ × ℤ) → is_there (place_in ids e.0) ≡ true → is_there (place_in ids e.1) ≡ true
-      → (eqb (numbered (place_in ids) e).1 u && eqb w (numbered (place_in ids) e).0) ≡ (same_z e.0 (name w) && same_z e.1 (name u))
+  same_back : (e : Edge) → is_there (place_in ids e.0) ≡ true → is_there (place_in ids e.1.0) ≡ true
+      → (eqb (numbered (place_in ids) e).1 u && eqb w (numbered (place_in ids) e).0) ≡ (same_z e.0 (name w) && same_z e.1.0 (name u))
   same_back e a b =
-      rw (same_first e.0 w hw a, same_first e.1 u hu b, eqb_swap w (numbered (place_in ids) e).0)
+      rw (same_first e.0 w hw a, same_first e.1.0 u hu b, eqb_swap w (numbered (place_in ids) e).0)
       (and-swap (eqb (numbered (place_in ids) e).1 u) (eqb (numbered (place_in ids) e).0 w))
 
-  has_listed : (undirected : Bool) (es : List (ℤ × ℤ)) → each (λ e. is_there (place_in ids e.0) && is_there (place_in ids e.1)) es ≡ true
+  has_listed : (undirected : Bool) (es : List Edge) → each (λ e. is_there (place_in ids e.0) && is_there (place_in ids e.1.0)) es ≡ true
       → has_arc (arcs undirected (all_numbered (place_in ids) es)) u w ≡ lists_arc undirected es (name u) (name w)
   unfolding has_arc has_edge each
   has_listed false [] h = refl
   has_listed true [] h = refl
   has_listed undirected (e ∷ es) h =
-      let t = and_first (is_there (place_in ids e.0) && is_there (place_in ids e.1))
-      (each (λ e. is_there (place_in ids e.0) && is_there (place_in ids e.1)) es) h in
-      let a = and_first (is_there (place_in ids e.0)) (is_there (place_in ids e.1)) t in
-      let b = and_second (is_there (place_in ids e.0)) (is_there (place_in ids e.1)) t in
+      let t = and_first (is_there (place_in ids e.0) && is_there (place_in ids e.1.0))
+      (each (λ e. is_there (place_in ids e.0) && is_there (place_in ids e.1.0)) es) h in
+      let a = and_first (is_there (place_in ids e.0)) (is_there (place_in ids e.1.0)) t in
+      let b = and_second (is_there (place_in ids e.0)) (is_there (place_in ids e.1.0)) t in
       go undirected (same-edge e a b) (same_back e a b)
-      (has_listed undirected es (and_second (is_there (place_in ids e.0) && is_there (place_in ids e.1))
-      (each (λ e. is_there (place_in ids e.0) && is_there (place_in ids e.1)) es) h))
+      (has_listed undirected es (and_second (is_there (place_in ids e.0) && is_there (place_in ids e.1.0))
+      (each (λ e. is_there (place_in ids e.0) && is_there (place_in ids e.1.0)) es) h))
     where
       go : (t : Bool) → (eqb (numbered (place_in ids) e).0 u && eqb w (numbered (place_in ids) e).1)
-          ≡ (same_z e.0 (name u) && same_z e.1 (name w))
-          → (eqb (numbered (place_in ids) e).1 u && eqb w (numbered (place_in ids) e).0) ≡ (same_z e.0 (name w) && same_z e.1 (name u))
+          ≡ (same_z e.0 (name u) && same_z e.1.0 (name w))
+          → (eqb (numbered (place_in ids) e).1 u && eqb w (numbered (place_in ids) e).0) ≡
+          (same_z e.0 (name w) && same_z e.1.0 (name u))
           → has_arc (arcs t (all_numbered (place_in ids) es)) u w ≡ lists_arc t es (name u) (name w)
           → has_arc (arcs t (all_numbered (place_in ids) (e ∷ es))) u w ≡ lists_arc t (e ∷ es) (name u) (name w)
-      go false p q i = rw (p, i) (or-three (same_z e.0 (name u) && same_z e.1 (name w)) (has_edge es (name u) (name w)))
+      go false p q i = rw (p, i) (or-three (same_z e.0 (name u) && same_z e.1.0 (name w)) (has_edge es (name u) (name w)))
         where
           or-three : (x y : Bool) → (x || (y || false)) ≡ ((x || y) || false)
           or-three true y = refl
           or-three false y = refl
       go true p q i =
           rw (p, q, i)
-          (or-four (same_z e.0 (name u) && same_z e.1 (name w)) (same_z e.0 (name w) && same_z e.1 (name u))
+          (or-four (same_z e.0 (name u) && same_z e.1.0 (name w)) (same_z e.0 (name w) && same_z e.1.0 (name u))
           (has_edge es (name u) (name w)) (has_edge es (name w) (name u)))
 
 -- ---- an accepted load
@@ -193,6 +196,9 @@ module _ (limits : Limits) (mode : ℕ) (room : Room) (vertices edges : List ℕ
   ok : GoodLoad limits mode room vertices edges g
   ok = (load-accepted limits mode room vertices edges g).0 h
 
+  arcs-are : g.arcs ≡ listed_arcs undirected g.ids ok.list
+  arcs-are = ap (λ (l : Lists). l.arcs) ok.lists_are
+
   abbrev es : List Arc
   es = all_numbered (place_in g.ids) ok.list
 
@@ -207,15 +213,15 @@ module _ (limits : Limits) (mode : ℕ) (room : Room) (vertices edges : List ℕ
       room.in_sources
 
   -- the answer is the graph's size, and the areas hold it
-  pub load-answer : outcome.answer ≡ gives (size_of g)
+  pub load-answer : outcome.answer ≡ gives (size_of g, g.weighted)
   unfolding load_call outcome_of
-  load-answer = ap (λ x. mapped size_of x) h
+  load-answer = ap (λ x. mapped given_of x) h
 
   left-stored : graph ≡ stored
   unfolding load_call outcome_of
   left-stored =
       rw h (ap (λ (l : List Arc). stored_graph (length g.ids) l (pad_z room.ids g.ids) room.out_offsets room.out_targets
-      room.in_offsets room.in_sources) ok.arcs_are)
+      room.in_offsets room.in_sources) arcs-are)
 
   sound-ids : sound_ids stored ≡ true
   unfolding sound_ids
@@ -226,10 +232,10 @@ module _ (limits : Limits) (mode : ℕ) (room : Room) (vertices edges : List ℕ
       ok.good_vertices.rise)
 
   out-fits : length (arcs undirected es) ≤ room.out_targets
-  out-fits = rw (← ok.arcs_are) ok.out_targets_fit
+  out-fits = rw (← arcs-are) ok.out_targets_fit
 
   in-fits : length (arcs undirected es) ≤ room.in_sources
-  in-fits = rw (← ok.arcs_are) ok.in_sources_fit
+  in-fits = rw (← arcs-are) ok.in_sources_fit
 
   sound-within : limits.vertices ≤ most_vertices → limits.edges ≤ most_edges → sound_graph graph ≡ true
   sound-within a b =
@@ -242,14 +248,14 @@ module _ (limits : Limits) (mode : ℕ) (room : Room) (vertices edges : List ℕ
       room.in_sources
       ok.out_offsets_fit out-fits ok.in_offsets_fit in-fits sound-ids (omega arith) (omega arith)
 
-  same-list : (list : List (ℤ × ℤ)) → GoodEdges undirected limits.edges g.ids edges list → ok.list ≡ list
+  same-list : (list : List Edge) → GoodEdges undirected limits.edges g.ids edges list → ok.list ≡ list
   same-list list fine =
       let a = (edges-accepted undirected limits.edges g.ids edges ok.list).1 ok.good_edges in
       let b = (edges-accepted undirected limits.edges g.ids edges list).1 fine in
       cc
 
   -- w is in u's outward part exactly where the edge file has that arc, and u in w's inward part
-  pub load-outward : (list : List (ℤ × ℤ)) → GoodEdges undirected limits.edges g.ids edges list → (u w : ℕ) → u < length g.ids
+  pub load-outward : (list : List Edge) → GoodEdges undirected limits.edges g.ids edges list → (u w : ℕ) → u < length g.ids
       → w < length g.ids
       → mem w (outward graph u) ≡ lists_arc undirected list (get_or g.ids u (pos 0)) (get_or g.ids w (pos 0))
   load-outward list fine u w hu hw =
@@ -259,9 +265,9 @@ module _ (limits : Limits) (mode : ℕ) (room : Room) (vertices edges : List ℕ
       room.in_sources
       ok.out_offsets_fit out-fits ok.in_offsets_fit in-fits u w hu
       ∙ has_listed g.ids ok.good_vertices.rise u w hu hw undirected ok.list ok.good_edges.there
-      ∙ ap (λ (l : List (ℤ × ℤ)). lists_arc undirected l (get_or g.ids u (pos 0)) (get_or g.ids w (pos 0))) (same-list list fine)
+      ∙ ap (λ (l : List Edge). lists_arc undirected l (get_or g.ids u (pos 0)) (get_or g.ids w (pos 0))) (same-list list fine)
 
-  pub load-inward : (list : List (ℤ × ℤ)) → GoodEdges undirected limits.edges g.ids edges list → (u w : ℕ) → u < length g.ids
+  pub load-inward : (list : List Edge) → GoodEdges undirected limits.edges g.ids edges list → (u w : ℕ) → u < length g.ids
       → w < length g.ids
       → mem u (inward graph w) ≡ lists_arc undirected list (get_or g.ids u (pos 0)) (get_or g.ids w (pos 0))
   load-inward list fine u w hu hw =
@@ -271,7 +277,7 @@ module _ (limits : Limits) (mode : ℕ) (room : Room) (vertices edges : List ℕ
       room.in_sources
       ok.out_offsets_fit out-fits ok.in_offsets_fit in-fits u w hw
       ∙ has_listed g.ids ok.good_vertices.rise u w hu hw undirected ok.list ok.good_edges.there
-      ∙ ap (λ (l : List (ℤ × ℤ)). lists_arc undirected l (get_or g.ids u (pos 0)) (get_or g.ids w (pos 0))) (same-list list fine)
+      ∙ ap (λ (l : List Edge). lists_arc undirected l (get_or g.ids u (pos 0)) (get_or g.ids w (pos 0))) (same-list list fine)
 
   arc-back : (t p q : Bool) → t ≡ true → (p || (t && q)) ≡ (q || (t && p))
   arc-back t true true e = refl

@@ -1,4 +1,4 @@
--- The refusal of a load: its number is from 1 to 12, its file none or one of the two, its line within their limits or the one after, its
+-- The refusal of a load: its number is from 1 to 13, its file none or one of the two, its line within their limits or the one after, its
 -- column within their bytes or the one after. Assumes nothing.
 use Prim.Native.Nat.{ℕ, ◌+◌, ◌≤◌, ◌<◌}
 use mathlib.Core.Bool.{Bool, true, false}
@@ -14,11 +14,12 @@ use Rattle.graph.specs.Find.{place_in}
 use Rattle.lists.specs.Files.{identifiers, edges_of}
 use Rattle.lists.proofs.Refused.{vertices-refusal, edges-refusal}
 use Rattle.load.specs.declared.Limits.{Limits}
-use Rattle.load.specs.Load.{Room, is_undirected, places_for, arc_room, with_room, listed_arcs, arcs_read, lists_read, loaded}
+use Rattle.text.specs.Weighed.{has_weights}
+use Rattle.load.specs.Load.{Room, is_undirected, places_for, with_room, lists_of, arcs_fit, arcs_read, lists_read, loaded}
 
 pub record LoadRefusal (limits : Limits) (size : ℕ) (r : Refusal) : Type 0 where
   pub some : 0 < r.number
-  pub low : r.number ≤ 12
+  pub low : r.number ≤ 13
   pub in_file : r.file ≤ 2
   pub in_lines : r.line ≤ limits.vertices + limits.edges + 1
   pub in_bytes : r.column ≤ size + 1
@@ -53,9 +54,8 @@ module _ (limits : Limits) (size : ℕ) where
       (λ i. refused-onward (LoadRefusal limits size) (with_room (places_for room i) i) _
       (of_room (places_for room i) i)
       (λ i. let es = edges_of undirected limits.edges (place_in i) e in
-      refused-onward (LoadRefusal limits size) (arcs_read undirected limits.edges i e room.out_targets room.in_sources) _
-      (refused-onward (LoadRefusal limits size) es _ (of-file edge_file limits.edges (length e) (omega arith) (omega arith) le es
+      refused-onward (LoadRefusal limits size) es _ (of-file edge_file limits.edges (length e) (omega arith) (omega arith) le es
       (edges-refusal undirected limits.edges (place_in i) e))
-      (λ es. let l = listed_arcs undirected i es in of_room (arc_room room.out_targets room.in_sources (length l)) l))
-      (λ l. tt))))
+      (λ es. let l = lists_of undirected (has_weights e) i es in
+      of_room (arcs_fit room.out_targets room.in_sources room.out_weights room.in_weights l) l))))
       (λ _. record { some = omega arith; low = omega arith; in_file = omega arith; in_lines = omega arith; in_bytes = omega arith })

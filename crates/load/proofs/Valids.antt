@@ -12,36 +12,36 @@ use lib.IntN.{ℤ}
 use Rattle.basis.specs.Refusal.{gives, edge_file}
 use Rattle.basis.specs.Order.{rising_z}
 use Rattle.basis.proofs.Tests.{clash}
-use Rattle.text.specs.Line.{edge_form}
+use Rattle.text.specs.Weighed.{edge_form_by, has_weights}
 use Rattle.text.specs.File.{Before, first, after, Passes}
-use Rattle.text.proofs.Breaks.{edge-right}
+use Rattle.text.proofs.Listed.{listed-right}
 use Rattle.text.proofs.Files.{file-accepted}
 use Rattle.graph.specs.Arcs.{Arc}
 use Rattle.graph.specs.Find.{place_in}
 use Rattle.store.proofs.Order.{Fine, Smaller, Lex, Valid, lex-cons}
-use Rattle.lists.specs.Files.{edge_test, edges_of, numbered, all_numbered}
+use Rattle.lists.specs.Files.{Edge, edge_test, edges_of, numbered, all_numbered}
 use Rattle.lists.proofs.Lookups.{there, less-numbers, same_numbers}
 use Rattle.lists.proofs.Accepts.{Tested, test-passed}
 
 -- ---- of an edge, and of an edge after another
 module _ (ids : List ℤ) (rise : rising_z ids ≡ true) where
   module _ (undirected : Bool) where
-    pub fine-edge : (before : Before (ℤ × ℤ)) (e : ℤ × ℤ) → Tested undirected ids before e → Fine (length ids) (numbered (place_in ids) e)
+    pub fine-edge : (before : Before Edge) (e : Edge) → Tested undirected ids before e → Fine (length ids) (numbered (place_in ids) e)
     fine-edge before e t =
         record {
           source = (there ids rise e.0 t.from).0;
-          target = (there ids rise e.1 t.to).0;
+          target = (there ids rise e.1.0 t.to).0;
           apart = eqb-false (numbered (place_in ids) e).0 (numbered (place_in ids) e).1
-              (sym (same_numbers ids rise e.0 e.1 t.from t.to) ∙ t.apart);
+              (sym (same_numbers ids rise e.0 e.1.0 t.from t.to) ∙ t.apart);
         }
 
-  small-edge : (undirected : Bool) (before : Before (ℤ × ℤ)) (e : ℤ × ℤ) → Tested undirected ids before e
+  small-edge : (undirected : Bool) (before : Before Edge) (e : Edge) → Tested undirected ids before e
       → Smaller undirected (numbered (place_in ids) e)
   small-edge false before e t = tt
   small-edge true before e t =
       let f = (fine-edge true before e t).apart in
       let l = ltb-false (numbered (place_in ids) e).1 (numbered (place_in ids) e).0
-      (sym (less-numbers ids rise e.1 e.0 t.to t.from) ∙ t.smaller) in
+      (sym (less-numbers ids rise e.1.0 e.0 t.to t.from) ∙ t.smaller) in
       omega arith
 
   lex-of : (d e : Arc) → (ltb d.0 e.0 || (eqb d.0 e.0 && ltb d.1 e.1)) ≡ true → Lex d e
@@ -54,17 +54,17 @@ module _ (ids : List ℤ) (rise : rising_z ids ≡ true) where
       go false true true hp hq hr t = let z = eqb-true d.0 e.0 hq in (omega arith, λ _. ltb-true d.1 e.1 hr)
 
   module _ (undirected : Bool) where
-    lex-edge : (c : Before (ℤ × ℤ)) (d e : ℤ × ℤ) → Tested undirected ids c d → Tested undirected ids (after d) e
+    lex-edge : (c : Before Edge) (d e : Edge) → Tested undirected ids c d → Tested undirected ids (after d) e
         → Lex (numbered (place_in ids) d) (numbered (place_in ids) e)
     lex-edge c d e s t =
         lex-of (numbered (place_in ids) d) (numbered (place_in ids) e)
         (rw (
           less-numbers ids rise d.0 e.0 s.from t.from,
           same_numbers ids rise d.0 e.0 s.from t.from,
-          less-numbers ids rise d.1 e.1 s.to t.to,
+          less-numbers ids rise d.1.0 e.1.0 s.to t.to,
         ) at t.above)
 
-    valid-edges : (before : Before (ℤ × ℤ)) (es : List (ℤ × ℤ)) → Passes (edge_test undirected (place_in ids)) before es
+    valid-edges : (before : Before Edge) (es : List Edge) → Passes (edge_test undirected (place_in ids)) before es
         → Valid undirected (length ids) (all_numbered (place_in ids) es)
     valid-edges before [] p = record { fine = tt; small = tt; pairs = tt }
     valid-edges before (e ∷ []) p =
@@ -83,7 +83,8 @@ module _ (ids : List ℤ) (rise : rising_z ids ≡ true) where
         }
 
     -- the edges of a file that was accepted
-    pub valid-file : (most : ℕ) (s : List ℕ) (es : List (ℤ × ℤ)) → edges_of undirected most (place_in ids) s ≡ gives es
+    pub valid-file : (most : ℕ) (s : List ℕ) (es : List Edge) → edges_of undirected most (place_in ids) s ≡ gives es
         → Valid undirected (length ids) (all_numbered (place_in ids) es)
     valid-file most s es e =
-        valid-edges first es ((file-accepted edge_form edge-right edge_file most (edge_test undirected (place_in ids)) s es).0 e).pass
+        valid-edges first es ((file-accepted (edge_form_by (has_weights s)) (listed-right (has_weights s)) edge_file most
+        (edge_test undirected (place_in ids)) s es).0 e).pass

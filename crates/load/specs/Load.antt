@@ -1,25 +1,29 @@
--- 01 "Lists", "The loaded graph": what a load answers, and what stands in the five areas then.
-use Rattle.std.specs.Prelude.{ℕ, ◌+◌, min, Bool, ◌&&◌, List, ℤ, pos, length, eqb, leb, ltb}
+-- 01 "Lists", "The loaded graph", 02 K3: what a load answers, and what stands in the seven areas then.
+use Rattle.std.specs.Prelude.{ℕ, ◌+◌, min, Bool, cond, ◌&&◌, List, [], ℤ, pos, length, eqb, leb, ltb}
 use Rattle.basis.specs.Refusal.{Said, gives, refuses, no_room, unknown_number, onward, mapped, check}
 use Rattle.basis.specs.Area.{area_of}
 use Rattle.basis.specs.Limits.{most_vertices, most_edges, desk_vertices, desk_edges}
 use Rattle.graph.specs.declared.Size.{Size}
 use Rattle.graph.specs.Find.{place_in}
 use Rattle.graph.specs.Arcs.{Arc, arcs, backward, parts, offsets}
+use Rattle.store.specs.Weigh.{Weighed, by_weight, weighed, arcs_weighed, backward_weighed}
+use Rattle.text.specs.Weighed.{has_weights}
 use Rattle.load.specs.declared.Limits.{Limits}
 use Rattle.load.specs.declared.Loaded.{Loaded}
 use Rattle.load.specs.declared.Loaded.TheVariants as L
-use Rattle.lists.specs.Files.{identifiers, edges_of, all_numbered}
+use Rattle.lists.specs.Files.{identifiers, Edge, edges_of, all_numbered, weights_in}
 
--- "a definition that gives this paper's number and values for each of its cases"
-abbrev pub says : Loaded → Said Size
-says (L.Graph size) = gives size
+-- "a definition that gives this paper's number and values for each of its cases": the graph's size, and whether it has weights
+abbrev pub says : Loaded → Said (Size × Bool)
+says (L.Graph size weighted) = gives (size, weighted)
 says (L.Refused r) = refuses r
 
--- what two files say: the identifiers, and the arcs between vertex numbers
+-- what two files say: the identifiers, the arcs between vertex numbers, whether they have weights, and if so each arc with its weight
 pub record Lists : Type 0 where
   pub ids : List ℤ
   pub arcs : List Arc
+  pub weighted : Bool
+  pub weighed : List Weighed
 
 -- how many places the lent areas have
 pub record Room : Type 0 where
@@ -28,6 +32,8 @@ pub record Room : Type 0 where
   pub out_targets : ℕ
   pub in_offsets : ℕ
   pub in_sources : ℕ
+  pub out_weights : ℕ
+  pub in_weights : ℕ
 
 -- "mode (0 undirected, 1 directed)"
 abbrev pub is_undirected : ℕ → Bool
@@ -50,23 +56,40 @@ abbrev pub with_room : {A : Type 0} → Bool → A → Said A
 with_room enough x = check enough no_room (gives x)
 
 -- the arcs of a list of edges over the given identifiers, by the numbers of their vertices
-abbrev pub listed_arcs : Bool → List ℤ → List (ℤ × ℤ) → List Arc
+abbrev pub listed_arcs : Bool → List ℤ → List Edge → List Arc
 listed_arcs undirected ids es = arcs undirected (all_numbered (place_in ids) es)
 
--- the arcs of an edge file over the given identifiers, if there is room for them
-unfoldable pub arcs_read : Bool → ℕ → List ℤ → List ℕ → ℕ → ℕ → Said (List Arc)
-arcs_read undirected most ids s t t' =
+-- 02 K3: "a weight beside each arc, equal both ways in an undirected graph": the same arcs, each with the weight of its edge
+abbrev pub listed_weights : Bool → List ℤ → List Edge → List Weighed
+listed_weights undirected ids es = arcs_weighed undirected (weighed (all_numbered (place_in ids) es) (weights_in es))
+
+-- what two files say, by the identifiers, whether the edge file has weights, and its edges
+abbrev pub lists_of : Bool → Bool → List ℤ → List Edge → Lists
+lists_of undirected weighted ids es =
+    record {
+      ids = ids;
+      arcs = listed_arcs undirected ids es;
+      weighted = weighted;
+      weighed = cond weighted (listed_weights undirected ids es) [];
+    }
+
+-- "room for the arcs each way", and for the weights each way, which "need room .. only for a weighted graph"
+abbrev pub arcs_fit : ℕ → ℕ → ℕ → ℕ → Lists → Bool
+arcs_fit t t' w w' g = arc_room t t' (length g.arcs) && arc_room w w' (length g.weighed)
+
+-- the arcs of an edge file over the given identifiers, if there is room for them and their weights
+unfoldable pub arcs_read : Bool → ℕ → List ℤ → List ℕ → ℕ → ℕ → ℕ → ℕ → Said Lists
+arcs_read undirected most ids s t t' w w' =
     onward (edges_of undirected most (place_in ids) s)
-    (λ es. with_room (arc_room t t' (length (listed_arcs undirected ids es))) (listed_arcs undirected ids es))
+    (λ es. with_room (arcs_fit t t' w w' (lists_of undirected (has_weights s) ids es)) (lists_of undirected (has_weights s) ids es))
 
 -- "the vertex file line by line (1, 2, 3, 4); room for identifiers (n places) and offsets (n+1 places each way); the edge file line by line
--- (1, 2, 3, 5, 6, 4, 7); room for the arcs each way"
+-- (1, 2, 3, 5, 6, 4, 7); room for the arcs each way"; since 02 K3 with 13 "after 3", and with room for the weights
 unfoldable pub lists_read : Limits → Bool → Room → List ℕ → List ℕ → Said Lists
 lists_read limits undirected room vertices edges =
     onward (identifiers limits.vertices vertices)
     (λ ids. onward (with_room (places_for room ids) ids)
-    (λ ids. mapped (λ l. record { ids = ids; arcs = l })
-    (arcs_read undirected limits.edges ids edges room.out_targets room.in_sources)))
+    (λ ids. arcs_read undirected limits.edges ids edges room.out_targets room.in_sources room.out_weights room.in_weights))
 
 -- "the mode (12)" before all
 unfoldable pub loaded : Limits → ℕ → Room → List ℕ → List ℕ → Said Lists
@@ -75,38 +98,65 @@ loaded limits mode room vertices edges =
 
 -- a load's outcome: its answer, and the content of each area
 pub record Outcome : Type 0 where
-  pub answer : Said Size
+  pub answer : Said (Size × Bool)
   pub ids : List ℤ
   pub out_offsets : List ℕ
   pub out_targets : List ℕ
   pub in_offsets : List ℕ
   pub in_sources : List ℕ
+  pub out_weights : List ℕ
+  pub in_weights : List ℕ
 
 -- the same, by its fields in order
-abbrev pub outcome : Said Size → List ℤ → List ℕ → List ℕ → List ℕ → List ℕ → Outcome
-outcome answer ids oo ot io is = record { answer = answer; ids = ids; out_offsets = oo; out_targets = ot; in_offsets = io; in_sources = is }
+abbrev pub outcome : Said (Size × Bool) → List ℤ → List ℕ → List ℕ → List ℕ → List ℕ → List ℕ → List ℕ → Outcome
+outcome answer ids oo ot io is ow iw =
+    record {
+      answer = answer;
+      ids = ids;
+      out_offsets = oo;
+      out_targets = ot;
+      in_offsets = io;
+      in_sources = is;
+      out_weights = ow;
+      in_weights = iw;
+    }
 
--- a `Room`, by its fields in order: identifiers, outward offsets and targets, inward offsets and sources
-abbrev pub room_of : ℕ → ℕ → ℕ → ℕ → ℕ → Room
-room_of ids oo ot io is = record { ids = ids; out_offsets = oo; out_targets = ot; in_offsets = io; in_sources = is }
+-- a `Room`, by its fields in order: identifiers, outward offsets and targets, inward offsets and sources, outward and inward weights
+abbrev pub room_of : ℕ → ℕ → ℕ → ℕ → ℕ → ℕ → ℕ → Room
+room_of ids oo ot io is ow iw =
+    record {
+      ids = ids;
+      out_offsets = oo;
+      out_targets = ot;
+      in_offsets = io;
+      in_sources = is;
+      out_weights = ow;
+      in_weights = iw;
+    }
 
--- the room of five areas: how many places each has
-abbrev pub room_in : List ℤ → List ℕ → List ℕ → List ℕ → List ℕ → Room
-room_in ids oo ot io is = room_of (length ids) (length oo) (length ot) (length io) (length is)
+-- the room of seven areas: how many places each has
+abbrev pub room_in : List ℤ → List ℕ → List ℕ → List ℕ → List ℕ → List ℕ → List ℕ → Room
+room_in ids oo ot io is ow iw = room_of (length ids) (length oo) (length ot) (length io) (length is) (length ow) (length iw)
 
 -- how large the graph is that two files say
 abbrev pub size_of : Lists → Size
 size_of g = record { vertices = length g.ids; arcs = length g.arcs }
 
+-- what a load gives: the graph's size, and whether it has weights
+abbrev pub given_of : Lists → Size × Bool
+given_of g = (size_of g, g.weighted)
+
 -- the outcome of what two files say: a refusal fills "every area lent for writing with zero", and after success "places beyond the ones
 -- used are zero"
 unfoldable pub outcome_of : Room → Said Lists → Outcome
 outcome_of room g =
-    outcome (mapped size_of g) (area_of (pos 0) room.ids (λ g. g.ids) g)
+    outcome (mapped given_of g) (area_of (pos 0) room.ids (λ g. g.ids) g)
     (area_of 0 room.out_offsets (λ g. offsets g.arcs (length g.ids)) g)
     (area_of 0 room.out_targets (λ g. parts g.arcs (length g.ids)) g)
     (area_of 0 room.in_offsets (λ g. offsets (backward g.arcs) (length g.ids)) g)
     (area_of 0 room.in_sources (λ g. parts (backward g.arcs) (length g.ids)) g)
+    (area_of 0 room.out_weights (λ g. parts (by_weight g.weighed) (length g.ids)) g)
+    (area_of 0 room.in_weights (λ g. parts (by_weight (backward_weighed g.weighed)) (length g.ids)) g)
 
 -- the whole call
 unfoldable pub load_call : Limits → ℕ → Room → List ℕ → List ℕ → Outcome
@@ -128,6 +178,6 @@ desk = record { vertices = desk_vertices; edges = desk_edges }
 abbrev pub desk_arcs : ℕ
 desk_arcs = desk_edges + desk_edges
 
--- areas for a graph within them: the identifiers, then the offsets and the arcs outward, then as many inward
+-- areas for a graph within them: the identifiers, then the offsets and the arcs outward, then as many inward, and the weights of both
 abbrev pub desk_room : Room
-desk_room = room_of desk_vertices (desk_vertices + 1) desk_arcs (desk_vertices + 1) desk_arcs
+desk_room = room_of desk_vertices (desk_vertices + 1) desk_arcs (desk_vertices + 1) desk_arcs desk_arcs desk_arcs

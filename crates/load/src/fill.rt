@@ -1,11 +1,14 @@
-// The graph of two files in five areas: the identifiers as they are read, then the edges, outward and inward.
-ghost use Rattle.std.specs.Prelude.{◌≡◌, true, false};
+// The graph of two files in seven areas: the identifiers as they are read, then the edges, outward and inward, and their weights.
+ghost use Rattle.std.specs.Prelude.{◌≡◌, true, false, length};
+ghost use Rattle.store.specs.Weigh.{spread_weighed_left};
 ghost use Rattle.load.specs.Load.{vertex_room, room_in};
-ghost use Rattle.load.specs.Steps.{Storing, arranged_call, arranged_left, filled_call, filled_left, filled_load, outcome_left};
+ghost use Rattle.load.specs.Steps.{fits_all, turned_call, Storing, arranged_call, arranged_left, Copied, filled_call, filled_left};
+ghost use Rattle.load.specs.Steps.{filled_load, outcome_left};
 
 use crate::{Limits, Loaded};
 use basis::Refusal;
-use basis::area::copy;
+use basis::area::{clear, copy};
+use basis::order::lesser;
 use basis::refusal::{NO_ROOM, UNKNOWN_NUMBER};
 use graph::Size;
 use lists::Listed;
@@ -13,8 +16,56 @@ use lists::edges::read_edges;
 use lists::vertices::read_vertices;
 use store::spread::{lacks, spread};
 use store::sums::sum_up;
+use store::weigh::spread_weighed;
+use text::line::has_weights;
 
-// The edges of a file: stored by their first ends in one pair of areas as they are read, and their arcs the other way in the other pair.
+// Whether areas of these lengths have places for the arcs of m edges each way, and for their weights if they have any.
+fn arcs_fit(
+    undirected: bool,
+    weighted: bool,
+    m: usize,
+    targets: usize,
+    sources: usize,
+    weights: usize,
+    beside: usize,
+) -> bool
+    ensures { result ≡ fits_all undirected weighted m targets sources weights beside }
+{
+    if lacks(lesser(targets, sources), m, undirected) {
+        return false;
+    }
+    if weighted {
+        return !lacks(lesser(weights, beside), m, undirected);
+    }
+    true
+}
+
+// One way of a graph from the other, with its weights if it has any.
+fn turn(
+    weighted: bool,
+    undirected: bool,
+    n: usize,
+    offsets: &[usize],
+    targets: &[usize],
+    weights: &[usize],
+    back: &mut [usize],
+    sources: &mut [usize],
+    beside: &mut [usize],
+) -> bool
+    ensures { spread_weighed_left result back.new sources.new beside.new
+        ≡ turned_call weighted undirected n offsets.now targets.now weights.now
+        (length back.old) (length sources.old) (length beside.old) }
+{
+    if weighted {
+        return spread_weighed(
+            back, sources, beside, offsets, targets, weights, undirected, n,
+        );
+    }
+    clear(beside);
+    spread(back, sources, offsets, targets, undirected, n)
+}
+
+// The edges of a file: stored by their first ends in three areas as they are read, and their arcs the other way in the other three.
 fn arrange(
     s: &[u8],
     most: usize,
@@ -22,27 +73,39 @@ fn arrange(
     ids: &[i64],
     offsets: &mut [usize],
     targets: &mut [usize],
+    weights: &mut [usize],
     back: &mut [usize],
     sources: &mut [usize],
+    beside: &mut [usize],
 ) -> Listed
     requires { Storing ids.now offsets.old back.old }
-    ensures { arranged_left result offsets.new targets.new back.new sources.new
+    ensures { arranged_left result offsets.new targets.new weights.new back.new sources.new
+        beside.new
         ≡ arranged_call undirected most ids.now s.now
-        offsets.old targets.old back.old sources.old }
+        offsets.old targets.old weights.old back.old sources.old
+        beside.old }
 {
     let n = ids.len();
-    let listed = read_edges(s, most, undirected, ids, offsets, targets);
+    let weighted = has_weights(s);
+    let listed = read_edges(s, most, undirected, ids, offsets, targets, weights);
     match listed {
         Listed::Refused(r) => Listed::Refused(r),
         Listed::Lines(m) => {
-            if lacks(targets.len(), m, undirected) {
-                return Listed::Refused(Refusal::plain(NO_ROOM));
-            }
-            if lacks(sources.len(), m, undirected) {
+            if !arcs_fit(
+                undirected,
+                weighted,
+                m,
+                targets.len(),
+                sources.len(),
+                weights.len(),
+                beside.len(),
+            ) {
                 return Listed::Refused(Refusal::plain(NO_ROOM));
             }
             sum_up(offsets, n + 1);
-            spread(back, sources, offsets, targets, undirected, n);
+            turn(
+                weighted, undirected, n, offsets, targets, weights, back, sources, beside,
+            );
             Listed::Lines(m)
         }
     }
@@ -57,11 +120,15 @@ fn fill_directed(
     out_targets: &mut [usize],
     in_offsets: &mut [usize],
     in_sources: &mut [usize],
+    out_weights: &mut [usize],
+    in_weights: &mut [usize],
 ) -> Loaded
     requires { Storing ids.now out_offsets.old in_offsets.old }
     ensures { filled_left result out_offsets.new out_targets.new in_offsets.new in_sources.new
+        out_weights.new in_weights.new
         ≡ filled_call false most ids.now s.now
-        out_offsets.old out_targets.old in_offsets.old in_sources.old }
+        out_offsets.old out_targets.old in_offsets.old in_sources.old
+        out_weights.old in_weights.old }
 {
     let n = ids.len();
     let listed = arrange(
@@ -71,16 +138,41 @@ fn fill_directed(
         ids,
         out_offsets,
         out_targets,
+        out_weights,
         in_offsets,
         in_sources,
+        in_weights,
     );
     match listed {
         Listed::Refused(r) => Loaded::Refused(r),
-        Listed::Lines(m) => Loaded::Graph(Size {
-            vertices: n,
-            arcs: m,
-        }),
+        Listed::Lines(m) => Loaded::Graph(
+            Size {
+                vertices: n,
+                arcs: m,
+            },
+            has_weights(s),
+        ),
     }
+}
+
+// The front of three areas to three others.
+fn copy_arcs(
+    n: usize,
+    arcs: usize,
+    out_offsets: &[usize],
+    out_targets: &[usize],
+    out_weights: &[usize],
+    in_offsets: &mut [usize],
+    in_sources: &mut [usize],
+    in_weights: &mut [usize],
+)
+    ensures { Copied n arcs out_offsets.now out_targets.now out_weights.now
+        in_offsets.old in_sources.old in_weights.old
+        in_offsets.new in_sources.new in_weights.new }
+{
+    copy(out_offsets, n, in_offsets);
+    copy(out_targets, arcs, in_sources);
+    copy(out_weights, arcs, in_weights);
 }
 
 // The arcs of an undirected edge file: read into the inward areas, both arcs of every edge stored outward, and the same inward.
@@ -92,11 +184,15 @@ fn fill_undirected(
     out_targets: &mut [usize],
     in_offsets: &mut [usize],
     in_sources: &mut [usize],
+    out_weights: &mut [usize],
+    in_weights: &mut [usize],
 ) -> Loaded
     requires { Storing ids.now out_offsets.old in_offsets.old }
     ensures { filled_left result out_offsets.new out_targets.new in_offsets.new in_sources.new
+        out_weights.new in_weights.new
         ≡ filled_call true most ids.now s.now
-        out_offsets.old out_targets.old in_offsets.old in_sources.old }
+        out_offsets.old out_targets.old in_offsets.old in_sources.old
+        out_weights.old in_weights.old }
 {
     let n = ids.len();
     let listed = arrange(
@@ -106,16 +202,26 @@ fn fill_undirected(
         ids,
         in_offsets,
         in_sources,
+        in_weights,
         out_offsets,
         out_targets,
+        out_weights,
     );
     match listed {
         Listed::Refused(r) => Loaded::Refused(r),
         Listed::Lines(m) => {
             let arcs = m + m;
-            copy(out_offsets, n + 1, in_offsets);
-            copy(out_targets, arcs, in_sources);
-            Loaded::Graph(Size { vertices: n, arcs })
+            copy_arcs(
+                n + 1,
+                arcs,
+                out_offsets,
+                out_targets,
+                out_weights,
+                in_offsets,
+                in_sources,
+                in_weights,
+            );
+            Loaded::Graph(Size { vertices: n, arcs }, has_weights(s))
         }
     }
 }
@@ -130,11 +236,15 @@ fn store_edges(
     out_targets: &mut [usize],
     in_offsets: &mut [usize],
     in_sources: &mut [usize],
+    out_weights: &mut [usize],
+    in_weights: &mut [usize],
 ) -> Loaded
     requires { Storing ids.now out_offsets.old in_offsets.old }
     ensures { filled_left result out_offsets.new out_targets.new in_offsets.new in_sources.new
+        out_weights.new in_weights.new
         ≡ filled_call undirected most ids.now s.now
-        out_offsets.old out_targets.old in_offsets.old in_sources.old }
+        out_offsets.old out_targets.old in_offsets.old in_sources.old
+        out_weights.old in_weights.old }
 {
     if undirected {
         return fill_undirected(
@@ -145,6 +255,8 @@ fn store_edges(
             out_targets,
             in_offsets,
             in_sources,
+            out_weights,
+            in_weights,
         );
     }
     fill_directed(
@@ -155,6 +267,8 @@ fn store_edges(
         out_targets,
         in_offsets,
         in_sources,
+        out_weights,
+        in_weights,
     )
 }
 
@@ -174,7 +288,7 @@ fn has_places(n: usize, ids: usize, out_offsets: usize, in_offsets: usize) -> bo
     true
 }
 
-// The graph of two files in five areas; where it is refused, what stands in them is of no use.
+// The graph of two files in seven areas; where it is refused, what stands in them is of no use.
 pub(crate) fn fill(
     limits: Limits,
     mode: usize,
@@ -185,12 +299,14 @@ pub(crate) fn fill(
     out_targets: &mut [usize],
     in_offsets: &mut [usize],
     in_sources: &mut [usize],
+    out_weights: &mut [usize],
+    in_weights: &mut [usize],
 ) -> Loaded
     ensures { outcome_left result ids.new out_offsets.new out_targets.new in_offsets.new
-        in_sources.new
+        in_sources.new out_weights.new in_weights.new
         ≡ filled_load limits mode
         (room_in ids.old out_offsets.old out_targets.old in_offsets.old
-        in_sources.old)
+        in_sources.old out_weights.old in_weights.old)
         vertices.now edges.now }
 {
     if 1 < mode {
@@ -210,6 +326,8 @@ pub(crate) fn fill(
                     out_targets,
                     in_offsets,
                     in_sources,
+                    out_weights,
+                    in_weights,
                 );
             }
             Loaded::Refused(Refusal::plain(NO_ROOM))

@@ -1,5 +1,5 @@
-// Layer graph. A graph from the bytes of its vertex file and its edge file, in five lent areas: identifiers, outward offsets and targets,
-// inward offsets and sources.
+// Layer graph. A graph from the bytes of its vertex file and its edge file, in seven lent areas: identifiers, outward offsets and targets,
+// inward offsets and sources, outward and inward weights.
 #![tactic(auto)]
 
 mod fill;
@@ -22,31 +22,35 @@ pub struct Limits {
     pub edges: usize,
 }
 
-// A load answers how large the graph is that stands in the areas, or why it was refused.
+// A load answers how large the graph is that stands in the areas and whether it has weights, or why it was refused.
 #[derive(Drop)]
 pub enum Loaded {
-    Graph(Size),
+    Graph(Size, bool),
     Refused(Refusal),
 }
 
-// Five areas are cleared.
+// Seven areas are cleared.
 fn clear_all(
     ids: &mut [i64],
     out_offsets: &mut [usize],
     out_targets: &mut [usize],
     in_offsets: &mut [usize],
     in_sources: &mut [usize],
+    out_weights: &mut [usize],
+    in_weights: &mut [usize],
 )
     ensures { Emptied ids.old out_offsets.old out_targets.old in_offsets.old
-        in_sources.old
+        in_sources.old out_weights.old in_weights.old
         ids.new out_offsets.new out_targets.new in_offsets.new
-        in_sources.new }
+        in_sources.new out_weights.new in_weights.new }
 {
     clear_signed(ids);
     clear(out_offsets);
     clear(out_targets);
     clear(in_offsets);
     clear(in_sources);
+    clear(out_weights);
+    clear(in_weights);
 }
 
 // The limits of a load: one above the library's counts as the library's.
@@ -71,12 +75,14 @@ pub fn load_within(
     out_targets: &mut [usize],
     in_offsets: &mut [usize],
     in_sources: &mut [usize],
+    out_weights: &mut [usize],
+    in_weights: &mut [usize],
 ) -> Loaded
     ensures { outcome (says result) ids.new out_offsets.new out_targets.new in_offsets.new
-        in_sources.new
+        in_sources.new out_weights.new in_weights.new
         ≡ load_call (capped limits) mode
         (room_in ids.old out_offsets.old out_targets.old in_offsets.old
-        in_sources.old)
+        in_sources.old out_weights.old in_weights.old)
         vertices.now edges.now }
 {
     let filled = fill(
@@ -89,11 +95,21 @@ pub fn load_within(
         out_targets,
         in_offsets,
         in_sources,
+        out_weights,
+        in_weights,
     );
     match filled {
-        Loaded::Graph(size) => Loaded::Graph(size),
+        Loaded::Graph(size, weighted) => Loaded::Graph(size, weighted),
         Loaded::Refused(r) => {
-            clear_all(ids, out_offsets, out_targets, in_offsets, in_sources);
+            clear_all(
+                ids,
+                out_offsets,
+                out_targets,
+                in_offsets,
+                in_sources,
+                out_weights,
+                in_weights,
+            );
             Loaded::Refused(r)
         }
     }
@@ -109,12 +125,14 @@ pub fn load(
     out_targets: &mut [usize],
     in_offsets: &mut [usize],
     in_sources: &mut [usize],
+    out_weights: &mut [usize],
+    in_weights: &mut [usize],
 ) -> Loaded
     ensures { outcome (says result) ids.new out_offsets.new out_targets.new in_offsets.new
-        in_sources.new
+        in_sources.new out_weights.new in_weights.new
         ≡ load_call library mode
         (room_in ids.old out_offsets.old out_targets.old in_offsets.old
-        in_sources.old)
+        in_sources.old out_weights.old in_weights.old)
         vertices.now edges.now }
 {
     load_within(
@@ -130,5 +148,7 @@ pub fn load(
         out_targets,
         in_offsets,
         in_sources,
+        out_weights,
+        in_weights,
     )
 }

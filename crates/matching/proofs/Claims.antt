@@ -1,5 +1,5 @@
--- What is said of a claim, on its bytes: each answer exactly where the bytes are of its kind, by any of 000's three methods.
--- Assumes nothing.
+-- What is said of a claim, on its bytes: each answer exactly where the bytes are of its kind, by any of 000's three methods, and of
+-- distances. Assumes nothing.
 use mathlib.Core.Path.{◌≡◌, refl, sym, ap, ◌∙◌, subst}
 use mathlib.Core.Bool.{true}
 use mathlib.Core.Logic.{◌↔◌, ◌⊎◌, inl, inr}
@@ -14,9 +14,12 @@ use Rattle.basis.proofs.Saids.{refused-given}
 use Rattle.text.specs.Word.{ident_of}
 use Rattle.text.specs.Decimal.{decimal_of}
 use Rattle.text.specs.Line.{Form, line_by, two_of, ident_form, pair_form, decimal_form}
+use Rattle.text.specs.Distance.{distance_of, distance_form}
 use Rattle.text.specs.File.{no_test, GoodFile, FirstFault}
 use Rattle.text.specs.declared.decimal.Decimal.{Decimal}
+use Rattle.text.specs.declared.distance.Distance.{Distance}
 use Rattle.text.proofs.Breaks.{RightStop, ident-right, decimal-right, pair-right}
+use Rattle.text.proofs.Distances.{distance-right}
 use Rattle.text.proofs.Files.{file-accepted, file-refused}
 use Rattle.graph.specs.declared.find.Found.{Found}
 use Rattle.graph.specs.Find.{place_in}
@@ -24,6 +27,7 @@ use Rattle.matching.specs.Claim.{claim_lines, number_lines, coefficient_lines, i
 use Rattle.matching.specs.Cover.{in_order}
 use Rattle.matching.specs.Verdict.{Verdict, matched, incomplete_at, mismatch_at, Fraction}
 use Rattle.matching.specs.Verdict.{near, unequal_vertex, unlike_vertex, far_vertex, judged_by}
+use Rattle.matching.specs.Distances.{distance_near, far_distance, distance_lines}
 use Rattle.matching.specs.Good.{Least, Alike, Differs, Disagrees, EqualWhere, Covers}
 use Rattle.matching.specs.Good.{CompleteClaim, GoodClaim, MismatchClaim, Judges}
 use Rattle.matching.proofs.Leasts.{first-least, first-exactly, unlike-least}
@@ -56,6 +60,14 @@ module _ (most : ℕ) (s : List ℕ) where
   pub coefficients-refused : (r : Refusal) → (coefficient_lines most s ≡ refuses r)
       ↔ FirstFault (two_of ident_of decimal_of) claim_file most no_test s r
   coefficients-refused r = claim-refused decimal_form decimal-right most s r
+
+  pub distances-read : (l : List (ℤ × Distance))
+      → (distance_lines most s ≡ gives l) ↔ GoodFile (two_of ident_of distance_of) most no_test s l
+  distances-read l = claim-read distance_form distance-right most s l
+
+  pub distances-refused : (r : Refusal) → (distance_lines most s ≡ refuses r)
+      ↔ FirstFault (two_of ident_of distance_of) claim_file most no_test s r
+  distances-refused r = claim-refused distance_form distance-right most s r
 
 -- ---- a verdict is given on lines that were read, and a refusal is theirs
 module _ {A : Type 0} (place : ℤ → Found) (n : ℕ) (z : A) (mismatch : List A → ℕ) where
@@ -211,3 +223,13 @@ module _ (most : ℕ) (ids : List ℤ) (rises : rising_z ids ≡ true) where
       judged-exactly decimal_form decimal-right any most ids rises (far_vertex reference) (first-within ids near reference long)
       (Alike near (0, 1) any reference) (Differs near (0, 1) any reference)
       (λ vs. first-exactly near (0, 1) any reference vs) (λ vs i. first-least near (0, 1) any reference vs i) s
+
+  -- distances: "within one part in ten thousand, or as `infinity` exactly where unreachable"
+  pub distance-judged : (any : Distance) (reference : List ℤ) → length reference ≡ length ids → (s : List ℕ)
+      → Judges distance_of any most ids (Alike distance_near (pos 0) any reference) (Differs distance_near (pos 0) any reference) s
+      (judged_by (place_in ids) (length ids) any (far_distance reference) (distance_lines most s))
+  distance-judged any reference long s =
+      judged-exactly distance_form distance-right any most ids rises (far_distance reference)
+      (first-within ids distance_near reference long)
+      (Alike distance_near (pos 0) any reference) (Differs distance_near (pos 0) any reference)
+      (λ vs. first-exactly distance_near (pos 0) any reference vs) (λ vs i. first-least distance_near (pos 0) any reference vs i) s

@@ -3,7 +3,7 @@ use mathlib.Core.Path.{◌≡◌, refl, sym, ap, ap₂, ◌∙◌, subst}
 use mathlib.Core.Bool.{Bool, true, false, ◌&&◌}
 use Prim.Native.Nat.{ℕ, zero, suc, ◌+◌, ◌-◌, ◌*◌, ◌/◌, ◌%◌, ◌^◌, ◌≤◌, ◌<◌, min}
 use native.Mathlib.Nat.{mul-le-mul_right, le_of_mul-le-mul_right, pow-succ', one-le-pow, div-add-mod'}
-use native.Mathlib.Nat.{mod-lt, lt_of_not-le, not-le_of_lt, le-mul_of_pos_right, min-eq_left, min-eq_right, mul-one, mul-pos}
+use native.Mathlib.Nat.{mod-lt, lt_of_not-le, not-le_of_lt, min-eq_left, min-eq_right, mul-one, mul-pos}
 use native.Mathlib.Nat.{pos_of_ne-zero}
 use native.Mathlib.Numerals.{add-one}
 use native.Mathlib.Omega.{arith}
@@ -14,15 +14,9 @@ use Rattle.basis.proofs.Tests.{bool_cases, and-off, and-swap}
 use Rattle.text.specs.Decimal.{decimal}
 use Rattle.text.specs.declared.decimal.Decimal.{Decimal}
 use Rattle.matching.specs.Close.{distance, is_close}
+use Rattle.matching.specs.Steps.{Dropped}
 
--- ---- a product whose last j digits are dropped: rest and part are what is left of it, and `exact` says that they were zeros
-pub record Dropped (n d rest part : ℕ) (exact : Bool) (j : ℕ) : Type 0 where
-  pub dropped : ℕ
-  pub whole : d * n ≡ (rest * n + part) * 10 ^ j + dropped
-  pub small : dropped < 10 ^ j
-  pub told : exact ≡ eqb dropped 0
-  pub below : part < n
-
+-- ---- a product whose last j digits are dropped
 pub dropped-none : (n d : ℕ) → 0 < n → Dropped n d d 0 true 0
 dropped-none n d h = record { dropped = 0; whole = omega arith; small = omega arith; told = refl; below = h }
 
@@ -167,42 +161,41 @@ close_down a b n u w h =
     ∙ ap₂ ◌&&◌ (ap₂ leb lo md ∙ cancel _ _ (10 ^ u) (ten-pos u)) (ap₂ leb md hi ∙ cancel _ _ (10 ^ u) (ten-pos u))
 
 -- the same where more are put on; past the cap c nothing changes
-capped-low : (y x c m : ℕ) → y < c → 0 < m → leb y (x * m) ≡ leb y (min x c * m)
-capped-low y x c m h p = go (leb x c) refl
+capped-low : (y x c m : ℕ) → y < c * m → leb y (x * m) ≡ leb y (min x c * m)
+capped-low y x c m h = go (leb x c) refl
   where
     go : (t : Bool) → leb x c ≡ t → leb y (x * m) ≡ leb y (min x c * m)
     go true e = rw (min-eq_left (leb-true x c e))
     go false e =
         let l : c ≤ x = omega (arith, leb-false x c e) in
-        rw (min-eq_right l)
-        (le-leb y (x * m) (omega (arith, le-mul_of_pos_right x p)) ∙ sym (le-leb y (c * m) (omega (arith, le-mul_of_pos_right c p))))
+        let k : c * m ≤ x * m = mul-le-mul_right m l in
+        rw (min-eq_right l) (le-leb y (x * m) (omega arith) ∙ sym (le-leb y (c * m) (omega arith)))
 
-capped-high : (y x c m : ℕ) → y < c → 0 < m → leb (x * m) y ≡ leb (min x c * m) y
-capped-high y x c m h p = go (leb x c) refl
+capped-high : (y x c m : ℕ) → y < c * m → leb (x * m) y ≡ leb (min x c * m) y
+capped-high y x c m h = go (leb x c) refl
   where
     go : (t : Bool) → leb x c ≡ t → leb (x * m) y ≡ leb (min x c * m) y
     go true e = rw (min-eq_left (leb-true x c e))
     go false e =
         let l : c ≤ x = omega (arith, leb-false x c e) in
-        rw (min-eq_right l)
-        (lt-leb (x * m) y (omega (arith, le-mul_of_pos_right x p)) ∙ sym (lt-leb (c * m) y (omega (arith, le-mul_of_pos_right c p))))
+        let k : c * m ≤ x * m = mul-le-mul_right m l in
+        rw (min-eq_right l) (lt-leb (x * m) y (omega arith) ∙ sym (lt-leb (c * m) y (omega arith)))
 
-pub close_up : (a b n u w c : ℕ) → w ≤ u → 0 < b → a * 10001 < c
+pub close_up : (a b n u w c : ℕ) → w ≤ u → a * 10001 < c * (b * 10000)
     → is_close a b (decimal n u w) ≡ (leb (a * 9999 * 10 ^ 0) (min (n * 10 ^ (u - w)) c * (b * 10000))
     && leb (min (n * 10 ^ (u - w)) c * (b * 10000)) (a * 10001 * 10 ^ 0))
 unfolding is_close
-close_up a b n u w c h p l =
+close_up a b n u w c h l =
     let s : u - w + w ≡ u = omega arith in
     let e : 10 ^ u ≡ 10 ^ (u - w) * 10 ^ w = ap (λ (k : ℕ). 10 ^ k) (sym s) ∙ pow-add 10 (u - w) w in
     let lo : 9999 * (a * 10 ^ w) ≡ a * 9999 * 10 ^ w = omega arith in
     let hi : 10001 * (a * 10 ^ w) ≡ a * 10001 * 10 ^ w = omega arith in
     let md : 10000 * (b * (n * 10 ^ u)) ≡ n * 10 ^ (u - w) * (b * 10000) * 10 ^ w = rw e (omega arith) in
-    let q : 0 < b * 10000 = omega arith in
     window (a * 10 ^ w) (b * (n * 10 ^ u))
     ∙ ap₂ ◌&&◌
-    (ap₂ leb lo md ∙ cancel _ _ (10 ^ w) (ten-pos w) ∙ capped-low (a * 9999) (n * 10 ^ (u - w)) c (b * 10000) (omega arith) q
+    (ap₂ leb lo md ∙ cancel _ _ (10 ^ w) (ten-pos w) ∙ capped-low (a * 9999) (n * 10 ^ (u - w)) c (b * 10000) (omega arith)
     ∙ ap (λ (k : ℕ). leb k (min (n * 10 ^ (u - w)) c * (b * 10000))) (sym (mul-one (a * 9999))))
-    (ap₂ leb md hi ∙ cancel _ _ (10 ^ w) (ten-pos w) ∙ capped-high (a * 10001) (n * 10 ^ (u - w)) c (b * 10000) l q
+    (ap₂ leb md hi ∙ cancel _ _ (10 ^ w) (ten-pos w) ∙ capped-high (a * 10001) (n * 10 ^ (u - w)) c (b * 10000) l
     ∙ ap (leb (min (n * 10 ^ (u - w)) c * (b * 10000))) (sym (mul-one (a * 10001))))
 
 -- no fraction at all
@@ -233,14 +226,14 @@ module _ (a b : ℕ) (s : Decimal) where
         → r ≡ is_close a b s
     close-lower h e = e ∙ sym (close_down a b s.digits s.up s.down h)
 
-    pub close-higher : a < 2 ^ 32 → (b ≡ 0 → ⊥) → s.down < s.up → (m : ℕ) → m ≡ min (s.digits * 10 ^ (s.up - s.down)) (10 ^ 18)
+    pub close-higher : a < 2 ^ 32 → (b ≡ 0 → ⊥) → s.down < s.up → (m : ℕ) → m ≡ min (s.digits * 10 ^ (s.up - s.down)) (10 ^ 19)
         → r ≡ (leb (a * 9999 * 10 ^ 0) (m * (b * 10000)) && leb (m * (b * 10000)) (a * 10001 * 10 ^ 0)) → r ≡ is_close a b s
     close-higher f d h m q e =
         e ∙ ap (λ (x : ℕ). leb (a * 9999 * 10 ^ 0) (x * (b * 10000)) && leb (x * (b * 10000)) (a * 10001 * 10 ^ 0)) q
-        ∙ sym (close_up a b s.digits s.up s.down (10 ^ 18) (omega arith) (pos_of_ne-zero d) (omega arith))
+        ∙ sym (close_up a b s.digits s.up s.down (10 ^ 19) (omega arith) (let p = pos_of_ne-zero d in omega arith))
 
 -- ---- the cap, a power at a time
-pub cap-next : (x m : ℕ) → m ≡ min x (10 ^ 18) → min (m * 10) (10 ^ 18) ≡ min (x * 10) (10 ^ 18)
+pub cap-next : (x m : ℕ) → m ≡ min x (10 ^ 19) → min (m * 10) (10 ^ 19) ≡ min (x * 10) (10 ^ 19)
 cap-next x m e = omega arith
 
 pub ten-more : (d j : ℕ) → d * 10 ^ j * 10 ≡ d * 10 ^ (j + 1)

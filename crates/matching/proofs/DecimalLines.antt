@@ -1,45 +1,35 @@
--- What the loop over a claim's decimals keeps, and how it ends. Assumes nothing.
-use mathlib.Core.Path.{◌≡◌, refl, sym, ap, ap₂, ◌∙◌}
-use mathlib.Core.Bool.{Bool, true, false, cond, ◌||◌}
-use mathlib.Core.List.{List, [], ◌∷◌, ◌++◌}
-use Prim.Native.Nat.{ℕ, zero, suc, ◌+◌, ◌^◌, ◌≤◌, ◌<◌}
-use native.Mathlib.Decide.{ℕ_discrete}
+-- A claim of coefficients: the loop over its decimals, and the call. Assumes nothing.
+use mathlib.Core.Path.{◌≡◌, refl, sym, ap, ◌∙◌}
+use mathlib.Core.Bool.{Bool, true, false}
+use mathlib.Core.List.{List}
+use Prim.Native.Nat.{ℕ, ◌+◌, ◌^◌, ◌≤◌, ◌<◌}
 use native.Mathlib.Omega.{arith}
-use lib.Dec.{ltb, eqb}
+use lib.Dec.{ltb}
 use lib.IntN.{ℤ}
-use lib.ListN.{length, replicate, length-replicate}
+use lib.ListN.{length, get_or}
 use mir.Syntax.{w64}
 use mir.Val.{to_z, of_z}
-use borrow.Author.Tests.{lt-ltb, le-ltb, eq-eqb, ne_eqb}
+use borrow.Author.Tests.{lt-ltb, le-ltb}
 use Rattle.basis.specs.Area.{cleared}
-use Rattle.basis.specs.Refusal.{gives, refuses, at_column, at, plain, no_room, too_many, claim_file}
+use Rattle.basis.specs.Refusal.{Said, gives, refuses, at_column, at, plain, no_room, too_many, claim_file}
 use Rattle.basis.specs.declared.refusal.Refusal.{Refusal}
-use Rattle.basis.proofs.Tests.{failed, held, and-off}
-use Rattle.text.specs.Line.{line, pair_form, decimal_form, coefficient_line, coefficient_says}
-use Rattle.text.specs.File.{no_test}
+use Rattle.basis.proofs.Tests.{and-off}
+use Rattle.text.specs.Line.{decimal_form, coefficient_line, coefficient_says}
 use Rattle.text.specs.declared.decimal.Decimal.{Decimal}
 use Rattle.text.specs.declared.line.Cursor.{Cursor}
 use Rattle.text.specs.declared.line.CoefficientLine.{CoefficientLine}
 use Rattle.text.specs.declared.line.CoefficientLine.TheVariants as CL
-use Rattle.text.proofs.Places.{coefficient-range, line-moves}
-use Rattle.text.proofs.Files.{Passed, passed_none, passed-next, passed-end, passed-fault, passed-full, passed_over}
 use Rattle.graph.specs.declared.find.Found.{Found}
-use Rattle.graph.specs.declared.find.Found.TheVariants.{At, Missing}
 use Rattle.graph.specs.Find.{bisected}
 use Rattle.matching.specs.declared.judged.Judged.{Judged}
 use Rattle.matching.specs.Close.{is_close}
-use Rattle.matching.specs.Claim.{coefficient_lines, ids_of}
-use Rattle.matching.specs.Cover.{failing_place, its_line_from, its_line, incomplete_line, value_of, in_order, reported_line}
-use Rattle.matching.specs.Verdict.{verdict_of, says, judged_by}
-use Rattle.matching.specs.Calls.{near_within, far_within, fraction_in, fractions, no_decimal, room_in_three, told}
+use Rattle.matching.specs.Verdict.{Verdict, verdict_of, says}
+use Rattle.matching.specs.Calls.{near_within, far_within, fraction_in, fractions, no_decimal, coefficients_judged, room_in_three, told}
 use Rattle.matching.specs.Calls.{coefficients_call}
-use Rattle.matching.specs.Steps.{new_in, set_at, stray_step, lesser_fault, far_step, end_line, reported_in, JudgedOf}
-use Rattle.matching.proofs.FirstPlaces.{bits_back, failing-same, failing-bound, first-column}
-use Rattle.matching.proofs.Leasts.{failing-now}
-use Rattle.matching.proofs.Covering.{Grown, Recorded, recorded-none, grown, recorded-next, recorded-end, value-old, value-new}
-use Rattle.matching.proofs.Covering.{maps-reported}
-use Rattle.matching.proofs.Readings.{ids_more, ids-length}
-use Rattle.matching.proofs.NumberLines.{found_within, end-zero}
+use Rattle.matching.specs.Steps.{new_in, set_at, stray_step, near_at, fault_step, end_line, reported_in, JudgedAs}
+use Rattle.matching.proofs.FirstPlaces.{first-column}
+use Rattle.matching.proofs.ValueLines.{Values, values-none, values-end, values-fault, values-next, values-over, values-full}
+use Rattle.matching.proofs.ValueLines.{call-short, call-done}
 
 -- ---- one fraction and one decimal
 module _ (a b : ℕ) (s : Decimal) where
@@ -55,195 +45,62 @@ module _ (a b : ℕ) (s : Decimal) where
   unfolding near_within
   near_within_lem h g r e = rw (lt-ltb a (2 ^ 32) (omega arith), lt-ltb b (2 ^ 32) (omega arith)) e
 
--- ---- the lines: k of them are done, up to a place
--- a vertex has no claim line yet, or its decimal is near
-unfoldable pub near_yet : List ℤ → List ℕ → List ℕ → List (ℤ × Decimal) → ℕ → Bool
-near_yet ids nums dens done v =
-    eqb (its_line (bisected ids) (ids_of done) v) 0 || near_within (fraction_in nums dens v) (value_of (bisected ids) no_decimal done v)
+  pub near-at : (nums dens : List ℕ) (v : ℕ) → a ≡ get_or nums v 0 → b ≡ get_or dens v 0 → (t : Bool) → t ≡ near_within (a, b) s
+      → t ≡ near_at nums dens v s
+  unfolding near_at
+  near-at nums dens v p q t e = e ∙ rw (p, q)
 
-pub record Decimals (most : ℕ) (ids : List ℤ) (nums dens s : List ℕ) (width : ℕ) (lines : List ℕ) (place k stray far : ℕ) : Type 0 where
-  pub done : List (ℤ × Decimal)
-  pub passed : Passed (pair_form decimal_form) claim_file most no_test s done place k
-  pub short : k ≤ length s
-  pub recorded : Recorded (bisected ids) (length ids) width (ids_of done) lines k stray
-  pub fars : far ≡ failing_place (near_yet ids nums dens done) (length ids) 0
-
+-- ---- the loop
 module _ (most : ℕ) (ids : List ℤ) (nums dens s : List ℕ) where
-  none-far : (n i : ℕ) → 0 ≡ failing_place (near_yet ids nums dens []) n i
-  unfolding failing_place near_yet its_line_from
-  none-far zero i = refl
-  none-far (suc n) i = none-far n (i + 1)
+  -- what it keeps
+  abbrev pub Decimals : ℕ → List ℕ → ℕ → ℕ → ℕ → ℕ → Type 0
+  Decimals = Values decimal_form no_decimal (near_at nums dens) (far_within (fractions (length ids) nums dens)) most ids s
 
-  pub decimals-none : (lines : List ℕ) → lines ≡ cleared lines → Decimals most ids nums dens s (length lines) lines 0 0 0 0
-  decimals-none lines e =
-      record {
-        done = [];
-        passed = passed_none (pair_form decimal_form) claim_file most no_test s;
-        short = omega arith;
-        recorded = recorded-none (bisected ids) (length ids) lines e;
-        fars = none-far (length ids) 0;
-      }
+  pub decimals-none : (lines : List ℕ) → lines ≡ cleared lines → Decimals (length lines) lines 0 0 0 0
+  unfolding near_at
+  decimals-none =
+      values-none decimal_form no_decimal (near_at nums dens) (far_within (fractions (length ids) nums dens)) most ids s
+      (λ g. first-column near_within (fraction_in nums dens) g (length ids) 0)
 
-  module _ {width : ℕ} {lines : List ℕ} {place k stray far : ℕ} (h : Decimals most ids nums dens s width lines place k stray far) where
-    pub decimals-far : length ids ≤ width → far ≤ length lines
-    decimals-far room =
-        let b = failing-bound (near_yet ids nums dens h.done) (length ids) 0 in omega (arith, h.fars, h.recorded.wide)
+  module _ {width : ℕ} {lines : List ℕ} {place k stray far : ℕ} (h : Decimals width lines place k stray far) where
+    abbrev Judges : Said Verdict → Type 0
+    Judges = JudgedAs (coefficients_judged most ids nums dens s) width lines
 
-    -- a claim that ends after k lines: where none is incomplete, none is missing
-    ended : coefficient_lines most s ≡ gives h.done → (i : ℕ) → i ≡ end_line lines (length ids) k stray
-        → (l : ℕ) → l ≡ reported_in lines far → (j : Judged) → says j ≡ gives (verdict_of i l)
-        → JudgedOf most ids nums dens s width lines (says j)
-    unfolding judged_by near_yet
-    ended e i q l p j f =
-        record { tells = f ∙ rw e (ap gives (by i q)); wide = h.recorded.wide }
-      where
-        covered : incomplete_line (bisected ids) (length ids) (ids_of h.done) ≡ end_line lines (length ids) k stray
-        covered = sym (recorded-end (bisected ids) h.recorded)
+    pub decimals-over : most ≤ k → place < length s → (r : Refusal) → r ≡ at too_many claim_file (k + 1) → Judges (refuses r)
+    decimals-over = values-over decimal_form no_decimal _ _ most ids s h
 
-        -- all vertices have their lines
-        whole : end_line lines (length ids) k stray ≡ 0 → (v : ℕ) → v < length ids → its_line (bisected ids) (ids_of h.done) v ≡ 0 → ⊥
-        whole z v m g = end-zero lines (length ids) k stray z v m (h.recorded.maps v m ∙ g)
+    module _ (i : ℕ) (p : i ≡ end_line lines (length ids) k stray) (l : ℕ) (o : l ≡ reported_in lines far)
+        (j : Judged) (f : says j ≡ gives (verdict_of i l)) where
+      pub decimals-full : length s ≤ place → Judges (says j)
+      decimals-full g = values-full decimal_form no_decimal _ _ most ids s h g i p l o j f
 
-        fault : end_line lines (length ids) k stray ≡ 0
-            → far ≡ far_within (fractions (length ids) nums dens) (in_order (bisected ids) no_decimal (length ids) h.done)
-        fault z =
-            h.fars
-            ∙ failing-same (near_yet ids nums dens h.done)
-            (λ v. near_within (fraction_in nums dens v) (value_of (bisected ids) no_decimal h.done v)) (length ids) 0
-            (λ v a b. rw (ne_eqb (its_line (bisected ids) (ids_of h.done) v) 0 (whole z v (omega arith))))
-            ∙ sym (first-column near_within (fraction_in nums dens) (value_of (bisected ids) no_decimal h.done) (length ids) 0)
+      pub decimals-end : {x : CoefficientLine} → coefficient_says x ≡ coefficient_line s place → (c : Cursor) → x ≡ CL.End c
+          → Judges (says j)
+      decimals-end e c q = values-end decimal_form no_decimal _ _ most ids s h c.at (sym e ∙ ap coefficient_says q) i p l o j f
 
-        by : (i : ℕ) → i ≡ end_line lines (length ids) k stray
-            → verdict_of i l ≡ verdict_of (incomplete_line (bisected ids) (length ids) (ids_of h.done))
-            (reported_line (bisected ids) (ids_of h.done)
-            (far_within (fractions (length ids) nums dens) (in_order (bisected ids) no_decimal (length ids) h.done)))
-        by zero q =
-            let b = failing-bound (near_yet ids nums dens h.done) (length ids) 0 in
-            rw (covered, ← q, ← fault (sym q)) (ap (verdict_of 0)
-            (p ∙ maps-reported (bisected ids) (length ids) (ids_of h.done) lines h.recorded.maps far (omega (arith, h.fars))))
-        by (suc i) q = rw (covered, ← q)
+    module _ {x : CoefficientLine} (e : coefficient_says x ≡ coefficient_line s place) (l : k < most) where
+      pub decimals-fault : (n b : ℕ) (c : Cursor) → x ≡ CL.Fault n b c → (r : Refusal) → r ≡ at_column n claim_file (k + 1) b
+          → Judges (refuses r)
+      decimals-fault n b c q = values-fault decimal_form no_decimal _ _ most ids s h l n b c.at (sym e ∙ ap coefficient_says q)
 
-    -- a vertex whose line is as before
-    yet-same : (id : ℤ) (d : Decimal) (u : ℕ)
-        → its_line (bisected ids) (ids_of (h.done ++ ((id, d) ∷ []))) u ≡ its_line (bisected ids) (ids_of h.done) u
-        → near_yet ids nums dens (h.done ++ ((id, d) ∷ [])) u ≡ near_yet ids nums dens h.done u
-    unfolding near_yet
-    yet-same id d u e = rw (e, value-old (bisected ids) no_decimal h.done (id, d) u e)
+      pub decimals-next : (id : ℤ) (d : Decimal) (c : Cursor) → x ≡ CL.Line id d c → length ids ≤ width
+          → {r : Found} → r ≡ new_in lines (bisected ids (to_z w64 (of_z w64 id))) → {record' : List ℕ} → record' ≡ set_at lines r (k + 1)
+          → {f : ℕ} → f ≡ fault_step (near_at nums dens) r d far → {i : ℕ} → i ≡ stray_step r k stray
+          → Decimals width record' c.at (k + 1) i f
+      decimals-next id d c q = values-next decimal_form no_decimal _ _ most ids s h l id d c.at (sym e ∙ ap coefficient_says q)
 
-    -- the smallest vertex at fault, after a line that names a new vertex or none
-    far-next : (id : ℤ) (d : Decimal) (r : Found) → Grown (bisected ids) (length ids) (ids_of h.done) id r
-        → far_step nums dens r d far ≡ failing_place (near_yet ids nums dens (h.done ++ ((id, d) ∷ []))) (length ids) 0
-    unfolding near_yet
-    far-next id d (At v) g = by (near_within (fraction_in nums dens v) d) refl
-      where
-        before : ℕ → Bool
-        before = near_yet ids nums dens h.done
-
-        after : ℕ → Bool
-        after = near_yet ids nums dens (h.done ++ ((id, d) ∷ []))
-
-        line : its_line (bisected ids) (ids_of (h.done ++ ((id, d) ∷ []))) v ≡ length h.done + 1
-        line = rw (ids_more h.done (id, d)) g.line ∙ ap (λ (j : ℕ). j + 1) (ids-length h.done)
-
-        now : after v ≡ near_within (fraction_in nums dens v) d
-        now =
-            rw (ne_eqb (its_line (bisected ids) (ids_of (h.done ++ ((id, d) ∷ []))) v) 0 (λ z. omega (arith, line)))
-            (ap (near_within (fraction_in nums dens v)) (value-new (bisected ids) no_decimal h.done (id, d) v line))
-
-        held-before : before v ≡ true
-        held-before = rw (eq-eqb (its_line (bisected ids) (ids_of h.done) v) 0 g.before)
-
-        others : (u : ℕ) → u < length ids → (u ≡ v → ⊥) → after u ≡ before u
-        others u m n =
-            yet-same id d u (rw (ids_more h.done (id, d)) (g.others u n))
-
-        by : (t : Bool) → near_within (fraction_in nums dens v) d ≡ t
-            → cond t far (lesser_fault far (v + 1)) ≡ failing_place after (length ids) 0
-        by true t =
-            h.fars ∙ failing-same before after (length ids) 0
-            (λ u a b. elim (ℕ_discrete u v) as (λ _. before u ≡ after u) [
-              | yes q ↦ rw q (held-before ∙ sym (now ∙ t))
-              | no n ↦ sym (others u (omega arith) n)
-            ])
-        by false t =
-            ap (λ (f : ℕ). lesser_fault f (v + 1)) h.fars
-            ∙ sym (failing-now before after (length ids) v g.inside held-before others (now ∙ t))
-    far-next id d Missing g =
-        h.fars ∙ failing-same (near_yet ids nums dens h.done) (near_yet ids nums dens (h.done ++ ((id, d) ∷ []))) (length ids) 0
-        (λ u a b. sym (yet-same id d u (rw (ids_more h.done (id, d)) (g.all u (omega arith)))))
-
-    -- the line at the place
-    module _ {x : CoefficientLine} (e : coefficient_says x ≡ coefficient_line s place) where
-      pub decimals-end : (c : Cursor) → x ≡ CL.End c → (i : ℕ) → i ≡ end_line lines (length ids) k stray
-          → (l : ℕ) → l ≡ reported_in lines far → (j : Judged) → says j ≡ gives (verdict_of i l)
-          → JudgedOf most ids nums dens s width lines (says j)
-      decimals-end c q =
-          ended (passed-end (pair_form decimal_form) claim_file most no_test s h.passed c.at (sym e ∙ ap coefficient_says q))
-
-      module _ (l : k < most) where
-        pub decimals-fault : (n b : ℕ) (c : Cursor) → x ≡ CL.Fault n b c → (r : Refusal) → r ≡ at_column n claim_file (k + 1) b
-            → JudgedOf most ids nums dens s width lines (refuses r)
-        unfolding judged_by
-        decimals-fault n b c q r p =
-            record {
-              tells =
-                  rw (
-                    passed-fault (pair_form decimal_form) claim_file most no_test s h.passed l n b c.at
-                        (sym e ∙ ap coefficient_says q),
-                    p,
-                  );
-              wide = h.recorded.wide;
-            }
-
-        pub decimals-next : (id : ℤ) (d : Decimal) (c : Cursor) → x ≡ CL.Line id d c → length ids ≤ width
-            → {r : Found} → r ≡ new_in lines (bisected ids (to_z w64 (of_z w64 id))) → {record' : List ℕ} → record' ≡ set_at lines r (k + 1)
-            → {f : ℕ} → f ≡ far_step nums dens r d far → {i : ℕ} → i ≡ stray_step r k stray
-            → Decimals most ids nums dens s width record' c.at (k + 1) i f
-        decimals-next id d c q wide {r} p t t' y =
-            record {
-              done = h.done ++ ((id, d) ∷ []);
-              passed = passed-next (pair_form decimal_form) claim_file most no_test s h.passed l (id, d) c.at here refl;
-              short =
-                  let m = line-moves (pair_form decimal_form) s place (line (id, d) c.at) (sym here) (id, d) c.at refl in
-                  omega (arith, h.passed.forward, m.forward, m.inside);
-              recorded = rw (ids_more h.done (id, d)) (recorded-next (bisected ids) h.recorded id wide (found_within ids id) new t y);
-              fars = t' ∙ far-next id d r (rw new (grown (bisected ids) h.recorded id (found_within ids id)));
-            }
-          where
-            here : coefficient_line s place ≡ line (id, d) c.at
-            here = sym e ∙ ap coefficient_says q
-
-            new : r ≡ new_in lines (bisected ids id)
-            new = p ∙ ap (λ (z : ℤ). new_in lines (bisected ids z)) (bits_back id (coefficient-range s place id d c.at here))
-
-    -- no line more is allowed, or none is left
-    pub decimals-over : most ≤ k → place < length s → (r : Refusal) → r ≡ at too_many claim_file (k + 1)
-        → JudgedOf most ids nums dens s width lines (refuses r)
-    unfolding judged_by
-    decimals-over l g r p =
-        record { tells = rw (passed_over (pair_form decimal_form) claim_file most no_test s h.passed l g, p); wide = h.recorded.wide }
-
-    pub decimals-full : length s ≤ place → (i : ℕ) → i ≡ end_line lines (length ids) k stray
-        → (l : ℕ) → l ≡ reported_in lines far → (j : Judged) → says j ≡ gives (verdict_of i l)
-        → JudgedOf most ids nums dens s width lines (says j)
-    decimals-full g = ended (passed-full (pair_form decimal_form) claim_file most no_test s h.passed g)
-
-  -- ---- the whole call, by the test of room t, with the record cleared first
+  -- ---- the call
   module _ (lines : List ℕ) {before : List ℕ} (c : before ≡ cleared lines)
       {t : Bool} (e : t ≡ room_in_three (length ids) (length nums) (length dens) (length before)) where
-    wide : length before ≡ length lines
-    wide = ap length c ∙ length-replicate (length lines) 0
-
     pub coefficients-short : t ≡ false → (r : Refusal) → r ≡ plain no_room
         → told (refuses r) before ≡ coefficients_call most ids nums dens s lines
     unfolding coefficients_call
-    coefficients-short f r q = let k : room_in_three (length ids) (length nums) (length dens) (length lines) ≡ false
-        = ap (room_in_three (length ids) (length nums) (length dens)) (sym wide) ∙ failed t _ e f in rw (k, q, c)
+    coefficients-short =
+        call-short (room_in_three (length ids) (length nums) (length dens)) (coefficients_judged most ids nums dens s) lines c e
 
-    pub coefficients-done : t ≡ true → (left : List ℕ) (j : Judged) → JudgedOf most ids nums dens s (length before) left (says j)
+    pub coefficients-done : t ≡ true → (left : List ℕ) (j : Judged)
+        → JudgedAs (coefficients_judged most ids nums dens s) (length before) left (says j)
         → (end : List ℕ) → end ≡ cleared left → told (says j) end ≡ coefficients_call most ids nums dens s lines
     unfolding coefficients_call
-    coefficients-done f left j h end q =
-        let k : room_in_three (length ids) (length nums) (length dens) (length lines) ≡ true
-        = ap (room_in_three (length ids) (length nums) (length dens)) (sym wide) ∙ held t _ e f in
-        rw k (ap₂ told h.tells (q ∙ ap (λ (m : ℕ). replicate m 0) (h.wide ∙ wide)))
+    coefficients-done =
+        call-done (room_in_three (length ids) (length nums) (length dens)) (coefficients_judged most ids nums dens s) lines c e

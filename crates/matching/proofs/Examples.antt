@@ -4,7 +4,7 @@ use mathlib.Core.Path.{◌≡◌, refl}
 use mathlib.Core.List.{List, [], ◌∷◌}
 use Prim.Native.Nat.{ℕ}
 use lib.IntN.{pos}
-use Rattle.basis.specs.Area.{column}
+use Rattle.basis.specs.Area.{unreachable, column}
 use Rattle.basis.specs.Limits.{most_vertices}
 use Rattle.basis.specs.Refusal.{Said, gives, refuses, at_column, at}
 use Rattle.basis.specs.Scan.{every, each, mem}
@@ -13,6 +13,7 @@ use Rattle.text.specs.Bytes.{bytes}
 use Rattle.text.specs.Word.{within}
 use Rattle.text.specs.Decimal.{digit_of, past_point, whole_is_good, signed_power, power_at, parts_of, fraction_of, decimal_of}
 use Rattle.text.specs.Stop.{is_sign, digits_stop, power_stop, parts_stop, fraction_stop, decimal_stop}
+use Rattle.text.specs.Distance.{same_bytes, shared_front, distance_of, distance_stop}
 use Rattle.text.specs.Line.{line_by, two_of, two_stop}
 use Rattle.text.specs.File.{lines_from, values_from}
 use Rattle.matching.specs.Close.{is_close}
@@ -21,6 +22,7 @@ use Rattle.matching.specs.Cover.{failing_place, its_line_from, names_new, stray_
 use Rattle.matching.specs.Verdict.{Verdict, matched, incomplete_at, mismatch_at, Fraction, first_place}
 use Rattle.matching.specs.Verdict.{unequal_vertex, same_kind, agrees, unlike_vertex, far_vertex, judged_by}
 use Rattle.matching.specs.Calls.{no_decimal}
+use Rattle.matching.specs.Distances.{reached_near, far_distance, distance_lines, no_distance}
 
 -- a claim on one vertex, number 1, of which the coefficient is r
 abbrev coefficient_claim : Fraction → List ℕ → Said Verdict
@@ -40,6 +42,59 @@ group_claim s =
 abbrev halves_claim : List ℕ → Said Verdict
 halves_claim s =
     judged_by (place_in (pos 1 ∷ pos 2 ∷ [])) 2 no_decimal (far_vertex ((1, 2) ∷ (1, 2) ∷ [])) (coefficient_lines most_vertices s)
+
+-- one on vertices 1 and 2, of distances r, in millionths, and unreachable
+abbrev distance_claim : ℕ → List ℕ → Said Verdict
+distance_claim r s =
+    judged_by (place_in (pos 1 ∷ pos 2 ∷ [])) 2 no_distance (far_distance (pos r ∷ unreachable ∷ [])) (distance_lines most_vertices s)
+
+-- what is said of some claims of distances
+pub record OfDistances : Type 0 where
+  pub equal : distance_claim 1000000 (bytes "1 1\n2 infinity\n") ≡ gives matched
+  -- the last that match on both sides, and the next one
+  pub above : distance_claim 1000000 (bytes "1 1.0001\n2 infinity\n") ≡ gives matched
+  pub below : distance_claim 1000000 (bytes "2 infinity\n1 9.999e-01\n") ≡ gives matched
+  pub too_far : distance_claim 1000000 (bytes "1 1.00011\n2 infinity\n") ≡ gives (mismatch_at 1)
+  pub too_near : distance_claim 1000000 (bytes "1 0.9998999999999999\n2 infinity\n") ≡ gives (mismatch_at 1)
+  -- "r = 0 matches only zero"
+  pub nought : distance_claim 0 (bytes "1 0.0e+99\n2 infinity\n") ≡ gives matched
+  pub not_nought : distance_claim 0 (bytes "1 1e-99\n2 infinity\n") ≡ gives (mismatch_at 1)
+  -- one millionth, and its ten-thousandth
+  pub least : distance_claim 1 (bytes "1 1.0001e-06\n2 infinity\n") ≡ gives matched
+  pub not_least : distance_claim 1 (bytes "1 1.0001000000000001e-06\n2 infinity\n") ≡ gives (mismatch_at 1)
+  -- the longest route: 65,535 arcs of 100000
+  pub longest : distance_claim 6553500000000000 (bytes "1 6554155350\n2 infinity\n") ≡ gives matched
+  pub not_longest : distance_claim 6553500000000000 (bytes "1 6554155350.000001\n2 infinity\n") ≡ gives (mismatch_at 1)
+  -- "`infinity` exactly where unreachable"; the smaller vertex at fault is reported by its line
+  pub not_reached : distance_claim 1000000 (bytes "1 1\n2 9.223372036854776e+12\n") ≡ gives (mismatch_at 2)
+  pub reached : distance_claim 1000000 (bytes "2 1\n1 infinity\n") ≡ gives (mismatch_at 2)
+  pub word : distance_claim 1000000 (bytes "1 1\n2 infinit\n") ≡ refuses (at_column 2 3 2 10)
+  pub missing : distance_claim 1000000 (bytes "2 infinity\n") ≡ gives (incomplete_at 2)
+
+pub of-distances : OfDistances
+unfolding judged_by failing_place its_line_from names_new stray_line incomplete_line value_of place_from column first_place every each mem
+    lines_from
+    values_from line_by two_of two_stop is_close reached_near decimal_of fraction_of parts_of power_at signed_power whole_is_good past_point
+    digit_of
+    within is_sign digits_stop power_stop parts_stop fraction_stop decimal_stop same_bytes shared_front distance_of distance_stop
+of-distances =
+    record {
+      equal = refl;
+      above = refl;
+      below = refl;
+      too_far = refl;
+      too_near = refl;
+      nought = refl;
+      not_nought = refl;
+      least = refl;
+      not_least = refl;
+      longest = refl;
+      not_longest = refl;
+      not_reached = refl;
+      reached = refl;
+      word = refl;
+      missing = refl;
+    }
 
 -- what is said of some claims
 pub record Others : Type 0 where

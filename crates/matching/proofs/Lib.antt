@@ -1,5 +1,6 @@
 -- Laws of matching.
 pub mod Closeness
+pub mod Nears
 pub mod FirstPlaces
 pub mod Leasts
 pub mod Mismatches
@@ -7,11 +8,14 @@ pub mod Readings
 pub mod Covering
 pub mod Records
 pub mod NumberLines
+pub mod ValueLines
 pub mod DecimalLines
+pub mod DistanceLines
 pub mod Judging
 pub mod Covers
 pub mod Meaning
 pub mod Claims
 pub mod Orders
+pub mod DistanceClaims
 pub mod Listing
 pub mod Examples

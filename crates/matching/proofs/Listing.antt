@@ -19,17 +19,21 @@ use Rattle.text.specs.Line.{Form, two_of, line_by, ident_form, pair_form, decima
 use Rattle.text.specs.File.{joined, Says, first, no_test}
 use Rattle.text.specs.declared.decimal.Decimal.{Decimal}
 use Rattle.text.proofs.Bytes.{mem-cut, mem-join, up_to-cut, past-cut}
+use Rattle.text.specs.Distance.{distance_of, distance_form}
+use Rattle.text.specs.declared.distance.Distance.{Distance}
 use Rattle.text.proofs.Breaks.{RightStop, ident-right, decimal-right, pair-right}
+use Rattle.text.proofs.Distances.{distance-right}
 use Rattle.text.proofs.Files.{file-accepted, passes-all}
 use Rattle.write.specs.Number.{signed_text}
 use Rattle.write.proofs.Texts.{signed-without}
 use Rattle.write.proofs.Back.{ident-back}
 use Rattle.matching.specs.Claim.{claim_lines, number_lines, coefficient_lines, ids_of, claimed_of}
 use Rattle.matching.specs.Verdict.{Fraction, near, unequal_vertex, unlike_vertex, far_vertex, judged_by}
+use Rattle.matching.specs.Distances.{distance_near, far_distance, distance_lines}
 use Rattle.matching.specs.Cover.{in_order}
 use Rattle.matching.specs.Good.{Alike, TwoWay, Covers}
 use Rattle.matching.proofs.Meaning.{accepted, covers-own, values-own, exact-match, epsilon-match}
-use Rattle.matching.proofs.Meaning.{equivalence-match, renamed}
+use Rattle.matching.proofs.Meaning.{distance-match, equivalence-match, renamed}
 
 -- a line to be written: its identifier, its value and the value's bytes
 pub record WrittenLine (A : Type 0) : Type 0 where
@@ -123,6 +127,10 @@ module _ (most : ℕ) where
       → coefficient_lines most (claim_text l) ≡ gives (pairs_of l)
   coefficients-back l h f = lines-back decimal_form decimal-right most l h f
 
+  pub distances-back : (l : List (WrittenLine Distance)) → AllSpelled distance_of l → length l ≤ most
+      → distance_lines most (claim_text l) ≡ gives (pairs_of l)
+  distances-back l h f = lines-back distance_form distance-right most l h f
+
 -- ---- a claim that lists the reference output
 abbrev pub listed : List ℤ → List ℤ → List (WrittenLine ℤ)
 listed [] values = []
@@ -193,3 +201,13 @@ module _ (most : ℕ) (ids : List ℤ) (rises : rising_z ids ≡ true) (few : le
       rw (coefficients-back most l h f)
       ((epsilon-match any ids reference rises n (pairs_of l) (covers-own ids rises any (pairs_of l) e)).1
       (subst (Alike near (0, 1) any reference) (sym (values-own ids rises any (pairs_of l) e)) a))
+
+  -- they are distances, in any spelling, each matching that of its vertex
+  pub distance-own : (any : Distance) (reference : List ℤ) → length reference ≡ length ids → (l : List (WrittenLine Distance))
+      → AllSpelled distance_of l → length l ≤ most → ids_of (pairs_of l) ≡ ids
+      → Alike distance_near (pos 0) any reference (claimed_of (pairs_of l))
+      → judged_by (place_in ids) (length ids) any (far_distance reference) (distance_lines most (claim_text l)) ≡ accepted
+  distance-own any reference n l h f e a =
+      rw (distances-back most l h f)
+      ((distance-match any ids reference rises n (pairs_of l) (covers-own ids rises any (pairs_of l) e)).1
+      (subst (Alike distance_near (pos 0) any reference) (sym (values-own ids rises any (pairs_of l) e)) a))

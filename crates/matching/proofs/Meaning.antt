@@ -7,27 +7,32 @@ use Prim.Native.Nat.{ℕ, zero, suc, ◌*◌, ◌^◌, ◌≤◌, ◌<◌}
 use native.Mathlib.Nat.{not-suc-le-zero, mul-pos, pos_of_ne-zero}
 use native.Mathlib.Omega.{arith}
 use native.Mathlib.Decide.{ℕ_discrete, dec_lt}
-use lib.Dec.{eqb, leb}
-use borrow.Author.Tests.{eq-eqb, eqb-true, eqb-false, le-leb, leb-true}
-use lib.IntN.{ℤ, pos}
+use lib.Dec.{eqb, leb, ltb}
+use borrow.Author.Tests.{eq-eqb, eqb-true, eqb-false, le-leb, leb-true, lt-ltb, ltb-true}
+use lib.IntN.{ℤ, pos, negsuc}
 use lib.ListN.{length, get_or}
 use lib.Seq.{ext_get_or}
 use Rattle.basis.specs.Refusal.{Said, gives}
+use Rattle.basis.specs.Area.{infinity, unreachable}
 use Rattle.basis.specs.Order.{same_z, rising_z}
 use Rattle.basis.proofs.Areas.{column-length}
 use Rattle.graph.specs.declared.find.Found.TheVariants.{At}
 use Rattle.graph.specs.Find.{place_in}
 use Rattle.graph.proofs.Finds.{place_at}
-use Rattle.basis.proofs.Tests.{clash, bool_cases, same_test}
+use Rattle.basis.proofs.Tests.{clash, no-case, bool_cases, same_test, and_first, and_second, and_both}
 use Rattle.basis.proofs.Saids.{given-one}
 use Rattle.basis.proofs.Orders.{signed-order}
+use Rattle.text.specs.Weight.{million}
 use Rattle.text.specs.declared.decimal.Decimal.{Decimal}
+use Rattle.text.specs.declared.distance.Distance.{Distance}
+use Rattle.text.specs.declared.distance.Distance.TheVariants as D
 use Rattle.matching.specs.Close.{distance, is_close}
 use Rattle.matching.specs.Claim.{ids_of, claimed_of}
 use Rattle.matching.specs.Verdict.{Verdict, matched, incomplete_at, mismatch_at, Fraction, near, first_place}
 use Rattle.matching.specs.Verdict.{unequal_vertex, same_kind, agrees, unlike_vertex, far_vertex, verdict_of, judged_by}
 use Rattle.matching.specs.Cover.{incomplete_line, value_of, in_order, reported_line}
-use Rattle.matching.specs.Good.{Least, Alike, EqualWhere, TwoWay, LineOf, Covers, Lacks, line_by_line}
+use Rattle.matching.specs.Distances.{reached_near, distance_near, far_distance}
+use Rattle.matching.specs.Good.{Least, Alike, DistanceMatches, EqualWhere, TwoWay, LineOf, Covers, Lacks, line_by_line}
 use Rattle.matching.proofs.Closeness.{cancel, window, ten-pos, zero-only}
 use Rattle.matching.proofs.FirstPlaces.{first-bound, failing-bound}
 use Rattle.matching.proofs.Leasts.{first-exactly, unlike-none}
@@ -78,6 +83,46 @@ same-fraction a b c d s p q e =
     let x : d * a ≡ b * c = omega arith in
     let y : d * b ≡ b * d = omega arith in
     sym (scaled-alike a b s d q) ∙ ap₂ (λ (x y : ℕ). is_close x y s) x y ∙ scaled-alike c d s b p
+
+-- ---- a distance: near it in exact numbers, or `infinity` exactly where unreachable
+pub distance-exactly : (r : ℤ) (x : Distance) → (distance_near r x ≡ true) ↔ DistanceMatches r x
+unfolding reached_near is_close
+distance-exactly r D.Infinity = (signed-order.same-eq r unreachable, λ e. rw e)
+distance-exactly (negsuc m) (D.Finite s) = (λ e. clash e refl, λ x. no-case (let e = x.1 in cc))
+distance-exactly (pos m) (D.Finite s) = (
+  λ e. (
+    m,
+    refl,
+    ltb-true m infinity (and_first (ltb m infinity) (is_close m million s) e),
+    leb-true (10000 * distance (m * 10 ^ s.down) (million * (s.digits * 10 ^ s.up))) (m * 10 ^ s.down)
+        (and_second (ltb m infinity) (is_close m million s) e),
+  ),
+  λ (n, q, l, h).
+      let e : n ≡ m = cc in
+      let z = le-leb (10000 * distance (n * 10 ^ s.down) (million * (s.digits * 10 ^ s.up))) (n * 10 ^ s.down) h in
+      rw (← e, lt-ltb n infinity l) z,
+)
+
+-- "Equality matches"
+pub equal-distance-matches : (n : ℕ) (s : Decimal) → n < infinity → n * 10 ^ s.down ≡ million * (s.digits * 10 ^ s.up)
+    → distance_near (pos n) (D.Finite s) ≡ true
+unfolding reached_near
+equal-distance-matches n s l e = and_both (lt-ltb n infinity l) (equality-matches n million s e)
+
+-- "unreachable" matches no decimal, and a number that is no distance matches nothing
+pub unreachable-matches : (s : Decimal) → distance_near unreachable (D.Finite s) ≡ false
+unfolding reached_near
+unreachable-matches s = refl
+
+pub negative-matches : (n : ℕ) (x : Distance) → distance_near (negsuc n) x ≡ false
+unfolding reached_near
+negative-matches n D.Infinity = refl
+negative-matches n (D.Finite s) = refl
+
+-- "r = 0 matches only zero"
+pub no-distance-matches : (s : Decimal) → (distance_near (pos 0) (D.Finite s) ≡ true) ↔ (s.digits ≡ 0)
+unfolding reached_near
+no-distance-matches s = zero-matches 0 million s (omega arith) refl
 
 abbrev pub accepted : Said Verdict
 accepted = gives matched
@@ -248,6 +293,15 @@ pub epsilon-match : (any : Decimal) (ids : List ℤ) (reference : List Fraction)
 epsilon-match any ids reference r long l =
     by-match ids r any (far_vertex reference) (first-within ids near reference long) l
     (first-exactly near (0, 1) any reference (in_order (place_in ids) any (length ids) l))
+
+-- distances: each matches that of its vertex
+pub distance-match : (any : Distance) (ids reference : List ℤ) → rising_z ids ≡ true → length reference ≡ length ids
+    → (l : List (ℤ × Distance)) → Covers ids (ids_of l)
+    → (judged_by (place_in ids) (length ids) any (far_distance reference) (gives l) ≡ accepted)
+    ↔ Alike distance_near (pos 0) any reference (in_order (place_in ids) any (length ids) l)
+distance-match any ids reference r long l =
+    by-match ids r any (far_distance reference) (first-within ids distance_near reference long) l
+    (first-exactly distance_near (pos 0) any reference (in_order (place_in ids) any (length ids) l))
 
 -- ---- "Equivalence match"
 -- what stands beside the first z in a list of keys

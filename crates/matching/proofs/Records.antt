@@ -9,13 +9,11 @@ use lib.ListN.{length, get_or, set}
 use borrow.Author.Tests.{eq-eqb, ne_eqb}
 use Rattle.basis.specs.Scan.{every}
 use Rattle.basis.proofs.Scans.{or_kept, every_more, every-fail, every-end}
-use Rattle.text.specs.declared.decimal.Decimal.{Decimal}
 use Rattle.graph.specs.declared.find.Found.{Found}
 use Rattle.graph.specs.declared.find.Found.TheVariants.{At, Missing}
 use Rattle.graph.specs.Find.{bisected, Searched}
 use Rattle.graph.proofs.Finds.{searched-is, bisected-below}
-use Rattle.matching.specs.Calls.{near_within, fraction_in}
-use Rattle.matching.specs.Steps.{new_in, set_at, FoundBelow, stray_step, lesser_fault, far_step, is_recorded, end_line, reported_in}
+use Rattle.matching.specs.Steps.{new_in, set_at, FoundBelow, stray_step, lesser_fault, fault_step, is_recorded, end_line, reported_in}
 
 -- ---- a line's vertex, by what a search has found
 module _ (ids : List ℤ) (lines : List ℕ) (id : ℤ) {sought : ℤ} (q : sought ≡ id) {f : Found} (e : Searched ids sought f) where
@@ -83,24 +81,20 @@ pub set_here : {A : Type 0} (l : List A) (x : A) {vertex : Found} {v : ℕ} {y :
 set_here l x h e = rw (h, e)
 
 -- ---- the smallest vertex at fault
-module _ (nums dens : List ℕ) (vertex : Found) (s : Decimal) (far : ℕ) where
-  pub far_none : vertex ≡ Missing → far ≡ far_step nums dens vertex s far
+module _ {A : Type 0} (matches : ℕ → A → Bool) (vertex : Found) (x : A) (far : ℕ) where
+  pub far_none : vertex ≡ Missing → far ≡ fault_step matches vertex x far
   far_none h = rw h
 
-  module _ {v : ℕ} (h : vertex ≡ At v) {a b : ℕ} (p : a ≡ get_or nums v 0) (q : b ≡ get_or dens v 0)
-      {t : Bool} (e : t ≡ near_within (a, b) s) where
-    tested : near_within (fraction_in nums dens v) s ≡ t
-    tested = sym (e ∙ rw (p, q))
-
-    pub far-near : t ≡ true → far ≡ far_step nums dens vertex s far
-    far-near y = rw (h, tested, y)
+  module _ {v : ℕ} (h : vertex ≡ At v) {t : Bool} (e : t ≡ matches v x) where
+    pub far-near : t ≡ true → far ≡ fault_step matches vertex x far
+    far-near y = rw (h, ← e, y)
 
     module _ (y : t ≡ false) where
-      pub far-first : far ≡ 0 → v + 1 ≡ far_step nums dens vertex s far
-      far-first z = rw (h, tested, y, z)
+      pub far-first : far ≡ 0 → v + 1 ≡ fault_step matches vertex x far
+      far-first z = rw (h, ← e, y, z)
 
-      pub far-lesser : (far ≡ 0 → ⊥) → {m : ℕ} → m ≡ min far (v + 1) → m ≡ far_step nums dens vertex s far
-      far-lesser n r = r ∙ rw (h, tested, y) (by far n)
+      pub far-lesser : (far ≡ 0 → ⊥) → {m : ℕ} → m ≡ min far (v + 1) → m ≡ fault_step matches vertex x far
+      far-lesser n r = r ∙ rw (h, ← e, y) (by far n)
         where
           by : (g : ℕ) → (g ≡ 0 → ⊥) → min g (v + 1) ≡ lesser_fault g (v + 1)
           by zero n = absurd (n refl)

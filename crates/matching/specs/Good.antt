@@ -1,14 +1,19 @@
 -- 01 "Claims and verdicts" and 02 "Claims in any order": when a claim is complete, when its values match, and where they first do not, with
 -- no word on how they are judged; at the end 01's rule as it was before 02's, beside which it is held.
-use Rattle.std.specs.Prelude.{ℕ, suc, ◌≤◌, ◌<◌, ◌≡◌, Bool, true, false, ◌↔◌, ◌⊎◌, List, [], ℤ, pos, length, get_or}
+use Rattle.std.specs.Prelude.{ℕ, suc, ◌*◌, ◌^◌, ◌≤◌, ◌<◌, ◌≡◌, Bool, true, false, ◌↔◌, ◌⊎◌, List, [], ℤ, pos, length, get_or}
 use Rattle.basis.specs.declared.refusal.Refusal.{Refusal}
 use Rattle.basis.specs.Refusal.{Said, gives, refuses, claim_file}
+use Rattle.basis.specs.Area.{infinity, unreachable}
 use Rattle.basis.specs.Order.{same_z}
 use Rattle.basis.specs.Scan.{mem}
 use Rattle.text.specs.Word.{Word, ident_of}
 use Rattle.text.specs.Line.{two_of}
+use Rattle.text.specs.Weight.{million}
+use Rattle.text.specs.declared.distance.Distance.{Distance}
+use Rattle.text.specs.declared.distance.Distance.TheVariants as D
 use Rattle.text.specs.Bytes.{lf}
 use Rattle.text.specs.File.{joined, no_test, GoodFile, FirstFault}
+use Rattle.matching.specs.Close.{distance}
 use Rattle.matching.specs.Claim.{ids_of, claimed_of}
 use Rattle.matching.specs.Verdict.{Verdict, matched, incomplete_at, mismatch_at, first_place, same_kind, verdict_of}
 
@@ -27,6 +32,14 @@ pub data Differs {A B : Type 0} (alike : A → B → Bool) (x : A) (y : B) (xs :
   other : i < length xs → i < length ys → alike (get_or xs i x) (get_or ys i y) ≡ false → Differs alike x y xs ys i
   missing : length ys ≤ i → i < length xs → Differs alike x y xs ys i
   surplus : length xs ≤ i → i < length ys → Differs alike x y xs ys i
+
+-- 02 K3: "matches within one part in ten thousand, or as `infinity` exactly where unreachable", 01's 10,000 times |r-s| at most r: beside a
+-- distance of n millionths, r = n / 10^6 and s = digits * 10^up / 10^down, both sides times 10^6 * 10^down
+abbrev pub DistanceMatches : ℤ → Distance → Type 0
+DistanceMatches r D.Infinity = r ≡ unreachable
+DistanceMatches r (D.Finite s) =
+    (n : ℕ) × (r ≡ pos n) × (n < infinity)
+    × (10000 * distance (n * 10 ^ s.down) (million * (s.digits * 10 ^ s.up)) ≤ n * 10 ^ s.down)
 
 -- "equal claims exactly where components are equal": two places of n have one claim exactly where they belong together
 abbrev pub EqualWhere : ℕ → (ℕ → ℕ → Type 0) → List ℤ → Type 0

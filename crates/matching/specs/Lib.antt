@@ -5,4 +5,5 @@ pub mod Cover
 pub mod Verdict
 pub mod Good
 pub mod Calls
+pub mod Distances
 pub mod Steps

@@ -1,5 +1,30 @@
--- What private functions say of their work: the lines of a claim one by one.
-use Rattle.std.specs.Prelude.{ℕ, zero, suc, ◌+◌, ◌<◌, min, ◌≡◌, Bool, not, cond, List, ℤ, pos, length, get_or, take, set, eqb}
+-- What private functions say of their work: a product digit by digit, and the lines of a claim one by one.
+use Rattle.std.specs.Prelude.{
+  ℕ,
+  zero,
+  suc,
+  ◌+◌,
+  ◌*◌,
+  ◌^◌,
+  ◌<◌,
+  min,
+  ◌≡◌,
+  Bool,
+  not,
+  cond,
+  ◌&&◌,
+  ◌||◌,
+  List,
+  ℤ,
+  pos,
+  length,
+  get_or,
+  take,
+  set,
+  leb,
+  ltb,
+  eqb,
+}
 use Rattle.basis.specs.Refusal.{Said, gives, refuses}
 use Rattle.basis.specs.Scan.{every, or_else}
 use Rattle.graph.specs.declared.find.Found.{Found}
@@ -9,10 +34,24 @@ use Rattle.matching.specs.declared.reading.Read.{Read}
 use Rattle.matching.specs.declared.reading.Read.TheVariants.{Lines, Fault}
 use Rattle.matching.specs.declared.numbers.Rule.{Rule}
 use Rattle.text.specs.declared.decimal.Decimal.{Decimal}
-use Rattle.matching.specs.Calls.{near_within, fraction_in, coefficients_judged}
+use Rattle.text.specs.declared.distance.Distance.{Distance}
+use Rattle.matching.specs.Calls.{near_within, fraction_in}
+use Rattle.matching.specs.Distances.{distance_near}
 use Rattle.matching.specs.Claim.{number_lines, ids_of}
 use Rattle.matching.specs.Cover.{its_line, incomplete_line, in_order}
 use Rattle.matching.specs.Verdict.{Verdict, mismatch_vertex, verdict_of}
+
+-- a product d * n whose last j digits are dropped: rest and part are what is left of it, and `exact` says that they were zeros
+pub record Dropped (n d rest part : ℕ) (exact : Bool) (j : ℕ) : Type 0 where
+  pub dropped : ℕ
+  pub whole : d * n ≡ (rest * n + part) * 10 ^ j + dropped
+  pub small : dropped < 10 ^ j
+  pub told : exact ≡ eqb dropped 0
+  pub below : part < n
+
+-- a number of which x is left, with nothing but zeros dropped where that is exact, is from low to high
+unfoldable pub left_within : ℕ → ℕ → ℕ → Bool → Bool
+left_within low high x exact = leb low x && (ltb x high || (eqb x high && exact))
 
 -- what is found is a vertex that the record of claim lines has no line for, or is missing
 abbrev pub new_in : List ℕ → Found → Found
@@ -39,10 +78,19 @@ abbrev pub lesser_fault : ℕ → ℕ → ℕ
 lesser_fault zero other = other
 lesser_fault (suc v) other = min (suc v) other
 
--- the smallest vertex at fault once a new vertex, or none, has claimed s: one found before, or this where s is not near its fraction
-abbrev pub far_step : List ℕ → List ℕ → Found → Decimal → ℕ → ℕ
-far_step nums dens (At v) s far = cond (near_within (fraction_in nums dens v) s) far (lesser_fault far (v + 1))
-far_step nums dens Missing s far = far
+-- the smallest vertex at fault once a new vertex, or none, has claimed x: one found before, or this where x does not match, by a test of
+-- a vertex and its claim
+abbrev pub fault_step : {A : Type 0} → (ℕ → A → Bool) → Found → A → ℕ → ℕ
+fault_step matches (At v) x far = cond (matches v x) far (lesser_fault far (v + 1))
+fault_step matches Missing x far = far
+
+-- a claimed decimal matches the fraction of vertex v
+unfoldable pub near_at : List ℕ → List ℕ → ℕ → Decimal → Bool
+near_at nums dens v s = near_within (fraction_in nums dens v) s
+
+-- a claimed distance matches that of vertex v
+unfoldable pub distance_near_at : List ℤ → ℕ → Distance → Bool
+distance_near_at reference v x = distance_near (get_or reference v (pos 0)) x
 
 -- the record has a line for vertex v
 unfoldable pub is_recorded : List ℕ → ℕ → Bool
@@ -87,7 +135,7 @@ read_judged rule reference claimed lines (Lines incomplete) =
     gives (verdict_of incomplete (reported_in lines (mismatch_vertex rule reference claimed)))
 read_judged rule reference claimed lines (Fault r) = refuses r
 
--- what is said of a claim of coefficients that was read, and the size of the record
-pub record JudgedOf (most : ℕ) (ids : List ℤ) (nums dens s : List ℕ) (width : ℕ) (lines : List ℕ) (said : Said Verdict) : Type 0 where
-  pub tells : said ≡ coefficients_judged most ids nums dens s
+-- what is said of a claim of coefficients or of distances that was read, and the size of the record
+pub record JudgedAs (judged : Said Verdict) (width : ℕ) (lines : List ℕ) (said : Said Verdict) : Type 0 where
+  pub tells : said ≡ judged
   pub wide : length lines ≡ width

@@ -1,29 +1,49 @@
 // Whether a decimal is within a ten-thousandth of an exact fraction: digit by digit, no rounding, nothing above 64 bits.
 ghost use Rattle.std.specs.Prelude.{◌≡◌, ◌&&◌, ◌*◌, ◌^◌, ◌<◌, min, leb, eqb};
 ghost use Rattle.matching.specs.Close.{is_close};
+ghost use Rattle.matching.specs.Steps.{Dropped};
 
 use text::decimal::Decimal;
 
-// Above every a * 10001, so that a larger number need not be told apart.
-const CAP: u64 = 1_000_000_000_000_000_000;
+// Above every number that a decimal is held against, so that a larger one need not be told apart.
+const CAP: u64 = 10_000_000_000_000_000_000;
 
 fn capped(x: u64) -> u64
-    ensures { result ≡ min x (10 ^ 18) }
+    ensures { result ≡ min x (10 ^ 19) }
 {
     if x < CAP { x } else { CAP }
 }
 
+// Ten times a number, or the cap where it is more.
+fn ten_times(m: u64) -> u64
+    ensures { result ≡ min (m * 10) (10 ^ 19) }
+{
+    if m < 1_000_000_000_000_000_000 {
+        m * 10
+    } else {
+        CAP
+    }
+}
+
 // d * 10^k, or the cap where it is more.
-fn scaled_up(d: u64, k: u64) -> u64
-    ensures { result ≡ min (d * 10 ^ k) (10 ^ 18) }
+pub(crate) fn scaled_up(d: u64, k: u64) -> u64
+    ensures { result ≡ min (d * 10 ^ k) (10 ^ 19) }
 {
     let mut m = capped(d);
     let mut j: u64 = 0;
     while j < k {
-        m = capped(m * 10);
+        m = ten_times(m);
         j += 1;
     }
     m
+}
+
+// What is left of a product d * n without its last digits, rest * n + part, and whether nothing but zeros was dropped.
+#[derive(Drop)]
+pub(crate) struct Left {
+    pub rest: u64,
+    pub part: u64,
+    pub exact: bool,
 }
 
 // Nothing but zeros is dropped still, once this digit is.
@@ -36,11 +56,10 @@ fn still_exact(exact: bool, dropped: u64) -> bool
     exact
 }
 
-// Whether d * n is from low * 10^k to high * 10^k. Its last k digits are dropped one by one: (rest * n + part) * 10^j is d * n without what
-// was dropped.
-fn enclosed(low: u64, high: u64, n: u64, d: u64, k: u64) -> bool
-    requires { (0 < n) × (n < 2 ^ 50) × (high < 2 ^ 50) }
-    ensures { result ≡ (leb (low * 10 ^ k) (d * n) && leb (d * n) (high * 10 ^ k)) }
+// The last k digits of d * n are dropped one by one.
+pub(crate) fn drop_digits(n: u64, d: u64, k: u64) -> Left
+    requires { (0 < n) × (n < 2 ^ 50) }
+    ensures { Dropped n d result.rest result.part result.exact k }
 {
     let mut rest = d;
     let mut part: u64 = 0;
@@ -53,10 +72,19 @@ fn enclosed(low: u64, high: u64, n: u64, d: u64, k: u64) -> bool
         rest = rest / 10;
         j += 1;
     }
-    if high / n < rest {
+    Left { rest, part, exact }
+}
+
+// Whether d * n is from low * 10^k to high * 10^k.
+fn enclosed(low: u64, high: u64, n: u64, d: u64, k: u64) -> bool
+    requires { (0 < n) × (n < 2 ^ 50) × (high < 2 ^ 50) }
+    ensures { result ≡ (leb (low * 10 ^ k) (d * n) && leb (d * n) (high * 10 ^ k)) }
+{
+    let left = drop_digits(n, d, k);
+    if high / n < left.rest {
         return false;
     }
-    let product = rest * n + part;
+    let product = left.rest * n + left.part;
     if product < low {
         return false;
     }
@@ -66,7 +94,7 @@ fn enclosed(low: u64, high: u64, n: u64, d: u64, k: u64) -> bool
     if product < high {
         return true;
     }
-    exact
+    left.exact
 }
 
 // Whether the decimal s is within a ten-thousandth of a / b. A coefficient's terms are below 65,536 squared, so they are u32.

@@ -2,8 +2,8 @@
 ghost use Rattle.std.specs.Prelude.{◌≡◌, ◌≤◌, length};
 ghost use Rattle.matching.specs.Verdict.{says};
 ghost use Rattle.basis.specs.Area.{cleared};
-ghost use Rattle.matching.specs.Calls.{near_within, told, coefficients_call};
-ghost use Rattle.matching.specs.Steps.{FoundBelow, far_step, JudgedOf};
+ghost use Rattle.matching.specs.Calls.{near_within, told, coefficients_judged, coefficients_call};
+ghost use Rattle.matching.specs.Steps.{FoundBelow, near_at, fault_step, JudgedAs};
 
 use crate::close::close;
 use crate::judged::Judged;
@@ -40,7 +40,7 @@ fn measured(
     far: usize,
 ) -> usize
     requires { (FoundBelow vertex (length numerators.now)) × (FoundBelow vertex (length denominators.now)) }
-    ensures { result ≡ far_step numerators.now denominators.now vertex s far }
+    ensures { result ≡ fault_step (near_at numerators.now denominators.now) vertex s far }
 {
     match vertex {
         Found::Missing => far,
@@ -68,7 +68,8 @@ fn read_coefficients(
 ) -> Judged
     requires ids_in_bounds { (length ids.now ≤ length numerators.now) × (length ids.now ≤ length denominators.now) }
     requires ids_in_bounds_2 { (length ids.now ≤ length lines.old) × (lines.old ≡ cleared lines.old) }
-    ensures { JudgedOf most ids.now numerators.now denominators.now claim.now
+    ensures { JudgedAs
+        (coefficients_judged most ids.now numerators.now denominators.now claim.now)
         (length lines.old) lines.new (says result) }
 {
     let n = ids.len();

@@ -3,8 +3,10 @@
 
 pub mod close;
 pub mod coefficients;
+pub mod distances;
 pub mod judged;
 pub mod kinds;
+pub mod near;
 pub mod numbers;
 pub mod reading;
 

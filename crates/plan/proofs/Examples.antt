@@ -25,6 +25,10 @@ pub record Sheets : Type 0 where
   pub unended : sheet_check (bytes "directed\n2\n1\n2") ≡ refuses (at 2 4 4)
   pub range : sheet_check (bytes "directed\n1\n1\n0\n2\nwcc\nbfs 9223372036854775808\n") ≡ refuses (at 3 4 7)
   pub job : sheet_check (bytes "directed\n1\n1\n0\n2\nwcc\nbfs 01\n") ≡ refuses (at 2 4 7)
+  pub routes : sheet_check (bytes "directed\n2\n1\n2\n1\n1 2 0.5\n2\nsssp 1\nsssp -7\n")
+      ≡ gives (plan true (block 2 11 15) (block 1 17 25) (block 2 27 42))
+  pub routes-range : sheet_check (bytes "directed\n1\n1\n0\n2\nwcc\nsssp 9223372036854775808\n") ≡ refuses (at 3 4 7)
+  pub routes-none : sheet_check (bytes "directed\n1\n1\n0\n1\nsssp\n") ≡ refuses (at 2 4 6)
   pub seventeen : sheet_check (bytes "directed\n1\n1\n0\n17\nwcc\n") ≡ refuses (at 1 4 5)
   pub more : sheet_check (bytes "directed\n1\n1\n0\n1\nwcc\n\n") ≡ refuses (at 2 4 7)
 
@@ -41,6 +45,9 @@ sheets = record {
   unended = refl;
   range = refl;
   job = refl;
+  routes = refl;
+  routes-range = refl;
+  routes-none = refl;
   seventeen = refl;
   more = refl;
 }

@@ -18,40 +18,53 @@ use Rattle.text.specs.declared.ident.Scan.TheVariants as S
 use Rattle.text.proofs.Words.{Ends, Reads, field-reads}
 use Rattle.text.proofs.Bytes.{mem-right}
 use Rattle.plan.specs.Lines.{sheet_fault, in_sheet, begins}
-use Rattle.plan.specs.Jobs.{bfs_word, cdlp_word, wcc_word, lcc_word, made, job_of, job_line, job_says}
+use Rattle.plan.specs.Jobs.{bfs_word, cdlp_word, sssp_word, wcc_word, lcc_word, made, job_of, job_line, job_says}
 use Rattle.plan.specs.Steps.{job_by, with_number, numbered_at}
 use Rattle.plan.specs.declared.job.Job.{Job}
-use Rattle.plan.specs.declared.job.Job.TheVariants.{Bfs, Wcc, Cdlp, Lcc}
+use Rattle.plan.specs.declared.job.Job.TheVariants.{Bfs, Wcc, Cdlp, Lcc, Sssp}
 use Rattle.plan.specs.declared.job.JobLine.{JobLine}
+use Rattle.plan.specs.declared.job.Kind.{Kind}
+use Rattle.plan.specs.declared.job.Kind.TheVariants as N
 use Rattle.plan.proofs.Words.{begins-split, begins-long, begins-cut, begins-word}
 use Rattle.plan.proofs.Lines.{Line, line-said, word-reads, none_reads}
 
 -- ---- the number of a job
-module _ (s : List ℕ) (at from : ℕ) (bfs : Bool) (x : Scan) (u : scan_says x ≡ field_at s from lf) where
-  numbered-by : (y : Scan) → x ≡ y → in_sheet s (line_of at (with_number bfs (scan_says y))) ≡ numbered_at s at from bfs
-  unfolding numbered_at
-  numbered-by y e = ap (λ z. in_sheet s (line_of at (with_number bfs z))) (ap scan_says (sym e) ∙ u)
+module _ (kind : Kind) (z y : ℤ) (f : y ≡ z) where
+  pub by-bfs : kind ≡ N.Bfs → Bfs y ≡ job_by kind z
+  by-bfs e = rw (e, f)
 
-  pub numbered-bad : (p : ℕ) (r : Refusal) → x ≡ S.Bad p → r ≡ sheet_fault s at bad_form → refuses r ≡ numbered_at s at from bfs
+  pub by-cdlp : kind ≡ N.Cdlp → Cdlp y ≡ job_by kind z
+  by-cdlp e = rw (e, f)
+
+  pub by-sssp : kind ≡ N.Sssp → Sssp y ≡ job_by kind z
+  by-sssp e = rw (e, f)
+
+module _ (s : List ℕ) (at from : ℕ) (kind : Kind) (x : Scan) (u : scan_says x ≡ field_at s from lf) where
+  numbered-by : (y : Scan) → x ≡ y → in_sheet s (line_of at (with_number kind (scan_says y))) ≡ numbered_at s at from kind
+  unfolding numbered_at
+  numbered-by y e = ap (λ z. in_sheet s (line_of at (with_number kind z))) (ap scan_says (sym e) ∙ u)
+
+  pub numbered-bad : (p : ℕ) (r : Refusal) → x ≡ S.Bad p → r ≡ sheet_fault s at bad_form → refuses r ≡ numbered_at s at from kind
   numbered-bad p r e f = ap refuses f ∙ numbered-by (S.Bad p) e
 
-  pub numbered-outside : (p : ℕ) (r : Refusal) → x ≡ S.Outside p → r ≡ sheet_fault s at out_of_range → refuses r ≡ numbered_at s at from bfs
+  pub numbered-outside : (p : ℕ) (r : Refusal) → x ≡ S.Outside p → r ≡ sheet_fault s at out_of_range → refuses r
+      ≡ numbered_at s at from kind
   numbered-outside p r e f = ap refuses f ∙ numbered-by (S.Outside p) e
 
-  pub numbered-bfs : (z y : ℤ) (p : ℕ) → x ≡ S.Value z p → y ≡ z → bfs ≡ true → gives (Bfs y, p) ≡ numbered_at s at from bfs
-  numbered-bfs z y p e f t = rw (f, ← numbered-by (S.Value z p) e, t)
+  pub numbered-good : (z y : ℤ) (p : ℕ) (j : Job) → x ≡ S.Value z p → y ≡ z → j ≡ job_by kind y → gives (j, p) ≡ numbered_at s at from kind
+  numbered-good z y p j e f g = rw (g, f) (numbered-by (S.Value z p) e)
 
-  pub numbered-cdlp : (z y : ℤ) (p : ℕ) → x ≡ S.Value z p → y ≡ z → bfs ≡ false → gives (Cdlp y, p) ≡ numbered_at s at from bfs
-  numbered-cdlp z y p e f t = rw (f, ← numbered-by (S.Value z p) e, t)
-
--- ---- a job by the four tests of the bytes at its place
-abbrev job_from : Bool → Bool → Bool → Bool → List ℕ → Word Job
-job_from p q r t bs =
-    cond p (made Bfs (ident_of (drop 4 bs))) (cond q (made Cdlp (ident_of (drop 5 bs))) (cond r (value Wcc) (cond t (value Lcc) malformed)))
+-- ---- a job by the five tests of the bytes at its place
+abbrev job_from : Bool → Bool → Bool → Bool → Bool → List ℕ → Word Job
+job_from p q o r t bs =
+    cond p (made Bfs (ident_of (drop 4 bs)))
+    (cond q (made Cdlp (ident_of (drop 5 bs)))
+    (cond o (made Sssp (ident_of (drop 5 bs))) (cond r (value Wcc) (cond t (value Lcc) malformed))))
 
 module _ (s : List ℕ) (at : ℕ) where
   job-by : (bs r : List ℕ) → Line s at bs r
-      → job_from (begins bfs_word (drop at s)) (begins cdlp_word (drop at s)) (begins (wcc_word ++ (lf ∷ [])) (drop at s))
+      → job_from (begins bfs_word (drop at s)) (begins cdlp_word (drop at s)) (begins sssp_word (drop at s))
+      (begins (wcc_word ++ (lf ∷ [])) (drop at s))
       (begins (lcc_word ++ (lf ∷ [])) (drop at s)) bs ≡ job_of bs
   unfolding job_of mem
   job-by bs r (e, k) =
@@ -59,6 +72,7 @@ module _ (s : List ℕ) (at : ℕ) where
         e,
         begins-cut lf bfs_word bs r refl,
         begins-cut lf cdlp_word bs r refl,
+        begins-cut lf sssp_word bs r refl,
         begins-word lf wcc_word bs r refl k,
         begins-word lf lcc_word bs r refl k,
       )
@@ -69,22 +83,22 @@ module _ (s : List ℕ) (at : ℕ) where
   made-well f (value v) = refl
 
   -- a word with a number behind it
-  number-reads : (bfs : Bool) (w : List ℕ) → mem lf w ≡ false → begins w (drop at s) ≡ true
-      → ((bs r : List ℕ) → Line s at bs r → job_of bs ≡ made (job_by bfs) (ident_of (drop (length w) bs)))
-      → Reads lf job_of s at (with_number bfs (field_at s (at + length w) lf))
+  number-reads : (kind : Kind) (w : List ℕ) → mem lf w ≡ false → begins w (drop at s) ≡ true
+      → ((bs r : List ℕ) → Line s at bs r → job_of bs ≡ made (job_by kind) (ident_of (drop (length w) bs)))
+      → Reads lf job_of s at (with_number kind (field_at s (at + length w) lf))
   unfolding within
-  number-reads bfs w m h f =
+  number-reads kind w m h f =
       let reads : Reads lf ident_of s (at + length w) (field_at s (at + length w) lf) = field-reads s (at + length w) lf refl refl in
       record {
         ended = λ bs r e k. ended bs r e k reads;
         unended = λ k.
-            ap (made (job_by bfs))
+            ap (made (job_by kind))
             (reads.unended (mem-right lf w (drop (at + length w) s) (rw (← drop-drop, ← begins-split w (drop at s) h) k)));
       }
     where
       ended : (bs r : List ℕ) (e : drop at s ≡ bs ++ lf ∷ r) (k : mem lf bs ≡ false)
           → Reads lf ident_of s (at + length w) (field_at s (at + length w) lf)
-          → Ends (at + length bs + 1) (job_of bs) (with_number bfs (field_at s (at + length w) lf))
+          → Ends (at + length bs + 1) (job_of bs) (with_number kind (field_at s (at + length w) lf))
       ended bs r e k reads =
           let b : begins w bs ≡ true = sym (begins-cut lf w bs r m) ∙ rw e at h in
           let l : length w ≤ length bs = begins-long w bs b in
@@ -94,44 +108,53 @@ module _ (s : List ℕ) (at : ℕ) where
           let y : Ends (at + length w + length (drop (length w) bs) + 1) (ident_of (drop (length w) bs))
           (field_at s (at + length w) lf) = reads.ended (drop (length w) bs) r d n in
           record {
-            said = ap (made (job_by bfs)) y.said ∙ sym (f bs r (e, k));
+            said = ap (made (job_by kind)) y.said ∙ sym (f bs r (e, k));
             next = λ g. omega (
               arith,
               length-drop (length w) bs,
-              y.next (sym (made-well (job_by bfs) (ident_of (drop (length w) bs))) ∙ sym (ap well_formed (f bs r (e, k))) ∙ g),
+              y.next (sym (made-well (job_by kind) (ident_of (drop (length w) bs))) ∙ sym (ap well_formed (f bs r (e, k))) ∙ g),
             );
           }
 
   module _ (p : Bool) (a : p ≡ begins bfs_word (drop at s)) where
-    pub job-bfs : p ≡ true → (x : JobLine) → job_says x ≡ numbered_at s at (at + 4) true → job_says x ≡ job_line s at
+    pub job-bfs : p ≡ true → (x : JobLine) → job_says x ≡ numbered_at s at (at + 4) N.Bfs → job_says x ≡ job_line s at
     unfolding numbered_at mem
     job-bfs h x e =
-        e ∙ line-said job_of s at _ (number-reads true bfs_word refl (sym a ∙ h) (λ bs r l. sym (job-by bs r l) ∙ rw (sym a ∙ h)))
+        e ∙ line-said job_of s at _ (number-reads N.Bfs bfs_word refl (sym a ∙ h) (λ bs r l. sym (job-by bs r l) ∙ rw (sym a ∙ h)))
 
     pub job-cdlp : p ≡ false → (q : Bool) → q ≡ begins cdlp_word (drop at s) → q ≡ true → (x : JobLine)
-        → job_says x ≡ numbered_at s at (at + 5) false → job_says x ≡ job_line s at
+        → job_says x ≡ numbered_at s at (at + 5) N.Cdlp → job_says x ≡ job_line s at
     unfolding numbered_at mem
     job-cdlp h q b g x e =
-        e ∙ line-said job_of s at _ (number-reads false cdlp_word refl (sym b ∙ g)
+        e ∙ line-said job_of s at _ (number-reads N.Cdlp cdlp_word refl (sym b ∙ g)
         (λ bs r l. sym (job-by bs r l) ∙ rw (sym a ∙ h, sym b ∙ g)))
 
-    module _ (h : p ≡ false) (q : Bool) (b : q ≡ begins cdlp_word (drop at s)) (g : q ≡ false) (t : Bool)
-        (d : t ≡ begins (wcc_word ++ (lf ∷ [])) (drop at s)) where
-      pub job-wcc : t ≡ true → gives (Wcc, at + 4) ≡ job_line s at
-      unfolding mem
-      job-wcc i =
-          line-said job_of s at (scanned (value Wcc) (at + 4)) (word-reads job_of s at wcc_word Wcc (at + 4) refl (sym d ∙ i) (omega arith)
-          (λ bs r l. sym (job-by bs r l) ∙ rw (sym a ∙ h, sym b ∙ g, sym d ∙ i)))
+    module _ (h : p ≡ false) (q : Bool) (b : q ≡ begins cdlp_word (drop at s)) (g : q ≡ false) (o : Bool)
+        (c : o ≡ begins sssp_word (drop at s)) where
+      pub job-sssp : o ≡ true → (x : JobLine) → job_says x ≡ numbered_at s at (at + 5) N.Sssp → job_says x ≡ job_line s at
+      unfolding numbered_at mem
+      job-sssp m x e =
+          e ∙ line-said job_of s at _ (number-reads N.Sssp sssp_word refl (sym c ∙ m)
+          (λ bs r l. sym (job-by bs r l) ∙ rw (sym a ∙ h, sym b ∙ g, sym c ∙ m)))
 
-      pub job-lcc : t ≡ false → (u : Bool) → u ≡ begins (lcc_word ++ (lf ∷ [])) (drop at s) → u ≡ true → gives (Lcc, at + 4) ≡ job_line s at
-      unfolding mem
-      job-lcc i u k j =
-          line-said job_of s at (scanned (value Lcc) (at + 4)) (word-reads job_of s at lcc_word Lcc (at + 4) refl (sym k ∙ j) (omega arith)
-          (λ bs r l. sym (job-by bs r l) ∙ rw (sym a ∙ h, sym b ∙ g, sym d ∙ i, sym k ∙ j)))
+      module _ (m : o ≡ false) (t : Bool) (d : t ≡ begins (wcc_word ++ (lf ∷ [])) (drop at s)) where
+        pub job-wcc : t ≡ true → gives (Wcc, at + 4) ≡ job_line s at
+        unfolding mem
+        job-wcc i =
+            line-said job_of s at (scanned (value Wcc) (at + 4))
+            (word-reads job_of s at wcc_word Wcc (at + 4) refl (sym d ∙ i) (omega arith)
+            (λ bs r l. sym (job-by bs r l) ∙ rw (sym a ∙ h, sym b ∙ g, sym c ∙ m, sym d ∙ i)))
 
-      pub job-none : t ≡ false → (u : Bool) → u ≡ begins (lcc_word ++ (lf ∷ [])) (drop at s) → u ≡ false → (r : Refusal)
-          → r ≡ sheet_fault s at bad_form → refuses r ≡ job_line s at
-      job-none i u k j r f =
-          ap refuses f
-          ∙ line-said job_of s at (scanned malformed at)
-          (none_reads job_of s at at (λ bs r l. sym (job-by bs r l) ∙ rw (sym a ∙ h, sym b ∙ g, sym d ∙ i, sym k ∙ j)))
+        module _ (i : t ≡ false) (u : Bool) (k : u ≡ begins (lcc_word ++ (lf ∷ [])) (drop at s)) where
+          pub job-lcc : u ≡ true → gives (Lcc, at + 4) ≡ job_line s at
+          unfolding mem
+          job-lcc j =
+              line-said job_of s at (scanned (value Lcc) (at + 4))
+              (word-reads job_of s at lcc_word Lcc (at + 4) refl (sym k ∙ j) (omega arith)
+              (λ bs r l. sym (job-by bs r l) ∙ rw (sym a ∙ h, sym b ∙ g, sym c ∙ m, sym d ∙ i, sym k ∙ j)))
+
+          pub job-none : u ≡ false → (r : Refusal) → r ≡ sheet_fault s at bad_form → refuses r ≡ job_line s at
+          job-none j r f =
+              ap refuses f
+              ∙ line-said job_of s at (scanned malformed at)
+              (none_reads job_of s at at (λ bs r l. sym (job-by bs r l) ∙ rw (sym a ∙ h, sym b ∙ g, sym c ∙ m, sym d ∙ i, sym k ∙ j)))

@@ -1,11 +1,11 @@
--- "Jobs are `bfs ID`, `wcc`, `cdlp N`, `lcc`, their numbers in identifier form."
+-- "Jobs are `bfs ID`, `wcc`, `cdlp N`, `lcc`, their numbers in identifier form."; 02 K3: "job `sssp ID`"
 use Rattle.std.specs.Prelude.{ℕ, cond, List, drop}
 use Rattle.basis.specs.Refusal.{Said, gives, refuses}
 use Rattle.text.specs.Bytes.{bytes}
 use Rattle.text.specs.Word.{Word, malformed, outside, value, ident_of}
 use Rattle.plan.specs.Lines.{sheet_line, begins, is_word}
 use Rattle.plan.specs.declared.job.Job.{Job}
-use Rattle.plan.specs.declared.job.Job.TheVariants.{Bfs, Wcc, Cdlp, Lcc}
+use Rattle.plan.specs.declared.job.Job.TheVariants.{Bfs, Wcc, Cdlp, Lcc, Sssp}
 use Rattle.plan.specs.declared.job.JobLine.{JobLine}
 use Rattle.plan.specs.declared.job.JobLine.TheVariants as JL
 
@@ -16,6 +16,10 @@ bfs_word = bytes "bfs "
 -- `cdlp `, five bytes with its space
 abbrev pub cdlp_word : List ℕ
 cdlp_word = bytes "cdlp "
+
+-- `sssp `, five bytes with its space
+abbrev pub sssp_word : List ℕ
+sssp_word = bytes "sssp "
 
 -- `wcc`, a whole line without its LF
 abbrev pub wcc_word : List ℕ
@@ -36,8 +40,9 @@ unfoldable pub job_of : List ℕ → Word Job
 job_of bs =
     cond (begins bfs_word bs) (made Bfs (ident_of (drop 4 bs)))
     (cond (begins cdlp_word bs) (made Cdlp (ident_of (drop 5 bs)))
+    (cond (begins sssp_word bs) (made Sssp (ident_of (drop 5 bs)))
     (cond (is_word wcc_word bs) (value Wcc)
-    (cond (is_word lcc_word bs) (value Lcc) malformed)))
+    (cond (is_word lcc_word bs) (value Lcc) malformed))))
 
 -- the job line at a place: "Bad form is 2", "a job's number out of range 3"
 abbrev pub job_line : List ℕ → ℕ → Said (Job × ℕ)

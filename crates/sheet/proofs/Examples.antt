@@ -6,13 +6,17 @@ use Rattle.basis.specs.Area.{column}
 use Rattle.basis.specs.Scan.{every, each, mem, first_from}
 use Rattle.text.specs.Bytes.{bytes}
 use Rattle.text.specs.Line.{line_by, two_of}
+use Rattle.text.specs.Weight.{millionths_of, weight_of}
+use Rattle.text.specs.Weighed.{has_weights}
 use Rattle.text.specs.File.{lines_from, values_from}
 use Rattle.text.specs.Scan.{has_at, run_at, count_at, ident_at, field_at, rest_at}
 use Rattle.text.specs.Word.{within}
 use Rattle.write.specs.Number.{digits, count_text, signed_text}
+use Rattle.write.specs.Millionths.{places_text, behind_text, millionths_text}
 use Rattle.graph.specs.Find.{place_from, bisect}
 use Rattle.graph.specs.Part.{targets_between, part_of}
 use Rattle.graph.specs.Sound.{sound_ids, sound_offsets, sound_side, mirrored, sound_sides, sound_graph}
+use Rattle.graph.specs.Weights.{legs, has_leg, legs_mirrored, sound_weights, sound_weighted}
 use Rattle.lists.specs.Files.{edge_test}
 use Rattle.load.specs.Load.{arcs_read, lists_read, loaded, outcome_of, load_call}
 use Rattle.kernels.specs.Answer.{kernel_says}
@@ -27,13 +31,15 @@ use Rattle.lcc.specs.Common.{common_count}
 use Rattle.lcc.specs.Lcc.{those, neighbours, arcs_from, coefficient_among, numerator, denominator}
 use Rattle.lcc.specs.Call.{room_for as lcc-room_for, left_by as lcc-left_by, lcc_call}
 use Rattle.lcc.specs.Ratio.{euclid, gcd_of, lowest}
+use Rattle.sssp.specs.Distance.{offered, overall, least_within}
+use Rattle.sssp.specs.Call.{room_for as sssp-room_for, left_by as sssp-left_by, sssp_says, sssp_call}
 use Rattle.plan.specs.Jobs.{job_of}
 use Rattle.plan.specs.Lines.{lfs, sheet_line, begins, is_word}
 use Rattle.plan.specs.Sheet.{mode_of, count_line, lines_past, section, sections, sheet_check}
 use Rattle.listing.specs.Listing.{spaced_text, numbers_text, refused_text, head_text, named_text}
-use Rattle.listing.specs.Listing.{pair_text, fraction_text, ratio_text, pair_lines, ratio_lines}
+use Rattle.listing.specs.Listing.{pair_text, fraction_text, ratio_text, distance_text, route_text, lines_by, ratio_lines}
 use Rattle.sheet.specs.Desk.{plan_text, desk_output}
-use Rattle.sheet.specs.Jobs.{bfs_text, wcc_text, cdlp_text, lcc_text, jobs_text}
+use Rattle.sheet.specs.Jobs.{bfs_text, wcc_text, cdlp_text, lcc_text, sssp_text, jobs_text}
 
 -- 01's sheet
 abbrev paper_sheet : List ℕ
@@ -81,7 +87,8 @@ pub outputs :
     × (desk_output refused_load_sheet ≡ refused_load_output)
     × (desk_output stray_tab_sheet ≡ stray_tab_output)
     × (desk_output refused_sheet_sheet ≡ refused_sheet_output)
-unfolding column every each mem line_by two_of has_at run_at count_at ident_at field_at rest_at within digits count_text signed_text
+unfolding has_weights column every each mem line_by two_of has_at run_at count_at ident_at field_at rest_at within digits count_text
+    signed_text
     place_from bisect
     targets_between part_of sound_ids sound_offsets sound_side mirrored sound_sides sound_graph edge_test lines_from values_from arcs_read
     lists_read
@@ -96,6 +103,37 @@ unfolding column every each mem line_by two_of has_at run_at count_at ident_at f
     lcc_call euclid
     gcd_of lowest job_of lfs sheet_line begins is_word mode_of count_line lines_past section sections sheet_check spaced_text numbers_text
     refused_text
-    head_text named_text pair_text fraction_text ratio_text pair_lines ratio_lines plan_text desk_output bfs_text wcc_text cdlp_text
-    lcc_text jobs_text
+    head_text named_text pair_text fraction_text ratio_text lines_by ratio_lines plan_text desk_output bfs_text wcc_text cdlp_text lcc_text
+    jobs_text
 outputs = (refl, refl, refl, refl, refl)
+
+-- 02 K3: with weights; the way over the second vertex is the lighter one, no way leads to the fourth, and there is no vertex 7
+abbrev weighted_sheet : List ℕ
+weighted_sheet = bytes "directed\n4\n1\n2\n3\n4\n3\n1 2 0.5\n1 3 100\n2 3 11.50\n2\nsssp 1\nsssp 7\n"
+
+abbrev weighted_output : List ℕ
+weighted_output = bytes "sssp 1\n4\n1 0\n2 0.5\n3 12\n4 infinity\nrefused 10 0 0 0\n"
+
+-- without weights `sssp` is refused, and the others go on
+abbrev unweighted_sheet : List ℕ
+unweighted_sheet = bytes "directed\n2\n1\n2\n1\n1 2\n2\nsssp 1\nwcc\n"
+
+abbrev unweighted_output : List ℕ
+unweighted_output = bytes "refused 14 0 0 0\nwcc\n2\n1 1\n2 1\n"
+
+-- what the desk program prints for each
+pub weighted-outputs : (desk_output weighted_sheet ≡ weighted_output) × (desk_output unweighted_sheet ≡ unweighted_output)
+unfolding has_weights millionths_of weight_of column every each mem line_by two_of has_at run_at count_at ident_at field_at rest_at within
+    digits
+    count_text signed_text places_text behind_text millionths_text place_from bisect targets_between part_of sound_ids sound_offsets
+    sound_side
+    mirrored sound_sides sound_graph legs has_leg legs_mirrored sound_weights sound_weighted edge_test lines_from values_from arcs_read
+    lists_read
+    loaded outcome_of load_call kernel_says adjacent chain first_from first label_of wcc-room_for wcc-left_by wcc_call offered overall
+    least_within
+    sssp-room_for sssp-left_by sssp_says sssp_call job_of lfs sheet_line begins is_word mode_of count_line lines_past section sections
+    sheet_check
+    spaced_text numbers_text refused_text head_text named_text pair_text distance_text route_text lines_by plan_text desk_output wcc_text
+    sssp_text
+    jobs_text
+weighted-outputs = (refl, refl)

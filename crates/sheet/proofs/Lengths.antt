@@ -1,22 +1,25 @@
 -- How long the texts are. Assumes nothing.
 use Prim.Native.Nat.{ℕ, zero, suc, ◌+◌, ◌-◌, ◌*◌, ◌^◌, ◌≤◌, ◌<◌}
-use mathlib.Core.Path.{◌≡◌, refl}
+use mathlib.Core.Path.{◌≡◌, refl, subst}
 use mathlib.Core.Bool.{Bool, true, false, cond}
 use mathlib.Core.List.{List, [], ◌∷◌, ◌++◌}
 use native.Mathlib.Omega.{arith}
+use native.Mathlib.Decide.{dec_lt}
 use native.Mathlib.Nat.{div-le_self, mul-le-mul}
 use lib.Dec.{eqb, ltb}
 use lib.IntN.{ℤ, pos, nat_abs}
 use lib.Signed.{lt_z}
-use lib.ListN.{length, drop, length-append, length-drop}
+use lib.ListN.{length, get_or, drop, length-append, length-drop}
 use lib.Seq.{length-take-le}
 use Rattle.basis.specs.Limits.{desk_vertices}
 use Rattle.basis.specs.Refusal.{Said, gives, refuses, plain}
 use Rattle.basis.specs.declared.refusal.Refusal.{Refusal}
 use Rattle.basis.specs.Order.{same_z}
 use Rattle.basis.specs.Area.{between}
+use Rattle.basis.proofs.Areas.{past_end}
 use Rattle.basis.proofs.Alls.{All, all_take, all-at, all-column, all_left}
 use Rattle.graph.specs.Sound.{Graph, outward, inward, names, sound_graph}
+use Rattle.graph.specs.Weights.{Weighted, is_weighted, out_legs, sound_weighted}
 use Rattle.graph.specs.Find.{place_in, is_there}
 use Rattle.graph.specs.declared.find.Found.{Found}
 use Rattle.graph.specs.declared.find.Found.TheVariants.{At, Missing}
@@ -34,6 +37,9 @@ use Rattle.lcc.specs.Ratio.{gcd_of, lowest}
 use Rattle.lcc.specs.Call as L
 use Rattle.lcc.proofs.Commons.{count-le}
 use Rattle.lcc.proofs.Fractions.{those-short}
+use Rattle.sssp.specs.Distance.{distances}
+use Rattle.sssp.specs.Call as S
+use Rattle.sssp.proofs.Rounds.{signed_all}
 use Rattle.text.specs.Bytes.{lf, space}
 use Rattle.write.specs.Number.{count_text, signed_text}
 use Rattle.write.proofs.Texts.{count_long, signed-long}
@@ -43,9 +49,11 @@ use Rattle.plan.specs.declared.job.Job.TheVariants as J
 use Rattle.plan.proofs.Places.{line-moved}
 use Rattle.text.proofs.Places.{Moved, Small}
 use Rattle.listing.specs.Listing.{slash, refused_word, spaced_text, numbers_text, refused_text, head_text}
-use Rattle.listing.specs.Listing.{named_text, pair_text, fraction_text, ratio_text, pair_lines, ratio_lines}
+use Rattle.listing.specs.Listing.{named_text, pair_text, fraction_text, ratio_text, distance_text, route_text}
+use Rattle.listing.specs.Listing.{lines_by, pair_lines, ratio_lines, route_lines}
+use Rattle.listing.proofs.Distances.{distance-twenty}
 use Rattle.sheet.specs.Desk.{most_behind}
-use Rattle.sheet.specs.Jobs.{desk_area, desk_area_z, answer_text, bfs_text, wcc_text, cdlp_text, lcc_text, job_text, jobs_text}
+use Rattle.sheet.specs.Jobs.{desk_area, desk_area_z, answer_text, bfs_text, wcc_text, cdlp_text, lcc_text, sssp_text, job_text, jobs_text}
 
 -- ---- an identifier has at most 20 bytes, a number of at most 7 digits 7
 abbrev Short : ℕ → Type 0
@@ -76,6 +84,17 @@ pair-most id v h g =
       signed-most v g,
     )
 
+route-most : (id v : ℤ) → Small id → Small v → length (route_text id v) ≤ 42
+unfolding route_text
+route-most id v h g =
+    omega (
+      arith,
+      length-append (named_text id) (distance_text v ++ (lf ∷ [])),
+      length-append (distance_text v) (lf ∷ []),
+      named-most id h,
+      distance-twenty v g,
+    )
+
 fraction-most : (n d : ℕ) → Short n → Short d → length (fraction_text n d) ≤ 15
 unfolding fraction_text
 fraction-most n d h g =
@@ -92,12 +111,13 @@ ratio-most id n d h g k =
       fraction-most n d g k,
     )
 
-pairs-most : (ids vs : List ℤ) → All Small ids → All Small vs → length (pair_lines ids vs) ≤ 42 * length ids
-unfolding pair_lines
-pairs-most [] vs h g = omega arith
-pairs-most (id ∷ ids) [] h g = omega arith
-pairs-most (id ∷ ids) (v ∷ vs) h g =
-    omega (arith, length-append (pair_text id v) (pair_lines ids vs), pair-most id v h.0 g.0, pairs-most ids vs h.1 g.1)
+module _ (text : ℤ → ℤ → List ℕ) (one : (id v : ℤ) → Small id → Small v → length (text id v) ≤ 42) where
+  texts-most : (ids vs : List ℤ) → All Small ids → All Small vs → length (lines_by text ids vs) ≤ 42 * length ids
+  unfolding lines_by
+  texts-most [] vs h g = omega arith
+  texts-most (id ∷ ids) [] h g = omega arith
+  texts-most (id ∷ ids) (v ∷ vs) h g =
+      omega (arith, length-append (text id v) (lines_by text ids vs), one id v h.0 g.0, texts-most ids vs h.1 g.1)
 
 ratios-most : (ids : List ℤ) (ns ds : List ℕ) → All Small ids → All Short ns → All Short ds
     → length (ratio_lines ids ns ds) ≤ 42 * length ids
@@ -138,13 +158,9 @@ plain-brief n h = record { number = h; file = omega arith; line = omega arith; c
 
 -- ---- what a job prints behind its line: a count line of 5 bytes, and a line of 42 for each vertex
 module _ (n : ℕ) (line listing : List ℕ) (few : n ≤ desk_vertices) (long : length listing ≤ desk_vertices * 42) where
-  answer-most : (a b c : Bool) (number : ℕ) → number < 10 ^ 2
-      → length (answer_text n line (kernel_says a b number c) listing) ≤ length line + most_behind
-  unfolding kernel_says head_text
-  answer-most false b c number h = omega (arith, refused-most _ (plain-brief 9 (omega arith)))
-  answer-most true false c number h = omega (arith, refused-most _ (plain-brief number h))
-  answer-most true true false number h = omega (arith, refused-most _ (plain-brief 8 (omega arith)))
-  answer-most true true true number h =
+  done-most : length (head_text line n ++ listing) ≤ length line + most_behind
+  unfolding head_text
+  done-most =
       omega (
         arith,
         length-append (head_text line n) listing,
@@ -152,6 +168,25 @@ module _ (n : ℕ) (line listing : List ℕ) (few : n ≤ desk_vertices) (long :
         length-append (count_text n) (lf ∷ []),
         count_long 4 n (omega arith) (omega arith),
       )
+
+  plain-most : (number : ℕ) → number < 10 ^ 2 → length (refused_text (plain number)) ≤ length line + most_behind
+  plain-most number h = omega (arith, refused-most _ (plain-brief number h))
+
+  answer-most : (a b c : Bool) (number : ℕ) → number < 10 ^ 2
+      → length (answer_text n line (kernel_says a b number c) listing) ≤ length line + most_behind
+  unfolding kernel_says
+  answer-most false b c number h = plain-most 9 (omega arith)
+  answer-most true false c number h = plain-most number h
+  answer-most true true false number h = plain-most 8 (omega arith)
+  answer-most true true true number h = done-most
+
+  routes-most : (a b c d : Bool) → length (answer_text n line (S.sssp_says a b c d) listing) ≤ length line + most_behind
+  unfolding S.sssp_says
+  routes-most false b c d = plain-most 9 (omega arith)
+  routes-most true false c d = plain-most 14 (omega arith)
+  routes-most true true false d = plain-most 10 (omega arith)
+  routes-most true true true false = plain-most 8 (omega arith)
+  routes-most true true true true = done-most
 
 -- ---- the kernels' values
 depth_small : (n k : ℕ) → n ≤ desk_vertices → Small (ring_depth n k)
@@ -161,6 +196,19 @@ depths-small : (g : Graph) (x : Found) → g.vertices ≤ desk_vertices → All 
 unfolding depth_of
 depths-small g Missing h = tt
 depths-small g (At root) h = all-column Small _ (λ v. depth_small g.vertices _ h) 0 g.vertices
+
+distance-small : (g : Weighted) (root v : ℕ) → Small (pos (get_or (distances g.graph.vertices (out_legs g) root) v 0))
+distance-small g root v =
+    let n = g.graph.vertices in
+    let l = distances n (out_legs g) root in
+    elim (dec_lt v (length l)) as (λ _. Small (pos (get_or l v 0))) [
+      | yes h ↦ omega (arith, signed_all n (out_legs g) root l refl v h)
+      | no h ↦ subst (λ (x : ℕ). Small (pos x)) (past_end 0 l v (omega arith)) (omega arith)
+    ]
+
+distances-small : (g : Weighted) (x : Found) → All Small (S.distances_from g x)
+distances-small g Missing = tt
+distances-small g (At root) = all-column Small _ (distance-small g root) 0 g.graph.vertices
 
 labels-small : (g : Graph) → All Small g.ids → All Small (wcc_of g)
 unfolding label_of
@@ -251,7 +299,7 @@ module _ (g : Graph) (ids : All Small g.ids) (count : length g.ids ≤ desk_vert
   neighbours-few v = omega (arith, those-short (either (outward g v) (inward g v)) g.vertices)
 
   lines-most : (vs : List ℤ) → All Small vs → length (pair_lines g.ids vs) ≤ desk_vertices * 42
-  lines-most vs h = omega (arith, pairs-most g.ids vs ids h)
+  lines-most vs h = omega (arith, texts-most pair_text pair-most g.ids vs ids h)
 
   fractions-most : (ns ds : List ℕ) → All Short ns → All Short ds → length (ratio_lines g.ids ns ds) ≤ desk_vertices * 42
   fractions-most ns ds h k = omega (arith, ratios-most g.ids ns ds ids h k)
@@ -292,11 +340,26 @@ module _ (g : Graph) (ids : All Small g.ids) (count : length g.ids ≤ desk_vert
       (all-column Short _ (λ v. (among-short (outward g) _ (neighbours-few v)).1) 0 g.vertices)))
       _ _ _ 0 (omega arith)
 
+module _ (g : Weighted) (ids : All Small g.graph.ids) (count : length g.graph.ids ≤ desk_vertices)
+    (few : g.graph.vertices ≤ desk_vertices) where
+  distances-most : (vs : List ℤ) → All Small vs → length (route_lines g.graph.ids vs) ≤ desk_vertices * 42
+  distances-most vs h = omega (arith, texts-most route_text route-most g.graph.ids vs ids h)
+
+  sssp-most : (line : List ℕ) (root : ℤ) → length (sssp_text g root line) ≤ length line + most_behind
+  unfolding sssp_text S.sssp_call S.left_by
+  sssp-most line root =
+      let place = place_in (names g.graph) root in
+      let said = S.sssp_says (sound_weighted g) (is_weighted g) (is_there place)
+      (S.room_for g.graph.vertices desk_area_z desk_area desk_area desk_area) in
+      routes-most g.graph.vertices line _ few (distances-most _
+      (all_left Small said (pos 0) desk_vertices (S.distances_from g place) (omega arith) (distances-small g place))) _ _ _ _
+
   pub job-most : (line : List ℕ) (j : Job) → length (job_text g line j) ≤ length line + most_behind
-  job-most line (J.Bfs root) = bfs-most line root
-  job-most line J.Wcc = wcc-most line
-  job-most line (J.Cdlp k) = cdlp-most line k
-  job-most line J.Lcc = lcc-most line
+  job-most line (J.Bfs root) = bfs-most g.graph ids count few line root
+  job-most line J.Wcc = wcc-most g.graph ids count few line
+  job-most line (J.Cdlp k) = cdlp-most g.graph ids count few line k
+  job-most line J.Lcc = lcc-most g.graph ids count few line
+  job-most line (J.Sssp root) = sssp-most line root
 
   -- ---- the jobs: their lines stand one after another in the sheet
   pub jobs-most : (s : List ℕ) (k place : ℕ) → place ≤ length s → length (jobs_text g s k place) ≤ (length s - place) + k * most_behind

@@ -8,6 +8,7 @@ use Rattle.basis.specs.Refusal.{gives, refuses}
 use Rattle.basis.specs.declared.refusal.Refusal.{Refusal}
 use Rattle.basis.specs.Area.{between}
 use Rattle.graph.specs.Sound.{Graph}
+use Rattle.graph.specs.Weights.{Weighted}
 use Rattle.kernels.specs.Answer.{says}
 use Rattle.kernels.specs.declared.Answer.{Answer}
 use Rattle.kernels.specs.declared.Answer.TheVariants.{Done, Refused}
@@ -15,6 +16,7 @@ use Rattle.bfs.specs.Call as B
 use Rattle.wcc.specs.Call as W
 use Rattle.cdlp.specs.Call as C
 use Rattle.lcc.specs.Call as L
+use Rattle.sssp.specs.Call as S
 use Rattle.write.specs.Put.{Written, written, put_at}
 use Rattle.write.proofs.Puts.{put_then, put_as, putting-more, putting-end}
 use Rattle.text.proofs.Places.{Moved}
@@ -24,8 +26,8 @@ use Rattle.plan.specs.declared.job.Job.TheVariants as J
 use Rattle.plan.specs.declared.job.JobLine.{JobLine}
 use Rattle.plan.specs.declared.job.JobLine.TheVariants as JL
 use Rattle.plan.proofs.Places.{line-moved}
-use Rattle.listing.specs.Listing.{refused_text, head_text, pair_lines, ratio_lines}
-use Rattle.sheet.specs.Jobs.{desk_area, desk_area_z, answer_text, bfs_text, wcc_text, cdlp_text, lcc_text, job_text, jobs_text}
+use Rattle.listing.specs.Listing.{refused_text, head_text, pair_lines, ratio_lines, route_lines}
+use Rattle.sheet.specs.Jobs.{desk_area, desk_area_z, answer_text, bfs_text, wcc_text, cdlp_text, lcc_text, sssp_text, job_text, jobs_text}
 
 -- ---- by a kernel's answer
 module _ (n : ℕ) (line listing : List ℕ) (x : Answer) (o : List ℕ) (at : ℕ) {o' : List ℕ} {p : ℕ} where
@@ -76,28 +78,43 @@ module _ (g : Graph) (line : List ℕ) (x : Answer) (o : List ℕ) (at : ℕ) {o
       put_as o at _ w (lcc_text g line)
       (ap (λ (c : L.Outcome). answer_text g.vertices line c.said (ratio_lines g.ids c.numerators c.denominators)) call)
 
--- ---- a job by its kind
-module _ (g : Graph) (line : List ℕ) (j : Job) (o : List ℕ) (at : ℕ) {o' : List ℕ} {p : ℕ} where
-  pub job-bfs : (root z : ℤ) → j ≡ J.Bfs root → z ≡ root → written o' p ≡ put_at o at (bfs_text g z line)
-      → written o' p ≡ put_at o at (job_text g line j)
-  job-bfs root z e f w = put_as o at _ w _ (ap (λ y. bfs_text g y line) f ∙ ap (job_text g line) (sym e))
+pub sssp-put : (g : Weighted) (line : List ℕ) (x : Answer) (o : List ℕ) (at : ℕ) {o' : List ℕ} {p : ℕ} (root z : ℤ) (d : List ℤ)
+    (u v t : List ℕ) → z ≡ root
+    → S.outcome (says x) d u v t ≡ S.sssp_call g z desk_area_z desk_area desk_area desk_area
+    → written o' p ≡ put_at o at (answer_text g.graph.vertices line (says x) (route_lines g.graph.ids d))
+    → written o' p ≡ put_at o at (sssp_text g root line)
+unfolding sssp_text
+sssp-put g line x o at root z d u v t same call w =
+    put_as o at _ w (sssp_text g root line)
+    (ap (λ (c : S.Outcome). answer_text g.graph.vertices line c.said (route_lines g.graph.ids c.distance))
+    (call ∙ ap (λ (y : ℤ). S.sssp_call g y desk_area_z desk_area desk_area desk_area) same))
 
-  pub job-wcc : j ≡ J.Wcc → written o' p ≡ put_at o at (wcc_text g line) → written o' p ≡ put_at o at (job_text g line j)
+-- ---- a job by its kind
+module _ (g : Weighted) (line : List ℕ) (j : Job) (o : List ℕ) (at : ℕ) {o' : List ℕ} {p : ℕ} where
+  pub job-bfs : (root z : ℤ) → j ≡ J.Bfs root → z ≡ root → written o' p ≡ put_at o at (bfs_text g.graph z line)
+      → written o' p ≡ put_at o at (job_text g line j)
+  job-bfs root z e f w = put_as o at _ w _ (ap (λ y. bfs_text g.graph y line) f ∙ ap (job_text g line) (sym e))
+
+  pub job-wcc : j ≡ J.Wcc → written o' p ≡ put_at o at (wcc_text g.graph line) → written o' p ≡ put_at o at (job_text g line j)
   job-wcc e w = put_as o at _ w _ (ap (job_text g line) (sym e))
 
-  pub job-cdlp : (k z : ℤ) → j ≡ J.Cdlp k → z ≡ k → written o' p ≡ put_at o at (cdlp_text g z line)
+  pub job-cdlp : (k z : ℤ) → j ≡ J.Cdlp k → z ≡ k → written o' p ≡ put_at o at (cdlp_text g.graph z line)
       → written o' p ≡ put_at o at (job_text g line j)
-  job-cdlp k z e f w = put_as o at _ w _ (ap (λ y. cdlp_text g y line) f ∙ ap (job_text g line) (sym e))
+  job-cdlp k z e f w = put_as o at _ w _ (ap (λ y. cdlp_text g.graph y line) f ∙ ap (job_text g line) (sym e))
 
-  pub job-lcc : j ≡ J.Lcc → written o' p ≡ put_at o at (lcc_text g line) → written o' p ≡ put_at o at (job_text g line j)
+  pub job-lcc : j ≡ J.Lcc → written o' p ≡ put_at o at (lcc_text g.graph line) → written o' p ≡ put_at o at (job_text g line j)
   job-lcc e w = put_as o at _ w _ (ap (job_text g line) (sym e))
+
+  pub job-sssp : (root z : ℤ) → j ≡ J.Sssp root → z ≡ root → written o' p ≡ put_at o at (sssp_text g z line)
+      → written o' p ≡ put_at o at (job_text g line j)
+  job-sssp root z e f w = put_as o at _ w _ (ap (λ y. sssp_text g y line) f ∙ ap (job_text g line) (sym e))
 
 -- ---- the jobs one after another: what is left of them, printed from here on, makes the whole
 pub job_moved : (s : List ℕ) (place : ℕ) (x : JobLine) (j : Job) (end : ℕ) → job_says x ≡ job_line s place → x ≡ JL.Line j end
     → Moved s place end
 job_moved s place x j end u e = line-moved job_of s place j end (sym u ∙ ap job_says e)
 
-module _ {w : Written} (g : Graph) (s : List ℕ) where
+module _ {w : Written} (g : Weighted) (s : List ℕ) where
   pub jobs-end : (left place : ℕ) (o : List ℕ) (at : ℕ) → left ≤ 0 → put_at o at (jobs_text g s left place) ≡ w → written o at ≡ w
   unfolding jobs_text
   jobs-end zero place o at h e = putting-end o at [] e refl

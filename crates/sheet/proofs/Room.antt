@@ -22,7 +22,7 @@ use Rattle.text.specs.Bytes.{lf}
 use Rattle.text.specs.Line.{LineSaid, line, none, fault, line_by}
 use Rattle.text.specs.File.{Says}
 use Rattle.text.proofs.Places.{Small, ident-small, LineHas, line-any}
-use Rattle.load.specs.Load.{Lists, loaded, size_of, outcome_of, load_call, desk, desk_room}
+use Rattle.load.specs.Load.{Lists, loaded, given_of, outcome_of, load_call, desk, desk_room}
 use Rattle.load.proofs.Refused.{load-refusal}
 use Rattle.plan.specs.Lines.{lfs, sheet_fault, in_sheet, word_alone, sheet_line}
 use Rattle.plan.specs.Jobs.{job_of}
@@ -34,7 +34,7 @@ use Rattle.plan.proofs.Places.{Accepted, accepted}
 use Rattle.write.specs.Put.{written, put_at}
 use Rattle.write.proofs.Puts.{wrote-whole}
 use Rattle.listing.specs.Listing.{refused_text}
-use Rattle.sheet.specs.Desk.{mode_number, lines_in, graph_in, load_text, plan_text, checked_text, desk_output, most_behind, most_output}
+use Rattle.sheet.specs.Desk.{mode_number, lines_in, graph_by, load_text, plan_text, checked_text, desk_output, most_behind, most_output}
 use Rattle.sheet.proofs.Whole.{lists_in, lists-good}
 use Rattle.sheet.proofs.Lengths.{Brief, refused-most, jobs-most}
 
@@ -75,7 +75,7 @@ module _ (s : List ℕ) (p : Plan) (a : Accepted s p) where
         a.short,
         w.rise,
         w.inside,
-        jobs-most (graph_in (size_of l) o.ids o.out_offsets o.out_targets o.in_offsets o.in_sources)
+        jobs-most (graph_by (given_of l) o)
             (all_take Small (length l.ids) _ (all-pad Small (pos 0) desk_vertices l.ids (omega arith) small))
             (omega (arith, g.ids_fit, length-take (length l.ids) (pad_with (pos 0) desk_vertices l.ids))) g.ids_fit s p.jobs.count
             p.jobs.from (omega (arith, w.rise, w.inside)),

@@ -3,7 +3,8 @@ use Rattle.std.specs.Prelude.{ℕ, ◌+◌, ◌*◌, Bool, cond, List, ℤ, take
 use Rattle.basis.specs.Refusal.{Said, gives, refuses}
 use Rattle.basis.specs.Area.{between}
 use Rattle.graph.specs.declared.Size.{Size}
-use Rattle.graph.specs.Sound.{Graph, lent}
+use Rattle.graph.specs.Sound.{lent}
+use Rattle.graph.specs.Weights.{Weighted, weighing}
 use Rattle.load.specs.Load.{Room, Outcome, load_call, desk, desk_room}
 use Rattle.plan.specs.declared.sections.Block.{Block}
 use Rattle.plan.specs.declared.sections.Plan.{Plan}
@@ -23,14 +24,18 @@ lines_in b s = between b.from b.to s
 abbrev pub load_of : List ℕ → Plan → Room → Outcome
 load_of s p room = load_call desk (mode_number p.directed) room (lines_in p.vertices s) (lines_in p.edges s)
 
--- the graph that a load left in the areas, with the identifiers of its vertices alone
-abbrev pub graph_in : Size → List ℤ → List ℕ → List ℕ → List ℕ → List ℕ → Graph
-graph_in size ids oo ot io is = lent size (take size.vertices ids) oo ot io is
+-- the graph that a load left in the areas, with the identifiers of its vertices alone, and its weights
+abbrev pub graph_in : Size × Bool → List ℤ → List ℕ → List ℕ → List ℕ → List ℕ → List ℕ → List ℕ → Weighted
+graph_in given ids oo ot io is ow iw = weighing (lent given.0 (take given.0.vertices ids) oo ot io is) given.1 ow iw
+
+-- the same by what the load answered
+abbrev pub graph_by : Size × Bool → Outcome → Weighted
+graph_by given o =
+    graph_in given o.ids o.out_offsets o.out_targets o.in_offsets o.in_sources o.out_weights o.in_weights
 
 -- "A refused sheet or load prints one line": else the jobs print theirs, in their order
-abbrev pub load_text : List ℕ → Plan → Outcome → Said Size → List ℕ
-load_text s p o (gives size) =
-    jobs_text (graph_in size o.ids o.out_offsets o.out_targets o.in_offsets o.in_sources) s p.jobs.count p.jobs.from
+abbrev pub load_text : List ℕ → Plan → Outcome → Said (Size × Bool) → List ℕ
+load_text s p o (gives given) = jobs_text (graph_by given o) s p.jobs.count p.jobs.from
 load_text s p o (refuses r) = refused_text r
 
 -- what a good sheet prints: its plan's sections are loaded into areas of the desk's size, and the load's answer decides

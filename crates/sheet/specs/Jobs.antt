@@ -4,20 +4,22 @@ use Rattle.basis.specs.Refusal.{Said, gives, refuses}
 use Rattle.basis.specs.Area.{between}
 use Rattle.basis.specs.Limits.{desk_vertices}
 use Rattle.graph.specs.Sound.{Graph}
+use Rattle.graph.specs.Weights.{Weighted}
 use Rattle.bfs.specs.Call.{bfs_call}
 use Rattle.wcc.specs.Call.{wcc_call}
 use Rattle.cdlp.specs.Call.{cdlp_call}
 use Rattle.lcc.specs.Call.{lcc_call}
+use Rattle.sssp.specs.Call.{sssp_call}
 use Rattle.plan.specs.Jobs.{job_line}
 use Rattle.plan.specs.declared.job.Job.{Job}
-use Rattle.plan.specs.declared.job.Job.TheVariants.{Bfs, Wcc, Cdlp, Lcc}
-use Rattle.listing.specs.Listing.{refused_text, head_text, pair_lines, ratio_lines}
+use Rattle.plan.specs.declared.job.Job.TheVariants.{Bfs, Wcc, Cdlp, Lcc, Sssp}
+use Rattle.listing.specs.Listing.{refused_text, head_text, pair_lines, ratio_lines, route_lines}
 
 -- an area that a kernel is lent: one place for each vertex that a desk graph may have
 abbrev pub desk_area : List ℕ
 desk_area = replicate desk_vertices 0
 
--- the same area of signed numbers, for the results of BFS, WCC and CDLP
+-- the same area of signed numbers, for the results of BFS, WCC, CDLP and SSSP
 abbrev pub desk_area_z : List ℤ
 desk_area_z = replicate desk_vertices (pos 0)
 
@@ -51,15 +53,23 @@ lcc_text g line =
     let call = lcc_call g desk_area desk_area desk_area in
     answer_text g.vertices line call.said (ratio_lines g.ids call.numerators call.denominators)
 
--- "Jobs are `bfs ID`, `wcc`, `cdlp N`, `lcc`": what one of them prints on a graph, with the bytes of its line
-abbrev pub job_text : Graph → List ℕ → Job → List ℕ
-job_text g line (Bfs root) = bfs_text g root line
-job_text g line Wcc = wcc_text g line
-job_text g line (Cdlp iterations) = cdlp_text g iterations line
-job_text g line Lcc = lcc_text g line
+-- 02 K3: `sssp ID`, with ID its root: identifier and distance of each vertex
+unfoldable pub sssp_text : Weighted → ℤ → List ℕ → List ℕ
+sssp_text g root line =
+    let call = sssp_call g root desk_area_z desk_area desk_area desk_area in
+    answer_text g.graph.vertices line call.said (route_lines g.graph.ids call.distance)
+
+-- "Jobs are `bfs ID`, `wcc`, `cdlp N`, `lcc`" and, 02 K3, "job `sssp ID`": what one of them prints on a graph, with the bytes of its line;
+-- "Unweighted kernels answer as before"
+abbrev pub job_text : Weighted → List ℕ → Job → List ℕ
+job_text g line (Bfs root) = bfs_text g.graph root line
+job_text g line Wcc = wcc_text g.graph line
+job_text g line (Cdlp iterations) = cdlp_text g.graph iterations line
+job_text g line Lcc = lcc_text g.graph line
+job_text g line (Sssp root) = sssp_text g root line
 
 -- so many jobs from a place on, each with its line; a refused one does not end the run
-unfoldable pub jobs_text : Graph → List ℕ → ℕ → ℕ → List ℕ
+unfoldable pub jobs_text : Weighted → List ℕ → ℕ → ℕ → List ℕ
 jobs_text g s zero place = []
 jobs_text g s (suc more) place =
     elim (job_line s place) [ gives x ↦ job_text g (between place x.1 s) x.0 ++ jobs_text g s more x.1 | refuses r ↦ [] ]

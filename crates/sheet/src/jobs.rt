@@ -3,10 +3,12 @@
 ghost use Rattle.std.specs.Prelude.{◌≡◌};
 ghost use Rattle.write.specs.Put.{written, put_at};
 ghost use Rattle.graph.specs.Sound.{lent};
+ghost use Rattle.graph.specs.Weights.{weighing};
 ghost use Rattle.kernels.specs.Answer.{says};
 ghost use Rattle.listing.specs.Listing.{pair_lines, ratio_lines};
 ghost use Rattle.sheet.specs.Jobs.{answer_text, bfs_text, wcc_text, cdlp_text, lcc_text, job_text, jobs_text};
 
+use crate::routes::sssp_job;
 use basis::limits::DESK_VERTICES;
 use bfs::bfs;
 use cdlp::cdlp;
@@ -224,11 +226,14 @@ fn lcc_job(
 // What a job prints.
 fn run_job(
     size: Size,
+    weighted: bool,
     ids: &[i64],
     out_offsets: &[usize],
     out_targets: &[usize],
     in_offsets: &[usize],
     in_sources: &[usize],
+    out_weights: &[usize],
+    in_weights: &[usize],
     job: Job,
     line: &[u8],
     out: &mut [u8],
@@ -237,8 +242,10 @@ fn run_job(
     ensures { written out.new result
         ≡ put_at out.old at
         (job_text
+        (weighing
         (lent size ids.now out_offsets.now out_targets.now
         in_offsets.now in_sources.now)
+        weighted out_weights.now in_weights.now)
         line.now job) }
 {
     match job {
@@ -288,17 +295,35 @@ fn run_job(
             out,
             at,
         ),
+        Job::Sssp(root) => sssp_job(
+            size,
+            weighted,
+            ids,
+            out_offsets,
+            out_targets,
+            in_offsets,
+            in_sources,
+            out_weights,
+            in_weights,
+            root,
+            line,
+            out,
+            at,
+        ),
     }
 }
 
 // So many jobs, whose lines stand in the sheet from a place on.
 pub fn run_jobs(
     size: Size,
+    weighted: bool,
     ids: &[i64],
     out_offsets: &[usize],
     out_targets: &[usize],
     in_offsets: &[usize],
     in_sources: &[usize],
+    out_weights: &[usize],
+    in_weights: &[usize],
     s: &[u8],
     count: usize,
     from: usize,
@@ -308,8 +333,10 @@ pub fn run_jobs(
     ensures { written out.new result
         ≡ put_at out.old at
         (jobs_text
+        (weighing
         (lent size ids.now out_offsets.now out_targets.now
         in_offsets.now in_sources.now)
+        weighted out_weights.now in_weights.now)
         s.now count from) }
 {
     let mut next = at;
@@ -324,11 +351,14 @@ pub fn run_jobs(
             JobLine::Line(job, end) => {
                 next = run_job(
                     size,
+                    weighted,
                     ids,
                     out_offsets,
                     out_targets,
                     in_offsets,
                     in_sources,
+                    out_weights,
+                    in_weights,
                     job,
                     &s[place..end],
                     out,

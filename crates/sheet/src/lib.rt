@@ -2,6 +2,7 @@
 #![tactic(auto)]
 
 pub mod jobs;
+mod routes;
 
 ghost use Rattle.std.specs.Prelude.{◌≡◌};
 ghost use Rattle.load.specs.Load.{says, room_in, outcome};
@@ -32,13 +33,16 @@ fn load_sections(
     out_targets: &mut [usize],
     in_offsets: &mut [usize],
     in_sources: &mut [usize],
+    out_weights: &mut [usize],
+    in_weights: &mut [usize],
 ) -> Loaded
     requires { Placed s.now plan }
     ensures { outcome (says result) ids.new out_offsets.new out_targets.new
-        in_offsets.new in_sources.new
+        in_offsets.new in_sources.new out_weights.new in_weights.new
         ≡ load_of s.now plan
         (room_in ids.old out_offsets.old out_targets.old
-        in_offsets.old in_sources.old) }
+        in_offsets.old in_sources.old out_weights.old
+        in_weights.old) }
 {
     let vertices = plan.vertices;
     let edges = plan.edges;
@@ -59,6 +63,8 @@ fn load_sections(
         out_targets,
         in_offsets,
         in_sources,
+        out_weights,
+        in_weights,
     )
 }
 
@@ -73,6 +79,8 @@ fn print_plan(s: &[u8], plan: Plan, out: &mut [u8]) -> usize
     let mut out_targets = [0usize; 2 * DESK_EDGES];
     let mut in_offsets = [0usize; DESK_VERTICES + 1];
     let mut in_sources = [0usize; 2 * DESK_EDGES];
+    let mut out_weights = [0usize; 2 * DESK_EDGES];
+    let mut in_weights = [0usize; 2 * DESK_EDGES];
     let x = load_sections(
         s,
         plan,
@@ -81,18 +89,23 @@ fn print_plan(s: &[u8], plan: Plan, out: &mut [u8]) -> usize
         &mut out_targets,
         &mut in_offsets,
         &mut in_sources,
+        &mut out_weights,
+        &mut in_weights,
     );
     match x {
         Loaded::Refused(r) => put_refused(out, 0, r),
-        Loaded::Graph(size) => {
+        Loaded::Graph(size, weighted) => {
             let n = size.vertices;
             run_jobs(
                 size,
+                weighted,
                 &ids[..n],
                 &out_offsets,
                 &out_targets,
                 &in_offsets,
                 &in_sources,
+                &out_weights,
+                &in_weights,
                 s,
                 jobs.count,
                 jobs.from,

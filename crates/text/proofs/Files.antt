@@ -353,17 +353,17 @@ module _ {A : Type 0} (form : Form A) (R : RightStop form) (file most : ℕ) (te
       by e (inl g) = refused-given (sym e ∙ good-gives g.0 g.1)
       by e (inr f) = subst (FirstFault word file most test s) (let a = fault-refuses f.0 f.1 in cc) f.1
 
--- the refusal of a file of so many bytes: its number is from 1 to 7, its file the file's own, its line at most the one after the limit, and
--- its column at most the one after the bytes
+-- the refusal of a file of so many bytes: its number is from 1 to 13, its file the file's own, its line at most the one after the limit,
+-- and its column at most the one after the bytes
 pub record FileRefusal (file most size : ℕ) (r : Refusal) : Type 0 where
   pub some : 0 < r.number
-  pub low : r.number ≤ 7
+  pub low : r.number ≤ 13
   pub in_file : r.file ≡ file
   pub in_lines : r.line ≤ most + 1
   pub in_bytes : r.column ≤ size + 1
 
 module _ {A : Type 0} (form : Form A) (R : RightStop form) (file most : ℕ) (test : Before A → A → ℕ)
-    (small : (before : Before A) (v : A) → test before v ≤ 7) (s : List ℕ) where
+    (small : (before : Before A) (v : A) → test before v ≤ 13) (s : List ℕ) where
   -- a column is within the bytes that are left, or one behind them
   column-most : (words : List (List ℕ)) (rest : List ℕ) (c : ℕ) → s ≡ joined words ++ rest → Column (Formed form.word) (whole_line rest) c
       → c ≤ length s + 1

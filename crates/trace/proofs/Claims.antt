@@ -1,34 +1,38 @@
 -- What is said of a claim fits a number, at library limits and at the desk's. Assumes nothing.
 use mathlib.Core.Path.{◌≡◌, refl, sym, ap, ◌∙◌}
-use mathlib.Core.Bool.{Bool, true, false, cond, false≢true}
+use mathlib.Core.Bool.{Bool, true, false, cond}
 use mathlib.Core.List.{List}
 use Prim.Native.Nat.{ℕ, zero, suc, ◌+◌, ◌≤◌, ◌<◌}
 use native.Mathlib.Omega.{arith}
 use lib.IntN.{ℤ, pos}
 use lib.ListN.{length, replicate}
 use lib.Dec.{eqb, leb}
-use borrow.Author.Tests.{leb-true, le-leb, eqb-true, eqb-false}
+use borrow.Author.Tests.{leb-true, eqb-false}
 use Rattle.basis.specs.declared.refusal.Refusal.{Refusal}
 use Rattle.basis.specs.Limits.{desk_vertices}
-use Rattle.basis.specs.Refusal.{Said, gives, refuses, plain, no_room, claim_file}
+use Rattle.basis.specs.Refusal.{Said, gives, refuses, plain, no_room, not_there, unweighted, claim_file}
 use Rattle.basis.specs.Scan.{every, or_else}
-use Rattle.basis.proofs.Tests.{and_first, and_second, and_both}
+use Rattle.basis.proofs.Tests.{and_first, and_second}
 use Rattle.text.specs.Line.{Form, line_by, pair_form, edge_form, decimal_form}
 use Rattle.text.specs.File.{no_test}
+use Rattle.text.specs.Distance.{distance_form}
 use Rattle.text.proofs.Breaks.{RightStop, decimal-right, pair-right, edge-right}
+use Rattle.text.proofs.Distances.{distance-right}
 use Rattle.text.proofs.Files.{file-accepted, FileRefusal, file-refusal}
 use Rattle.graph.specs.declared.find.Found.{Found}
 use Rattle.graph.specs.Find.{place_in}
 use Rattle.graph.specs.Sound.{Graph, names, sound_graph}
-use Rattle.kernels.specs.Answer.{kernel_says, bfs_number, wcc_number, cdlp_number, lcc_number}
+use Rattle.graph.specs.Weights.{Weighted, is_weighted, sound_weighted}
+use Rattle.kernels.specs.Answer.{kernel_says, bfs_number, wcc_number, cdlp_number, lcc_number, sssp_number}
 use Rattle.matching.specs.Claim.{claim_lines, number_lines, coefficient_lines, ids_of}
 use Rattle.matching.specs.Cover.{failing_place, has_line, names_new, stray_line, incomplete_line, in_order, reported_line}
 use Rattle.matching.specs.Verdict.{Verdict, verdict_of, judged_by}
 use Rattle.matching.specs.Calls.{no_decimal}
+use Rattle.matching.specs.Distances.{distance_lines, no_distance}
 use Rattle.matching.proofs.FirstPlaces.{failing-bound}
 use Rattle.matching.proofs.Covering.{line-bound}
 use Rattle.matching.proofs.Readings.{ids-length}
-use Rattle.verdicts.specs.Reference.{Reference, judged_on, bfs_reference, wcc_reference, cdlp_reference, lcc_reference}
+use Rattle.verdicts.specs.Reference.{Reference, judged_on, bfs_reference, wcc_reference, cdlp_reference, lcc_reference, sssp_reference}
 use Rattle.verdicts.specs.Call as Call
 use Rattle.trace.specs.Code.{placed, host_code, wide, narrow, Small, Readable}
 use Rattle.trace.specs.Verdict.{as_refusal, judge_told, judge_tells}
@@ -96,30 +100,8 @@ module _ (room : ℕ) (some : Call.most_lines + 1 < room) where
     decimals-readable : Readable room (coefficient_lines most s) (λ l. 1 + length l)
     decimals-readable = lines-readable (pair_form decimal_form) (pair-right decimal_form decimal-right) s room most (omega arith)
 
-    -- what is said of the claim fits, and so does a parameter's refusal
-    reference-small : Small room (as_refusal (reference_for most g s kernel parameter).judged)
-    unfolding reference_for
-    reference-small = go (eqb kernel bfs_number) (eqb kernel wcc_number) (eqb kernel cdlp_number)
-      where
-        go : (a b c : Bool)
-            → Small room
-            (as_refusal (cond a (bfs_reference most g s parameter)
-            (cond b (wcc_reference most g s) (cond c (cdlp_reference most g s parameter) (lcc_reference most g s)))).judged)
-        go true b c = judged-small g (pos 0) _ (number_lines most s) numbers-readable
-        go false true c = judged-small g (pos 0) _ (number_lines most s) numbers-readable
-        go false false true = judged-small g (pos 0) _ (number_lines most s) numbers-readable
-        go false false false = judged-small g no_decimal _ (coefficient_lines most s) decimals-readable
-
-    reference-numbered : (reference_for most g s kernel parameter).number ≤ 21
-    unfolding reference_for
-    reference-numbered = go (eqb kernel bfs_number) (eqb kernel wcc_number) (eqb kernel cdlp_number)
-      where
-        go : (a b c : Bool) → (cond a (bfs_reference most g s parameter)
-            (cond b (wcc_reference most g s) (cond c (cdlp_reference most g s parameter) (lcc_reference most g s)))).number ≤ 21
-        go true b c = omega arith
-        go false true c = omega arith
-        go false false true = omega arith
-        go false false false = omega arith
+    distances-readable : Readable room (distance_lines most s) (λ l. 1 + length l)
+    distances-readable = lines-readable (pair_form distance_form) (pair-right distance_form distance-right) s room most (omega arith)
 
     says-small : (k : Reference) (sound room' : Bool) → Small room (as_refusal k.judged) → k.number ≤ 21
         → Small room (as_refusal (Call.verdict_says k sound room'))
@@ -138,74 +120,96 @@ module _ (room : ℕ) (some : Call.most_lines + 1 < room) where
     says-small k false room' h p = record { number = omega arith; file = omega arith; line = omega arith }
 
 -- ---- the verdict on a lent graph
-module _ (most : ℕ) (g : Graph) (kernel : ℕ) (parameter : ℤ) (s : List ℕ) (R C : List ℤ) (F S T L : List ℕ) where
-  by_number : (k : Bool) → is_kernel kernel ≡ k
-      → Call.verdict_call most g kernel parameter s R C F S T L
-      ≡ cond k (Call.call_on (reference_for most g s kernel parameter) g R C F S T L) (Call.unknown_call R C F S T L)
-  unfolding Call.verdict_call reference_for
-  by_number k h = go (eqb kernel bfs_number) (eqb kernel wcc_number) (eqb kernel cdlp_number) (eqb kernel lcc_number) k refl refl refl refl
-      h
+module _ (most : ℕ) (g : Weighted) (kernel : ℕ) (parameter : ℤ) (s : List ℕ) (R C : List ℤ) (F S T L : List ℕ) where
+  pub call-small : (room : ℕ) → Call.most_lines + 1 < room → most ≤ Call.most_lines
+      → Small room (as_refusal (Call.verdict_call most g kernel parameter s R C F S T L).said)
+  unfolding Call.verdict_call Call.call_on Call.weighted_call_on Call.left_by Call.unknown_call
+  call-small room some few =
+      go (eqb kernel bfs_number) (eqb kernel wcc_number) (eqb kernel cdlp_number) (eqb kernel lcc_number) (eqb kernel sssp_number)
     where
-      none_left : eqb kernel 1 ≡ false → eqb kernel 2 ≡ false → eqb kernel 3 ≡ false → eqb kernel 4 ≡ false → is_kernel kernel ≡ true → ⊥
-      none_left p q r t h =
+      says : (k : Reference) (sound room' : Bool) → Small room (as_refusal k.judged) → k.number ≤ 21
+          → Small room (as_refusal (Call.verdict_says k sound room'))
+      says k sound room' h p = says-small room some most few g.graph s kernel parameter k sound room' h p
+
+      numbers : (mismatch : List ℤ → ℕ) → Small room (as_refusal (judged_on g.graph (pos 0) mismatch (number_lines most s)))
+      numbers mismatch =
+          judged-small room some g.graph (pos 0) mismatch (number_lines most s)
+          (numbers-readable room some most few g.graph s kernel parameter)
+
+      decimals : Small room (as_refusal (lcc_reference most g.graph s).judged)
+      decimals =
+          judged-small room some g.graph no_decimal _ (coefficient_lines most s)
+          (decimals-readable room some most few g.graph s kernel parameter)
+
+      routes : Small room (as_refusal (sssp_reference most g s parameter).judged)
+      routes =
+          judged-small room some g.graph no_distance _ (distance_lines most s)
+          (distances-readable room some most few g.graph s kernel parameter)
+
+      either : (t : Bool) → cond t not_there unweighted ≤ 21
+      either true = omega arith
+      either false = omega arith
+
+      go : (a b c d e : Bool)
+          → Small room (as_refusal (cond a (Call.call_on (bfs_reference most g.graph s parameter) g.graph R C F S T L)
+          (cond b (Call.call_on (wcc_reference most g.graph s) g.graph R C F S T L)
+          (cond c (Call.call_on (cdlp_reference most g.graph s parameter) g.graph R C F S T L)
+          (cond d (Call.call_on (lcc_reference most g.graph s) g.graph R C F S T L)
+          (cond e (Call.weighted_call_on (sssp_reference most g s parameter) g R C F S T L) (Call.unknown_call R C F S T L)))))).said)
+      go true b c d e = says (bfs_reference most g.graph s parameter) _ _ (numbers _) (omega arith)
+      go false true c d e = says (wcc_reference most g.graph s) _ _ (numbers _) (omega arith)
+      go false false true d e = says (cdlp_reference most g.graph s parameter) _ _ (numbers _) (omega arith)
+      go false false false true e = says (lcc_reference most g.graph s) _ _ decimals (omega arith)
+      go false false false false true = says (sssp_reference most g s parameter) _ _ routes (either (is_weighted g))
+      go false false false false false = record { number = omega arith; file = omega arith; line = omega arith }
+
+  -- on a sound graph and with room, a known kernel's own refusal or what is said of the claim
+  pub call-judged : is_kernel kernel ≡ true → sound_weighted g ≡ true → Call.room_for g.graph.vertices R C F S T L ≡ true
+      → (Call.verdict_call most g kernel parameter s R C F S T L).said ≡ judged_as (reference_for most g s kernel parameter)
+  unfolding Call.verdict_call Call.call_on Call.weighted_call_on Call.left_by Call.verdict_says kernel_says reference_for sound_weighted
+  call-judged h so fits =
+      go (eqb kernel bfs_number) (eqb kernel wcc_number) (eqb kernel cdlp_number) (eqb kernel lcc_number) (eqb kernel sssp_number)
+      refl refl refl refl refl
+    where
+      none_left : eqb kernel 1 ≡ false → eqb kernel 2 ≡ false → eqb kernel 3 ≡ false → eqb kernel 4 ≡ false → eqb kernel 5 ≡ false → ⊥
+      none_left p q r t u =
           let l = leb-true 1 kernel (and_first _ _ h) in
-          let m = leb-true kernel 4 (and_second (leb 1 kernel) _ h) in
+          let m = leb-true kernel 5 (and_second (leb 1 kernel) _ h) in
           let two : 2 ≤ kernel = omega (arith, eqb-false kernel 1 p) in
           let three : 3 ≤ kernel = omega (arith, eqb-false kernel 2 q) in
           let four : 4 ≤ kernel = omega (arith, eqb-false kernel 3 r) in
-          omega (arith, eqb-false kernel 4 t)
+          let five : 5 ≤ kernel = omega (arith, eqb-false kernel 4 t) in
+          omega (arith, eqb-false kernel 5 u)
 
-      a-kernel : (n : ℕ) → eqb kernel n ≡ true → 1 ≤ n → n ≤ 4 → is_kernel kernel ≡ false → ⊥
-      a-kernel n e l m h =
-          let q = eqb-true kernel n e in false≢true (sym h ∙ and_both (le-leb 1 kernel (omega arith)) (le-leb kernel 4 (omega arith)))
+      plain-sound : sound_graph g.graph ≡ true
+      plain-sound = and_first _ _ so
 
-      go : (a b c d k : Bool) → eqb kernel 1 ≡ a → eqb kernel 2 ≡ b → eqb kernel 3 ≡ c → eqb kernel 4 ≡ d → is_kernel kernel ≡ k
-          → cond a (Call.call_on (bfs_reference most g s parameter) g R C F S T L)
-          (cond b (Call.call_on (wcc_reference most g s) g R C F S T L)
-          (cond c (Call.call_on (cdlp_reference most g s parameter) g R C F S T L)
-          (cond d (Call.call_on (lcc_reference most g s) g R C F S T L) (Call.unknown_call R C F S T L))))
-          ≡ cond k (Call.call_on (cond a (bfs_reference most g s parameter)
-          (cond b (wcc_reference most g s) (cond c (cdlp_reference most g s parameter) (lcc_reference most g s)))) g R C F S T L)
-          (Call.unknown_call R C F S T L)
-      go true b c d true p q r t h = refl
-      go true b c d false p q r t h = absurd (a-kernel 1 p (omega arith) (omega arith) h)
-      go false true c d true p q r t h = refl
-      go false true c d false p q r t h = absurd (a-kernel 2 q (omega arith) (omega arith) h)
-      go false false true d true p q r t h = refl
-      go false false true d false p q r t h = absurd (a-kernel 3 r (omega arith) (omega arith) h)
-      go false false false true true p q r t h = refl
-      go false false false true false p q r t h = absurd (a-kernel 4 t (omega arith) (omega arith) h)
-      go false false false false true p q r t h = absurd (none_left p q r t h)
-      go false false false false false p q r t h = refl
+      judged-by : (k : Reference) (sound room : Bool) → sound ≡ true → room ≡ true → Call.verdict_says k sound room ≡ judged_as k
+      judged-by k sound room p q = rw (p, q) (on k.given)
+        where
+          on : (t : Bool) → Call.then_says (cond t (gives tt) (refuses (plain k.number))) k.judged
+              ≡ cond t k.judged (refuses (plain k.number))
+          on true = refl
+          on false = refl
 
-  pub call-small : (room : ℕ) → Call.most_lines + 1 < room → most ≤ Call.most_lines
-      → Small room (as_refusal (Call.verdict_call most g kernel parameter s R C F S T L).said)
-  unfolding Call.call_on Call.left_by Call.unknown_call
-  call-small room some few = rw (by_number (is_kernel kernel) refl) (go (is_kernel kernel))
-    where
-      go : (k : Bool)
-          → Small room
-          (as_refusal (cond k (Call.call_on (reference_for most g s kernel parameter) g R C F S T L) (Call.unknown_call R C F S T L)).said)
-      go true =
-          says-small room some most few g s kernel parameter (reference_for most g s kernel parameter) (sound_graph g)
-          (Call.room_for g.vertices R C F S T L)
-          (reference-small room some most few g s kernel parameter) (reference-numbered room some most few g s kernel parameter)
-      go false = record { number = omega arith; file = omega arith; line = omega arith }
-
-  -- on a sound graph and with room, a known kernel's own refusal or what is said of the claim
-  pub call-judged : is_kernel kernel ≡ true → sound_graph g ≡ true → Call.room_for g.vertices R C F S T L ≡ true
-      → (Call.verdict_call most g kernel parameter s R C F S T L).said ≡ judged_as (reference_for most g s kernel parameter)
-  unfolding Call.call_on Call.left_by Call.verdict_says kernel_says
-  call-judged h a b = rw (by_number true h, a, b) (go (reference_for most g s kernel parameter).given)
-    where
-      go : (t : Bool) → Call.then_says (cond t (gives tt) (refuses (plain (reference_for most g s kernel parameter).number)))
-          (reference_for most g s kernel parameter).judged
-          ≡ cond t (reference_for most g s kernel parameter).judged (refuses (plain (reference_for most g s kernel parameter).number))
-      go true = refl
-      go false = refl
+      go : (a b c d e : Bool) → eqb kernel 1 ≡ a → eqb kernel 2 ≡ b → eqb kernel 3 ≡ c → eqb kernel 4 ≡ d → eqb kernel 5 ≡ e
+          → (cond a (Call.call_on (bfs_reference most g.graph s parameter) g.graph R C F S T L)
+          (cond b (Call.call_on (wcc_reference most g.graph s) g.graph R C F S T L)
+          (cond c (Call.call_on (cdlp_reference most g.graph s parameter) g.graph R C F S T L)
+          (cond d (Call.call_on (lcc_reference most g.graph s) g.graph R C F S T L)
+          (cond e (Call.weighted_call_on (sssp_reference most g s parameter) g R C F S T L) (Call.unknown_call R C F S T L)))))).said
+          ≡ judged_as (cond a (bfs_reference most g.graph s parameter) (cond b (wcc_reference most g.graph s)
+          (cond c (cdlp_reference most g.graph s parameter)
+          (cond d (lcc_reference most g.graph s) (sssp_reference most g s parameter)))))
+      go true b c d e p q r t u = judged-by (bfs_reference most g.graph s parameter) _ _ plain-sound fits
+      go false true c d e p q r t u = judged-by (wcc_reference most g.graph s) _ _ plain-sound fits
+      go false false true d e p q r t u = judged-by (cdlp_reference most g.graph s parameter) _ _ plain-sound fits
+      go false false false true e p q r t u = judged-by (lcc_reference most g.graph s) _ _ plain-sound fits
+      go false false false false true p q r t u = judged-by (sssp_reference most g s parameter) _ _ so fits
+      go false false false false false p q r t u = absurd (none_left p q r t u)
 
 -- ---- the call at library limits
-module _ (g : Graph) (kernel : ℕ) (parameter : ℤ) (s : List ℕ) (R₀ C₀ : List ℤ) (F₀ S₀ T₀ L₀ : List ℕ) (x : Said Verdict) (R C : List ℤ)
+module _ (g : Weighted) (kernel : ℕ) (parameter : ℤ) (s : List ℕ) (R₀ C₀ : List ℤ) (F₀ S₀ T₀ L₀ : List ℕ) (x : Said Verdict) (R C : List ℤ)
     (F S T L : List ℕ)
     (e : Call.outcome x R C F S T L ≡ Call.verdict_call Call.most_lines g kernel parameter s R₀ C₀ F₀ S₀ T₀ L₀) (r : Refusal)
     (f : r ≡ as_refusal x) where
@@ -219,7 +223,7 @@ module _ (g : Graph) (kernel : ℕ) (parameter : ℤ) (s : List ℕ) (R₀ C₀ 
   judge-told k h z q = rw (h, f, sym q, sym e)
 
 -- ---- the call in areas of desk size
-module _ (g : Graph) (kernel : ℕ) (parameter : ℤ) (s : List ℕ) (x : Said Verdict) (R C : List ℤ) (F S T L : List ℕ)
+module _ (g : Weighted) (kernel : ℕ) (parameter : ℤ) (s : List ℕ) (x : Said Verdict) (R C : List ℤ) (F S T L : List ℕ)
     (e : Call.outcome x R C F S T L
     ≡ Call.verdict_call desk_lines g kernel parameter s (replicate desk_vertices (pos 0)) (replicate desk_vertices (pos 0))
     (replicate desk_vertices 0) (replicate desk_vertices 0) (replicate desk_vertices 0) (replicate desk_vertices 0))

@@ -5,16 +5,18 @@ use mathlib.Core.List.{List}
 use Prim.Native.Nat.{ℕ, ◌≤◌, ◌<◌}
 use native.Mathlib.Omega.{arith}
 use lib.IntN.{ℤ}
-use Rattle.basis.specs.Refusal.{Said, gives, refuses, plain, no_room, unsound, not_there, bad_rounds}
+use Rattle.basis.specs.Refusal.{Said, gives, refuses, plain, no_room, unsound, not_there, bad_rounds, unweighted}
 use Rattle.basis.proofs.Tests.{clash}
 use Rattle.graph.specs.Sound.{Graph}
+use Rattle.graph.specs.Weights.{Weighted}
 use Rattle.kernels.specs.Answer.{kernel_says}
 use Rattle.bfs.specs.Call as Bfs
 use Rattle.wcc.specs.Call as Wcc
 use Rattle.cdlp.specs.Call as Cdlp
 use Rattle.lcc.specs.Call as Lcc
+use Rattle.sssp.specs.Call as Sssp
 use Rattle.trace.specs.Code.{coded, wide, Readable, nothing}
-use Rattle.trace.specs.Kernels.{bfs_told, bfs_tells, wcc_told, wcc_tells, cdlp_told, cdlp_tells, lcc_told, lcc_tells}
+use Rattle.trace.specs.Kernels.{bfs_told, bfs_tells, wcc_told, wcc_tells, cdlp_told, cdlp_tells, lcc_told, lcc_tells, sssp_told, sssp_tells}
 use Rattle.trace.proofs.Codes.{readable-given, readable-plain, readable-check}
 
 -- "Kernels check 9, then 10 or 11, then 8"
@@ -70,3 +72,24 @@ module _ (g : Graph) (numerators₀ denominators₀ work₀ : List ℕ) (s : Sai
       ≡ lcc_tells (Lcc.lcc_call g numerators₀ denominators₀ work₀)
   unfolding lcc_tells
   lcc-told k f = rw (f, sym e)
+
+-- 02 K3: "14, SSSP on an unweighted graph, after 9"
+sssp-says : (sound weighted there room : Bool) → Readable wide (Sssp.sssp_says sound weighted there room) nothing
+unfolding Sssp.sssp_says
+sssp-says sound weighted there room =
+    readable-check sound unsound (omega arith) (omega arith) (omega arith)
+    (λ a. readable-check weighted unweighted (omega arith) (omega arith) (omega arith)
+    (λ b. readable-check there not_there (omega arith) (omega arith) (omega arith)
+    (λ c. readable-check room no_room (omega arith) (omega arith) (omega arith) (λ d. readable-given tt (omega arith)))))
+
+module _ (g : Weighted) (root : ℤ) (distance₀ : List ℤ) (settled₀ waiting₀ tree₀ : List ℕ) (s : Said (Unit {0})) (distance : List ℤ)
+    (settled waiting tree : List ℕ)
+    (e : Sssp.outcome s distance settled waiting tree ≡ Sssp.sssp_call g root distance₀ settled₀ waiting₀ tree₀) where
+  pub sssp-readable : Readable wide s nothing
+  unfolding Sssp.sssp_call Sssp.left_by
+  sssp-readable = rw (ap (λ o. o.said) e) (sssp-says _ _ _ _)
+
+  pub sssp-told : (k : ℕ) → k ≡ coded s nothing → (z : ℤ) → root ≡ z
+      → sssp_told k distance settled waiting tree ≡ sssp_tells (Sssp.sssp_call g z distance₀ settled₀ waiting₀ tree₀)
+  unfolding sssp_tells
+  sssp-told k f z q = rw (f, sym q, sym e)

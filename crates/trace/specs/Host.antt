@@ -2,14 +2,16 @@
 use Rattle.std.specs.Prelude.{ℕ, Bool, cond, ◌&&◌, List, ℤ, length, eqb, leb}
 use Rattle.basis.specs.Limits.{desk_vertices}
 use Rattle.basis.specs.Refusal.{Said, unknown_number, onward, mapped, check}
-use Rattle.graph.specs.Arcs.{arcs, backward, parts, offsets}
-use Rattle.graph.specs.Sound.{Graph}
+use Rattle.graph.specs.Arcs.{backward, parts, offsets}
+use Rattle.graph.specs.Weights.{Weighted, weighing}
 use Rattle.graph.specs.Find.{place_in}
-use Rattle.lists.specs.Files.{identifiers, edges_of, all_numbered}
-use Rattle.load.specs.Load.{Lists, is_undirected, desk}
-use Rattle.kernels.specs.Answer.{bfs_number, wcc_number, cdlp_number}
+use Rattle.text.specs.Weighed.{has_weights}
+use Rattle.store.specs.Weigh.{by_weight, backward_weighed}
+use Rattle.lists.specs.Files.{identifiers, edges_of}
+use Rattle.load.specs.Load.{Lists, lists_of, is_undirected, desk}
+use Rattle.kernels.specs.Answer.{bfs_number, wcc_number, cdlp_number, lcc_number}
 use Rattle.matching.specs.Verdict.{Verdict}
-use Rattle.verdicts.specs.Reference.{Reference, bfs_reference, wcc_reference, cdlp_reference, lcc_reference}
+use Rattle.verdicts.specs.Reference.{Reference, bfs_reference, wcc_reference, cdlp_reference, lcc_reference, sssp_reference}
 use Rattle.trace.specs.Code.{host_code}
 use Rattle.trace.specs.Verdict.{as_refusal}
 
@@ -18,18 +20,18 @@ use Rattle.trace.specs.Verdict.{as_refusal}
 abbrev pub desk_lines : ℕ
 desk_lines = desk_vertices
 
--- what two files say, the vertex file before the edge file: identifiers and arcs, or the first fault
+-- what two files say, the vertex file before the edge file: identifiers, arcs and their weights, or the first fault
 unfoldable pub lists_said : Bool → List ℕ → List ℕ → Said Lists
 lists_said undirected vertices edges =
     onward (identifiers desk.vertices vertices)
-    (λ ids. mapped (λ es. record { ids = ids; arcs = arcs undirected (all_numbered (place_in ids) es) })
-    (edges_of undirected desk.edges (place_in ids) edges))
+    (λ ids. mapped (lists_of undirected (has_weights edges) ids) (edges_of undirected desk.edges (place_in ids) edges))
 
--- their graph, with no place to spare
-unfoldable pub graph_of : Lists → Graph
+-- their graph, with no place to spare, and the weight beside each arc
+unfoldable pub graph_of : Lists → Weighted
 graph_of l =
     let n = length l.ids in
-    record {
+    weighing
+    (record {
       vertices = n;
       arcs = length l.arcs;
       ids = l.ids;
@@ -37,28 +39,31 @@ graph_of l =
       out_targets = parts l.arcs n;
       in_offsets = offsets (backward l.arcs) n;
       in_sources = parts (backward l.arcs) n;
-    }
+    })
+    l.weighted (parts (by_weight l.weighed) n) (parts (by_weight (backward_weighed l.weighed)) n)
 
--- "kernel (1 BFS, 2 WCC, 3 CDLP, 4 LCC)": the number is one of them
+-- "kernel (1 BFS, 2 WCC, 3 CDLP, 4 LCC)", and 02 K3, "It is kernel 5": the number is one of them
 abbrev pub is_kernel : ℕ → Bool
-is_kernel kernel = leb 1 kernel && leb kernel 4
+is_kernel kernel = leb 1 kernel && leb kernel 5
 
 -- "mode (0 undirected, 1 directed)": the mode and the kernel's number are known
 unfoldable pub is_known : ℕ → ℕ → Bool
 is_known mode kernel = leb mode 1 && is_kernel kernel
 
 -- what the kernel of a number brings to a verdict, with "parameter (root or iterations, else ignored)"
-unfoldable pub reference_for : ℕ → Graph → List ℕ → ℕ → ℤ → Reference
+unfoldable pub reference_for : ℕ → Weighted → List ℕ → ℕ → ℤ → Reference
 reference_for most g claim kernel parameter =
-    cond (eqb kernel bfs_number) (bfs_reference most g claim parameter)
-    (cond (eqb kernel wcc_number) (wcc_reference most g claim)
-    (cond (eqb kernel cdlp_number) (cdlp_reference most g claim parameter) (lcc_reference most g claim)))
+    cond (eqb kernel bfs_number) (bfs_reference most g.graph claim parameter)
+    (cond (eqb kernel wcc_number) (wcc_reference most g.graph claim)
+    (cond (eqb kernel cdlp_number) (cdlp_reference most g.graph claim parameter)
+    (cond (eqb kernel lcc_number) (lcc_reference most g.graph claim) (sssp_reference most g claim parameter))))
 
--- "10 or 11, claim": what is said of the claim by a kernel's reference output, where its parameter is good
+-- "10 or 11, claim", and before them "14, SSSP on an unweighted graph": what is said of the claim by a kernel's reference output, where its
+-- parameter is good
 abbrev pub judged_as : Reference → Said Verdict
 judged_as k = check k.given k.number k.judged
 
--- "Order: 12, load, 10 or 11, claim."
+-- "Order: 12, load, 10 or 11, claim.", where 14 comes before 10
 unfoldable pub host_says : List ℕ → List ℕ → List ℕ → ℕ → ℕ → ℤ → Said Verdict
 host_says vertices edges claim mode kernel parameter =
     check (is_known mode kernel) unknown_number

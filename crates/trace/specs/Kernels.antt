@@ -1,10 +1,11 @@
--- 01 "Kernels": the four kernels on a lent graph, their answers as numbers, 0 where the results stand in the areas.
-use Rattle.std.specs.Prelude.{ℕ, List, ℤ}
+-- 01 "Kernels", 02 K3: the five kernels on a lent graph, their answers as numbers, 0 where the results stand in the areas.
+use Rattle.std.specs.Prelude.{ℕ, Bool, not, List, ℤ, eqb}
 use Rattle.graph.specs.declared.Size.{Size}
 use Rattle.bfs.specs.Call as Bfs
 use Rattle.wcc.specs.Call as Wcc
 use Rattle.cdlp.specs.Call as Cdlp
 use Rattle.lcc.specs.Call as Lcc
+use Rattle.sssp.specs.Call as Sssp
 use Rattle.trace.specs.Code.{coded, nothing}
 
 -- a graph's "stated counts" as its size
@@ -71,3 +72,24 @@ lcc_told answer numerators denominators work =
 -- what an LCC call tells by its outcome: 0 or its refusal as a number, and the areas as they stand
 unfoldable pub lcc_tells : Lcc.Outcome → LccTold
 lcc_tells o = lcc_told (coded o.said nothing) o.numerators o.denominators o.work
+
+-- whether a host's number says that a graph is weighted: 0 that it is not, any other that it is
+abbrev pub says_weighted : ℕ → Bool
+says_weighted weighted = not (eqb weighted 0)
+
+-- SSSP: the answer, the result area, and the three working areas
+pub record SsspTold : Type 0 where
+  pub answer : ℕ
+  pub distance : List ℤ
+  pub settled : List ℕ
+  pub waiting : List ℕ
+  pub tree : List ℕ
+
+-- the same, by its fields in order
+abbrev pub sssp_told : ℕ → List ℤ → List ℕ → List ℕ → List ℕ → SsspTold
+sssp_told answer distance settled waiting tree =
+    record { answer = answer; distance = distance; settled = settled; waiting = waiting; tree = tree }
+
+-- what an SSSP call tells by its outcome: 0 or its refusal as a number, and the areas as they stand
+unfoldable pub sssp_tells : Sssp.Outcome → SsspTold
+sssp_tells o = sssp_told (coded o.said nothing) o.distance o.settled o.waiting o.tree

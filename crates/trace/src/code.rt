@@ -20,6 +20,11 @@ const NUMBER: u64 = 1000000000000000;
 
 const FILE: u64 = 100000000000000;
 
+// A load's answer: a weighted graph, and one vertex.
+const WEIGHTED: u64 = 1000000000000;
+
+const VERTEX: u64 = 10000000;
+
 const MATCH: usize = 0;
 
 const INCOMPLETE: usize = 20;
@@ -122,13 +127,15 @@ pub(crate) fn kernel_code(a: Answer) -> u64
     }
 }
 
-// What a load says, as one number: vertices and, in the last seven digits, arcs.
+// What a load says, as one number: whether the graph has weights, vertices and, in the last seven digits, arcs.
 pub(crate) fn load_code(a: Loaded) -> u64
     requires { Readable wide (Load.says a) load_value }
     ensures { result ≡ coded (Load.says a) load_value }
 {
     match a {
-        Loaded::Graph(size) => size.vertices as u64 * 10000000 + size.arcs as u64,
+        Loaded::Graph(size, weighted) => weighted as u64 * WEIGHTED
+            + size.vertices as u64 * VERTEX
+            + size.arcs as u64,
         Loaded::Refused(r) => refusal_code(r),
     }
 }

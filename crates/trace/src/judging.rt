@@ -1,9 +1,10 @@
 // Verdicts: on a graph that the host lends, and on the bytes of three files.
 ghost use Rattle.std.specs.Prelude.{◌≡◌};
 ghost use Rattle.graph.specs.Sound.{lent};
+ghost use Rattle.graph.specs.Weights.{weighing};
 ghost use Rattle.verdicts.specs.Call.{most_lines, verdict_call};
 ghost use Rattle.trace.specs.Code.{host_code};
-ghost use Rattle.trace.specs.Kernels.{stated_size};
+ghost use Rattle.trace.specs.Kernels.{stated_size, says_weighted};
 ghost use Rattle.trace.specs.Verdict.{as_refusal, judge_told, judge_tells};
 ghost use Rattle.trace.specs.Host.{is_known, host_verdict};
 ghost use Rattle.trace.specs.Steps.{desk_judged};
@@ -24,11 +25,14 @@ const DESK_LINES: usize = DESK_VERTICES;
 pub extern "C" fn trace_judge(
     vertices: usize,
     arcs: usize,
+    weighted: u64,
     ids: &[i64],
     out_offsets: &[usize],
     out_targets: &[usize],
     in_offsets: &[usize],
     in_sources: &[usize],
+    out_weights: &[usize],
+    in_weights: &[usize],
     kernel: u64,
     parameter: i64,
     claim: &[u8],
@@ -42,8 +46,10 @@ pub extern "C" fn trace_judge(
     ensures { judge_told result res.new claimed.new first.new second.new third.new
         lines.new
         ≡ judge_tells (verdict_call most_lines
+        (weighing
         (lent (stated_size vertices arcs) ids.now out_offsets.now out_targets.now
         in_offsets.now in_sources.now)
+        (says_weighted weighted) out_weights.now in_weights.now)
         kernel parameter claim.now
         res.old claimed.old first.old second.old third.old
         lines.old) }
@@ -51,11 +57,14 @@ pub extern "C" fn trace_judge(
     let size = Size { vertices, arcs };
     let judged = verdict(
         size,
+        weighted != 0,
         ids,
         out_offsets,
         out_targets,
         in_offsets,
         in_sources,
+        out_weights,
+        in_weights,
         kernel as usize,
         parameter,
         claim,
@@ -79,25 +88,30 @@ fn is_known(mode: u64, kernel: u64) -> bool
     if kernel < 1 {
         return false;
     }
-    kernel <= 4
+    kernel <= 5
 }
 
 // The verdict on a graph of desk size, with areas of its own.
 fn judge_loaded(
     size: Size,
+    weighted: bool,
     ids: &[i64],
     out_offsets: &[usize],
     out_targets: &[usize],
     in_offsets: &[usize],
     in_sources: &[usize],
+    out_weights: &[usize],
+    in_weights: &[usize],
     kernel: u64,
     parameter: i64,
     claim: &[u8],
 ) -> u64
     ensures { result
         ≡ host_code (as_refusal (desk_judged
+        (weighing
         (lent size ids.now out_offsets.now out_targets.now
         in_offsets.now in_sources.now)
+        weighted out_weights.now in_weights.now)
         kernel parameter claim.now)) }
 {
     let mut result = [0i64; DESK_VERTICES];
@@ -109,11 +123,14 @@ fn judge_loaded(
     let judged = verdict_within(
         DESK_LINES,
         size,
+        weighted,
         ids,
         out_offsets,
         out_targets,
         in_offsets,
         in_sources,
+        out_weights,
+        in_weights,
         kernel as usize,
         parameter,
         claim,
@@ -151,6 +168,8 @@ pub extern "C" fn trace_verdict(
     let mut out_targets = [0usize; 2 * DESK_EDGES];
     let mut in_offsets = [0usize; DESK_VERTICES + 1];
     let mut in_sources = [0usize; 2 * DESK_EDGES];
+    let mut out_weights = [0usize; 2 * DESK_EDGES];
+    let mut in_weights = [0usize; 2 * DESK_EDGES];
     let loaded = load_within(
         limits,
         mode as usize,
@@ -161,16 +180,21 @@ pub extern "C" fn trace_verdict(
         &mut out_targets,
         &mut in_offsets,
         &mut in_sources,
+        &mut out_weights,
+        &mut in_weights,
     );
     match loaded {
         Loaded::Refused(r) => host_code(r),
-        Loaded::Graph(size) => judge_loaded(
+        Loaded::Graph(size, weighted) => judge_loaded(
             size,
+            weighted,
             &ids,
             &out_offsets,
             &out_targets,
             &in_offsets,
             &in_sources,
+            &out_weights,
+            &in_weights,
             kernel,
             parameter,
             claim,

@@ -6,3 +6,4 @@ pub mod four_kernels;
 pub mod group_book;
 pub mod judging;
 pub mod loading;
+pub mod routes;

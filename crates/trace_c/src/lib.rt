@@ -2,15 +2,30 @@
 // nothing by itself, so hosts link the archive of this crate (`tools/library`).
 #![tactic(auto)]
 
-ghost use Rattle.std.specs.Prelude.{◌≡◌, length};
-ghost use Rattle.load.specs.Load.{room_of, load_call, library};
+ghost use Rattle.std.specs.Prelude.{◌≡◌};
+ghost use Rattle.load.specs.Load.{room_in, load_call, library};
 ghost use Rattle.trace.specs.Load.{load_told, load_tells};
 ghost use Rattle.graph.specs.Sound.{lent};
+ghost use Rattle.graph.specs.Weights.{weighing};
 ghost use Rattle.bfs.specs.Call.{bfs_call};
-ghost use Rattle.trace.specs.Kernels.{stated_size, bfs_told, bfs_tells, wcc_told, wcc_tells, cdlp_told, cdlp_tells, lcc_told, lcc_tells};
+ghost use Rattle.trace.specs.Kernels.{
+  stated_size,
+  says_weighted,
+  bfs_told,
+  bfs_tells,
+  wcc_told,
+  wcc_tells,
+  cdlp_told,
+  cdlp_tells,
+  lcc_told,
+  lcc_tells,
+  sssp_told,
+  sssp_tells,
+};
 ghost use Rattle.wcc.specs.Call.{wcc_call};
 ghost use Rattle.cdlp.specs.Call.{cdlp_call};
 ghost use Rattle.lcc.specs.Call.{lcc_call};
+ghost use Rattle.sssp.specs.Call.{sssp_call};
 ghost use Rattle.book.specs.Rules.{open_book, join_book, head_of, same_group, group_size, group_count, step_limit};
 ghost use Rattle.book.specs.One.{one_book, one};
 ghost use Rattle.trace.specs.Code.{nothing, coded};
@@ -19,7 +34,7 @@ ghost use Rattle.verdicts.specs.Call.{most_lines, verdict_call};
 ghost use Rattle.trace.specs.Verdict.{judge_told, judge_tells};
 ghost use Rattle.trace.specs.Host.{host_verdict};
 
-use trace::{four_kernels, group_book, judging, loading};
+use trace::{four_kernels, group_book, judging, loading, routes};
 
 #[unsafe(no_mangle)]
 pub extern "C" fn trace_load(
@@ -31,12 +46,14 @@ pub extern "C" fn trace_load(
     out_targets: &mut [usize],
     in_offsets: &mut [usize],
     in_sources: &mut [usize],
+    out_weights: &mut [usize],
+    in_weights: &mut [usize],
 ) -> u64
     ensures { load_told result ids.new out_offsets.new out_targets.new in_offsets.new
-        in_sources.new
+        in_sources.new out_weights.new in_weights.new
         ≡ load_tells (load_call library mode
-        (room_of (length ids.old) (length out_offsets.old) (length out_targets.old)
-        (length in_offsets.old) (length in_sources.old))
+        (room_in ids.old out_offsets.old out_targets.old in_offsets.old
+        in_sources.old out_weights.old in_weights.old)
         vertices.now edges.now) }
 {
     loading::trace_load(
@@ -48,6 +65,8 @@ pub extern "C" fn trace_load(
         out_targets,
         in_offsets,
         in_sources,
+        out_weights,
+        in_weights,
     )
 }
 
@@ -189,6 +208,52 @@ pub extern "C" fn trace_lcc(
     )
 }
 
+// SSSP from a root: distances in `distance`.
+#[unsafe(no_mangle)]
+pub extern "C" fn trace_sssp(
+    vertices: usize,
+    arcs: usize,
+    weighted: u64,
+    ids: &[i64],
+    out_offsets: &[usize],
+    out_targets: &[usize],
+    in_offsets: &[usize],
+    in_sources: &[usize],
+    out_weights: &[usize],
+    in_weights: &[usize],
+    root: i64,
+    distance: &mut [i64],
+    settled: &mut [usize],
+    waiting: &mut [usize],
+    tree: &mut [usize],
+) -> u64
+    ensures { sssp_told result distance.new settled.new waiting.new tree.new
+        ≡ sssp_tells (sssp_call
+        (weighing
+        (lent (stated_size vertices arcs) ids.now out_offsets.now out_targets.now
+        in_offsets.now in_sources.now)
+        (says_weighted weighted) out_weights.now in_weights.now)
+        root distance.old settled.old waiting.old tree.old) }
+{
+    routes::trace_sssp(
+        vertices,
+        arcs,
+        weighted,
+        ids,
+        out_offsets,
+        out_targets,
+        in_offsets,
+        in_sources,
+        out_weights,
+        in_weights,
+        root,
+        distance,
+        settled,
+        waiting,
+        tree,
+    )
+}
+
 #[unsafe(no_mangle)]
 pub extern "C" fn trace_book_open(entries: &mut [i64]) -> u64
     ensures { book_told result entries.new ≡ book_tells nothing (open_book one_book entries.old) }
@@ -243,11 +308,14 @@ pub extern "C" fn trace_book_limit(entries: &[i64], v: usize) -> u64
 pub extern "C" fn trace_judge(
     vertices: usize,
     arcs: usize,
+    weighted: u64,
     ids: &[i64],
     out_offsets: &[usize],
     out_targets: &[usize],
     in_offsets: &[usize],
     in_sources: &[usize],
+    out_weights: &[usize],
+    in_weights: &[usize],
     kernel: u64,
     parameter: i64,
     claim: &[u8],
@@ -261,8 +329,10 @@ pub extern "C" fn trace_judge(
     ensures { judge_told result res.new claimed.new first.new second.new third.new
         lines.new
         ≡ judge_tells (verdict_call most_lines
+        (weighing
         (lent (stated_size vertices arcs) ids.now out_offsets.now out_targets.now
         in_offsets.now in_sources.now)
+        (says_weighted weighted) out_weights.now in_weights.now)
         kernel parameter claim.now
         res.old claimed.old first.old second.old third.old
         lines.old) }
@@ -270,11 +340,14 @@ pub extern "C" fn trace_judge(
     judging::trace_judge(
         vertices,
         arcs,
+        weighted,
         ids,
         out_offsets,
         out_targets,
         in_offsets,
         in_sources,
+        out_weights,
+        in_weights,
         kernel,
         parameter,
         claim,

@@ -13,10 +13,11 @@ use Rattle.basis.specs.declared.refusal.Refusal.{Refusal}
 use Rattle.basis.specs.Area.{leaves, cleared, cleared_z}
 use Rattle.basis.proofs.Tests.{and_first, and_second}
 use Rattle.basis.proofs.Orders.{leb-min}
-use Rattle.graph.specs.Sound.{Graph, sound_graph}
+use Rattle.graph.specs.Sound.{sound_graph}
+use Rattle.graph.specs.Weights.{Weighted, sound_weighted}
 use Rattle.matching.specs.Verdict.{Verdict}
-use Rattle.verdicts.specs.Reference.{Reference, bfs_reference, wcc_reference, cdlp_reference, lcc_reference}
-use Rattle.verdicts.specs.Call.{Outcome, outcome, room_for, verdict_says, left_by, call_on, unknown_call, verdict_call}
+use Rattle.verdicts.specs.Reference.{Reference, bfs_reference, wcc_reference, cdlp_reference, lcc_reference, sssp_reference}
+use Rattle.verdicts.specs.Call.{Outcome, outcome, room_for, verdict_says, left_by, call_on, weighted_call_on, unknown_call, verdict_call}
 use Rattle.verdicts.specs.Steps.{Roomy, Numbers, numbers, numbers_verdict, Terms, terms, terms_verdict}
 
 -- ---- room in areas of six lengths
@@ -77,80 +78,94 @@ leaves_none : {A : Type 0} (x : Said Verdict) (z : A) (size : ℕ) → replicate
 leaves_none (gives v) z size = ap (λ (k : ℕ). replicate k z) (sym (sub-zero size))
 leaves_none (refuses r) z size = refl
 
-module _ (k : Reference) (g : Graph) (R C : List ℤ) (F S T L : List ℕ) {room : Bool} (p : room ≡ room_for g.vertices R C F S T L)
+module _ (k : Reference) (n : ℕ) (sound : Bool) (R C : List ℤ) (F S T L : List ℕ) {room : Bool} (p : room ≡ room_for n R C F S T L)
     {x : Said Verdict} {R' C' : List ℤ} {F' S' T' L' : List ℕ} where
-  numbers-call : k.numerators ≡ [] → k.denominators ≡ [] → numbers x R' C' L' ≡ numbers_verdict k (sound_graph g) room R C L
+  numbers-call : k.numerators ≡ [] → k.denominators ≡ [] → numbers x R' C' L' ≡ numbers_verdict k sound room R C L
       → F' ≡ cleared F
       → S' ≡ cleared S → T' ≡ cleared T
-      → outcome x R' C' F' S' T' L' ≡ call_on k g R C F S T L
-  unfolding numbers_verdict call_on left_by
+      → outcome x R' C' F' S' T' L' ≡ left_by k (verdict_says k sound (room_for n R C F S T L)) R C F S T L
+  unfolding numbers_verdict left_by
   numbers-call u w h f s t =
-      let y = verdict_says k (sound_graph g) room in
+      let y = verdict_says k sound room in
       rw (← p)
       (all_same (ap (λ (o : Numbers). o.said) h) (ap (λ (o : Numbers). o.result) h) (ap (λ (o : Numbers). o.claimed) h)
       (f ∙ leaves_none y 0 (length F) ∙ ap (leaves y 0 (length F)) (sym u))
       (s ∙ leaves_none y 0 (length S) ∙ ap (leaves y 0 (length S)) (sym w)) t (ap (λ (o : Numbers). o.lines) h))
 
-  terms-call : k.values ≡ [] → terms x F' S' L' ≡ terms_verdict k (sound_graph g) room F S L → R' ≡ cleared_z R → C' ≡ cleared_z C
+  terms-call : k.values ≡ [] → terms x F' S' L' ≡ terms_verdict k sound room F S L → R' ≡ cleared_z R → C' ≡ cleared_z C
       → T' ≡ cleared T
-      → outcome x R' C' F' S' T' L' ≡ call_on k g R C F S T L
-  unfolding terms_verdict call_on left_by
+      → outcome x R' C' F' S' T' L' ≡ left_by k (verdict_says k sound (room_for n R C F S T L)) R C F S T L
+  unfolding terms_verdict left_by
   terms-call u h r c t =
-      let y = verdict_says k (sound_graph g) room in
+      let y = verdict_says k sound room in
       rw (← p)
       (all_same (ap (λ (o : Terms). o.said) h) (r ∙ leaves_none y (pos 0) (length R) ∙ ap (leaves y (pos 0) (length R)) (sym u)) c
       (ap (λ (o : Terms). o.first) h) (ap (λ (o : Terms). o.second) h) t (ap (λ (o : Terms). o.lines) h))
 
 -- ---- by the kernel's number
-module _ (most : ℕ) (g : Graph) (kernel : ℕ) (parameter : ℤ) (s : List ℕ) (R C : List ℤ) (F S T L : List ℕ) where
-  pub verdict-unknown : (kernel ≡ 1 → ⊥) → (kernel ≡ 2 → ⊥) → (kernel ≡ 3 → ⊥) → (kernel ≡ 4 → ⊥) → {x : Outcome}
+module _ (most : ℕ) (g : Weighted) (kernel : ℕ) (parameter : ℤ) (s : List ℕ) (R C : List ℤ) (F S T L : List ℕ) where
+  pub verdict-unknown : (kernel ≡ 1 → ⊥) → (kernel ≡ 2 → ⊥) → (kernel ≡ 3 → ⊥) → (kernel ≡ 4 → ⊥) → (kernel ≡ 5 → ⊥)
+      → {x : Outcome}
       → x ≡ unknown_call R C F S T L
       → x ≡ verdict_call most g kernel parameter s R C F S T L
   unfolding verdict_call
-  verdict-unknown a b c d h = rw (ne_eqb kernel 1 a, ne_eqb kernel 2 b, ne_eqb kernel 3 c, ne_eqb kernel 4 d) h
+  verdict-unknown a b c d e h =
+      rw (ne_eqb kernel 1 a, ne_eqb kernel 2 b, ne_eqb kernel 3 c, ne_eqb kernel 4 d, ne_eqb kernel 5 e) h
 
   module _ {room : Bool}
       (p : room
-      ≡ (leb g.vertices (length R) && (leb g.vertices (length C)
-      && (leb g.vertices (length F) && (leb g.vertices (length S)
-      && (leb g.vertices (length T) && leb g.vertices (length L)))))))
+      ≡ (leb g.graph.vertices (length R) && (leb g.graph.vertices (length C)
+      && (leb g.graph.vertices (length F) && (leb g.graph.vertices (length S)
+      && (leb g.graph.vertices (length T) && leb g.graph.vertices (length L)))))))
       {x : Said Verdict} {R' C' : List ℤ} {F' S' T' L' : List ℕ} where
     pub verdict-bfs : {parameter' : ℤ} → parameter' ≡ parameter → kernel ≡ 1
-        → numbers x R' C' L' ≡ numbers_verdict (bfs_reference most g s parameter') (sound_graph g) room R C L → F' ≡ cleared F → S'
-        ≡ cleared S
-        → T' ≡ cleared T
+        → numbers x R' C' L' ≡ numbers_verdict (bfs_reference most g.graph s parameter') (sound_graph g.graph) room R C L
+        → F' ≡ cleared F → S' ≡ cleared S → T' ≡ cleared T
         → outcome x R' C' F' S' T' L' ≡ verdict_call most g kernel parameter s R C F S T L
-    unfolding verdict_call room_for
+    unfolding verdict_call room_for call_on
     verdict-bfs {parameter'} q e h a b c =
-        numbers-call (bfs_reference most g s parameter') g R C F S T L p refl refl h a b c
+        numbers-call (bfs_reference most g.graph s parameter') g.graph.vertices (sound_graph g.graph) R C F S T L p refl refl h
+        a b c
         ∙ rw (e, q)
 
-    pub verdict-wcc : (kernel ≡ 1 → ⊥) → kernel ≡ 2 → numbers x R' C' L'
-        ≡ numbers_verdict (wcc_reference most g s) (sound_graph g) room R C L
+    pub verdict-wcc : (kernel ≡ 1 → ⊥) → kernel ≡ 2
+        → numbers x R' C' L' ≡ numbers_verdict (wcc_reference most g.graph s) (sound_graph g.graph) room R C L
         → F' ≡ cleared F → S' ≡ cleared S → T' ≡ cleared T → outcome x R' C' F' S' T' L'
         ≡ verdict_call most g kernel parameter s R C F S T L
-    unfolding verdict_call room_for
+    unfolding verdict_call room_for call_on
     verdict-wcc i e h a b c =
-        numbers-call (wcc_reference most g s) g R C F S T L p refl refl h a b c
+        numbers-call (wcc_reference most g.graph s) g.graph.vertices (sound_graph g.graph) R C F S T L p refl refl h a b c
         ∙ rw e
 
     pub verdict-cdlp : {parameter' : ℤ} → parameter' ≡ parameter → (kernel ≡ 1 → ⊥) → (kernel ≡ 2 → ⊥) → kernel ≡ 3
-        → numbers x R' C' L' ≡ numbers_verdict (cdlp_reference most g s parameter') (sound_graph g) room R C L
+        → numbers x R' C' L' ≡ numbers_verdict (cdlp_reference most g.graph s parameter') (sound_graph g.graph) room R C L
         → (F' ≡ cleared F) × (S' ≡ cleared S) × (T' ≡ cleared T)
         → outcome x R' C' F' S' T' L' ≡ verdict_call most g kernel parameter s R C F S T L
-    unfolding verdict_call room_for
+    unfolding verdict_call room_for call_on
     verdict-cdlp {parameter'} q i j e h a =
-        numbers-call (cdlp_reference most g s parameter') g R C F S T L p refl refl h a.0 a.1 a.2
+        numbers-call (cdlp_reference most g.graph s parameter') g.graph.vertices (sound_graph g.graph) R C F S T L p refl refl h
+        a.0 a.1 a.2
         ∙ rw (e, q)
 
     pub verdict-lcc : (kernel ≡ 1 → ⊥) → (kernel ≡ 2 → ⊥) → (kernel ≡ 3 → ⊥) → kernel ≡ 4
-        → terms x F' S' L' ≡ terms_verdict (lcc_reference most g s) (sound_graph g) room F S L
+        → terms x F' S' L' ≡ terms_verdict (lcc_reference most g.graph s) (sound_graph g.graph) room F S L
         → R' ≡ cleared_z R → C' ≡ cleared_z C → T' ≡ cleared T
         → outcome x R' C' F' S' T' L' ≡ verdict_call most g kernel parameter s R C F S T L
-    unfolding verdict_call room_for
+    unfolding verdict_call room_for call_on
     verdict-lcc i j l e h a b c =
-        terms-call (lcc_reference most g s) g R C F S T L p refl h a b c
+        terms-call (lcc_reference most g.graph s) g.graph.vertices (sound_graph g.graph) R C F S T L p refl h a b c
         ∙ rw e
+
+    pub verdict-sssp : {parameter' : ℤ} → parameter' ≡ parameter → (kernel ≡ 1 → ⊥) → (kernel ≡ 2 → ⊥) → (kernel ≡ 3 → ⊥)
+        → (kernel ≡ 4 → ⊥) → kernel ≡ 5
+        → numbers x R' C' L' ≡ numbers_verdict (sssp_reference most g s parameter') (sound_weighted g) room R C L
+        → (F' ≡ cleared F) × (S' ≡ cleared S) × (T' ≡ cleared T)
+        → outcome x R' C' F' S' T' L' ≡ verdict_call most g kernel parameter s R C F S T L
+    unfolding verdict_call room_for weighted_call_on
+    verdict-sssp {parameter'} q i j l m e h a =
+        numbers-call (sssp_reference most g s parameter') g.graph.vertices (sound_weighted g) R C F S T L p refl refl h
+        a.0 a.1 a.2
+        ∙ rw (e, q)
 
 pub unknown-all : (R C : List ℤ) (F S T L : List ℕ) {R' C' : List ℤ} {F' S' T' L' : List ℕ} {r : Refusal} → r ≡ plain unknown_number
     → R' ≡ cleared_z R → C' ≡ cleared_z C → F' ≡ cleared F → S' ≡ cleared S → T' ≡ cleared T → L' ≡ cleared L

@@ -3,9 +3,10 @@ use Rattle.std.specs.Prelude.{ℕ, Bool, cond, ◌&&◌, List, ℤ, pos, length,
 use Rattle.basis.specs.Refusal.{Said, refuses, plain, unknown_number, onward}
 use Rattle.basis.specs.Area.{leaves, cleared, cleared_z}
 use Rattle.graph.specs.Sound.{Graph, sound_graph}
-use Rattle.kernels.specs.Answer.{kernel_says, bfs_number, wcc_number, cdlp_number, lcc_number}
+use Rattle.graph.specs.Weights.{Weighted, sound_weighted}
+use Rattle.kernels.specs.Answer.{kernel_says, bfs_number, wcc_number, cdlp_number, lcc_number, sssp_number}
 use Rattle.matching.specs.Verdict.{Verdict}
-use Rattle.verdicts.specs.Reference.{Reference, bfs_reference, wcc_reference, cdlp_reference, lcc_reference}
+use Rattle.verdicts.specs.Reference.{Reference, bfs_reference, wcc_reference, cdlp_reference, lcc_reference, sssp_reference}
 
 -- "more than 65,536 lines is 1"
 abbrev pub most_lines : ℕ
@@ -59,17 +60,24 @@ call_on k g result claimed first second third lines =
     left_by k (verdict_says k (sound_graph g) (room_for g.vertices result claimed first second third lines)) result claimed first second
     third lines
 
+-- the same for a kernel that reads the weights: "and soundness says so"
+unfoldable pub weighted_call_on : Reference → Weighted → List ℤ → List ℤ → List ℕ → List ℕ → List ℕ → List ℕ → Outcome
+weighted_call_on k g result claimed first second third lines =
+    left_by k (verdict_says k (sound_weighted g) (room_for g.graph.vertices result claimed first second third lines)) result claimed first
+    second third lines
+
 -- "a mode or kernel number is unknown": refusal 12, and zero in all six areas
 unfoldable pub unknown_call : List ℤ → List ℤ → List ℕ → List ℕ → List ℕ → List ℕ → Outcome
 unknown_call result claimed first second third lines =
     outcome (refuses (plain unknown_number)) (cleared_z result) (cleared_z claimed) (cleared first) (cleared second) (cleared third)
     (cleared lines)
 
--- "A verdict checks 12, then as its kernel does, then the claim."
-unfoldable pub verdict_call : ℕ → Graph → ℕ → ℤ → List ℕ → List ℤ → List ℤ → List ℕ → List ℕ → List ℕ → List ℕ → Outcome
+-- "A verdict checks 12, then as its kernel does, then the claim."; the weights "are looked at only for a weighted graph", by SSSP alone
+unfoldable pub verdict_call : ℕ → Weighted → ℕ → ℤ → List ℕ → List ℤ → List ℤ → List ℕ → List ℕ → List ℕ → List ℕ → Outcome
 verdict_call most g kernel parameter s result claimed first second third lines =
-    cond (eqb kernel bfs_number) (call_on (bfs_reference most g s parameter) g result claimed first second third lines)
-    (cond (eqb kernel wcc_number) (call_on (wcc_reference most g s) g result claimed first second third lines)
-    (cond (eqb kernel cdlp_number) (call_on (cdlp_reference most g s parameter) g result claimed first second third lines)
-    (cond (eqb kernel lcc_number) (call_on (lcc_reference most g s) g result claimed first second third lines)
-    (unknown_call result claimed first second third lines))))
+    cond (eqb kernel bfs_number) (call_on (bfs_reference most g.graph s parameter) g.graph result claimed first second third lines)
+    (cond (eqb kernel wcc_number) (call_on (wcc_reference most g.graph s) g.graph result claimed first second third lines)
+    (cond (eqb kernel cdlp_number) (call_on (cdlp_reference most g.graph s parameter) g.graph result claimed first second third lines)
+    (cond (eqb kernel lcc_number) (call_on (lcc_reference most g.graph s) g.graph result claimed first second third lines)
+    (cond (eqb kernel sssp_number) (weighted_call_on (sssp_reference most g s parameter) g result claimed first second third lines)
+    (unknown_call result claimed first second third lines)))))

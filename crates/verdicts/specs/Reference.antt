@@ -1,19 +1,23 @@
 -- 01 "Claims and verdicts" and 000, 2.4: what each kernel brings to a verdict, its reference output and the rule by which a claim matches.
-use Rattle.std.specs.Prelude.{ℕ, Bool, true, List, [], ℤ, pos, nat_abs, length}
-use Rattle.basis.specs.Refusal.{Said, not_there, bad_rounds}
+use Rattle.std.specs.Prelude.{ℕ, Bool, true, cond, ◌&&◌, List, [], ℤ, pos, nat_abs, length}
+use Rattle.basis.specs.Refusal.{Said, not_there, bad_rounds, unweighted}
 use Rattle.basis.specs.Area.{column}
 use Rattle.graph.specs.Find.{place_in, is_there}
 use Rattle.graph.specs.Sound.{Graph, outward, inward, names}
+use Rattle.graph.specs.Weights.{Weighted, is_weighted}
 use Rattle.bfs.specs.Call.{depths_from}
 use Rattle.wcc.specs.Component.{wcc_of}
 use Rattle.cdlp.specs.Call.{good_rounds}
 use Rattle.cdlp.specs.Rounds.{cdlp_of}
 use Rattle.lcc.specs.Lcc.{numerator, denominator, numerators, denominators}
+use Rattle.sssp.specs.Call.{distances_from}
 use Rattle.matching.specs.Claim.{number_lines, coefficient_lines}
 use Rattle.matching.specs.Calls.{no_decimal}
 use Rattle.matching.specs.Verdict.{Verdict, Fraction, unequal_vertex, unlike_vertex, far_vertex, judged_by}
+use Rattle.matching.specs.Distances.{far_distance, distance_lines, no_distance}
 
--- whether the parameter is good, else the number of its refusal; the result areas' content; what is said of the claim
+-- whether the parameter is good, and the graph weighted where weights are read, else the number of the refusal; the result areas' content;
+-- what is said of the claim
 pub record Reference : Type 0 where
   pub given : Bool
   pub number : ℕ
@@ -83,3 +87,17 @@ module _ (most : ℕ) (g : Graph) (s : List ℕ) where
         denominators = denominators g;
         judged = judged_on g no_decimal (far_vertex (coefficients g)) (coefficient_lines most s);
       }
+
+-- 02 K3: "our reference value is the exact sum, and a claim .. matches within one part in ten thousand, or as `infinity` exactly where
+-- unreachable"; "14, SSSP on an unweighted graph, after 9", and so before 10
+abbrev pub sssp_reference : ℕ → Weighted → List ℕ → ℤ → Reference
+sssp_reference most g s root =
+    let place = place_in (names g.graph) root in
+    record {
+      given = is_weighted g && is_there place;
+      number = cond (is_weighted g) not_there unweighted;
+      values = distances_from g place;
+      numerators = [];
+      denominators = [];
+      judged = judged_on g.graph no_distance (far_distance (distances_from g place)) (distance_lines most s);
+    }

@@ -4,11 +4,13 @@ use Rattle.basis.specs.Refusal.{Said, gives, refuses, no_room, check}
 use Rattle.basis.specs.Area.{leaves, cleared, cleared_z}
 use Rattle.graph.specs.Find.{bisected}
 use Rattle.graph.specs.Sound.{Graph, sound_graph}
+use Rattle.graph.specs.Weights.{Weighted, sound_weighted}
 use Rattle.matching.specs.declared.numbers.Rule.{Rule}
 use Rattle.matching.specs.Claim.{number_lines, coefficient_lines}
 use Rattle.matching.specs.Verdict.{Verdict, mismatch_vertex, judged_by}
 use Rattle.matching.specs.Calls.{fractions, far_within, no_decimal}
-use Rattle.verdicts.specs.Reference.{Reference, bfs_reference, wcc_reference, cdlp_reference, lcc_reference}
+use Rattle.matching.specs.Distances.{far_distance, distance_lines, no_distance}
+use Rattle.verdicts.specs.Reference.{Reference, bfs_reference, wcc_reference, cdlp_reference, lcc_reference, sssp_reference}
 use Rattle.verdicts.specs.Call.{then_says, verdict_says}
 
 -- an area as it stands, or zero after a refusal
@@ -105,3 +107,20 @@ terms_verdict k sound room first second lines =
 -- that of LCC on a lent graph, with room in all areas or not
 abbrev pub lcc_verdict : Bool → ℕ → Graph → List ℕ → List ℕ → List ℕ → List ℕ → Terms
 lcc_verdict room most g s first second lines = terms_verdict (lcc_reference most g s) (sound_graph g) room first second lines
+
+-- what is said of a claim of distances by those of a kernel that answered so, if there is room in all areas
+unfoldable pub distances_says : Said (Unit {0}) → Bool → ℕ → List ℤ → List ℤ → List ℕ → Said Verdict
+distances_says answer room most ids reference s =
+    then_says answer (check room no_room
+    (judged_by (bisected ids) (length ids) no_distance (far_distance reference) (distance_lines most s)))
+
+-- the same by the first n identifiers and distances; the result area stays, or is zero after a refusal, and the working areas are zero
+unfoldable pub distances_on : Said (Unit {0}) → Bool → ℕ → ℕ → List ℤ → List ℕ → List ℤ → List ℤ → List ℕ → Numbers
+distances_on answer room most n ids s result claimed lines =
+    let said = distances_says answer room most (take n ids) (take n result) s in
+    numbers said (unless_refused said (pos 0) result) (cleared_z claimed) (cleared lines)
+
+-- the verdict of SSSP from a root on a lent graph with its weights, with room in all areas or not
+abbrev pub sssp_verdict : Bool → ℕ → Weighted → ℤ → List ℕ → List ℤ → List ℤ → List ℕ → Numbers
+sssp_verdict room most g root s result claimed lines =
+    numbers_verdict (sssp_reference most g s root) (sound_weighted g) room result claimed lines

@@ -4,7 +4,7 @@ ghost use Rattle.basis.specs.Refusal.{refuses};
 ghost use Rattle.basis.specs.Area.{cleared, cleared_z};
 ghost use Rattle.kernels.specs.Answer.{says as answers};
 ghost use Rattle.matching.specs.Verdict.{says};
-ghost use Rattle.verdicts.specs.Steps.{is_refused, unless_refused, numbers, numbers_on, terms, terms_on, Known, Roomy};
+ghost use Rattle.verdicts.specs.Steps.{is_refused, unless_refused, numbers, numbers_on, distances_on, terms, terms_on, Known, Roomy};
 
 use basis::Refusal;
 use basis::area::{clear, clear_signed};
@@ -12,6 +12,7 @@ use basis::refusal::NO_ROOM;
 use kernels::Answer;
 use matching::Judged;
 use matching::coefficients::judge_coefficients;
+use matching::distances::judge_distances;
 use matching::numbers::{Rule, judge_numbers};
 
 // A refusal was said, no verdict.
@@ -139,6 +140,37 @@ pub(crate) fn terms_on(
             }
             let judged = judge_coefficients(most, &ids[..n], first, second, claim, lines);
             settle_terms(judged, first, second)
+        }
+    }
+}
+
+// A claim of distances on a kernel's results; `room` says whether all areas have room. `claimed` is not used, and zero afterwards.
+pub(crate) fn distances_on(
+    answer: Answer,
+    room: bool,
+    most: usize,
+    n: usize,
+    ids: &[i64],
+    claim: &[u8],
+    res: &mut [i64],
+    claimed: &mut [i64],
+    lines: &mut [usize],
+) -> Judged
+    requires known { Known (answers answer) n (length ids.now) }
+    requires roomy { (Roomy room n (length res.old)) × (Roomy room n (length lines.old)) }
+    ensures { numbers (says result) res.new claimed.new lines.new
+        ≡ distances_on (answers answer) room most n
+        ids.now claim.now res.old claimed.old lines.old }
+{
+    match answer {
+        Answer::Refused(r) => refuse_numbers(r, res, claimed, lines),
+        Answer::Done => {
+            if !room {
+                return refuse_numbers(Refusal::plain(NO_ROOM), res, claimed, lines);
+            }
+            let judged = judge_distances(most, &ids[..n], res, claim, lines);
+            clear_signed(claimed);
+            settle_numbers(judged, res)
         }
     }
 }

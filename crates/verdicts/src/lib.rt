@@ -3,6 +3,7 @@
 
 pub mod claims;
 pub mod each;
+pub mod routes;
 pub mod verdict;
 
 pub use matching::Judged;

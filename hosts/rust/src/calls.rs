@@ -19,6 +19,18 @@ pub struct Lent<'a> {
     pub in_sources: &'a [usize],
 }
 
+/// What a lent graph's arcs weigh, in millionths: whether it is weighted (0 that it is not, any other number that it is), and the weight
+/// areas, which are looked at only where it is.
+#[derive(Clone, Copy)]
+pub struct Weights<'a> {
+    pub weighted: u64,
+    pub out: &'a [usize],
+    pub into: &'a [usize],
+}
+
+/// Of a graph without weights.
+pub const UNWEIGHTED: Weights<'static> = Weights { weighted: 0, out: &[], into: &[] };
+
 /// The result and working areas of a verdict; `lines` is the record of each vertex's claim line.
 pub struct Areas<'a> {
     pub result: &'a mut [i64],
@@ -58,6 +70,10 @@ extern "C" {
         in_offsets_len: usize,
         in_sources: *mut usize,
         in_sources_len: usize,
+        out_weights: *mut usize,
+        out_weights_len: usize,
+        in_weights: *mut usize,
+        in_weights_len: usize,
     ) -> u64;
     fn trace_bfs(
         vertices: usize,
@@ -139,9 +155,10 @@ extern "C" {
         work: *mut usize,
         work_len: usize,
     ) -> u64;
-    fn trace_judge(
+    fn trace_sssp(
         vertices: usize,
         arcs: usize,
+        weighted: u64,
         ids: *const i64,
         ids_len: usize,
         out_offsets: *const usize,
@@ -152,6 +169,38 @@ extern "C" {
         in_offsets_len: usize,
         in_sources: *const usize,
         in_sources_len: usize,
+        out_weights: *const usize,
+        out_weights_len: usize,
+        in_weights: *const usize,
+        in_weights_len: usize,
+        root: i64,
+        distance: *mut i64,
+        distance_len: usize,
+        settled: *mut usize,
+        settled_len: usize,
+        waiting: *mut usize,
+        waiting_len: usize,
+        tree: *mut usize,
+        tree_len: usize,
+    ) -> u64;
+    fn trace_judge(
+        vertices: usize,
+        arcs: usize,
+        weighted: u64,
+        ids: *const i64,
+        ids_len: usize,
+        out_offsets: *const usize,
+        out_offsets_len: usize,
+        out_targets: *const usize,
+        out_targets_len: usize,
+        in_offsets: *const usize,
+        in_offsets_len: usize,
+        in_sources: *const usize,
+        in_sources_len: usize,
+        out_weights: *const usize,
+        out_weights_len: usize,
+        in_weights: *const usize,
+        in_weights_len: usize,
         kernel: u64,
         parameter: i64,
         claim: *const u8,
@@ -204,6 +253,8 @@ pub fn load(
     out_targets: &mut [usize],
     in_offsets: &mut [usize],
     in_sources: &mut [usize],
+    out_weights: &mut [usize],
+    in_weights: &mut [usize],
 ) -> u64 {
     unsafe {
         trace_load(
@@ -222,6 +273,10 @@ pub fn load(
             in_offsets.len(),
             in_sources.as_mut_ptr(),
             in_sources.len(),
+            out_weights.as_mut_ptr(),
+            out_weights.len(),
+            in_weights.as_mut_ptr(),
+            in_weights.len(),
         )
     }
 }
@@ -242,6 +297,32 @@ macro_rules! on_graph {
             $g.in_offsets.len(),
             $g.in_sources.as_ptr(),
             $g.in_sources.len(),
+            $($own),*
+        )
+    };
+}
+
+/// A call on a lent graph with its weights: its size, whether it is weighted and seven areas, then the call's own arguments.
+macro_rules! on_weighted {
+    ($call:ident, $g:ident, $w:ident, $($own:expr),* $(,)?) => {
+        $call(
+            $g.size.vertices,
+            $g.size.arcs,
+            $w.weighted,
+            $g.ids.as_ptr(),
+            $g.ids.len(),
+            $g.out_offsets.as_ptr(),
+            $g.out_offsets.len(),
+            $g.out_targets.as_ptr(),
+            $g.out_targets.len(),
+            $g.in_offsets.as_ptr(),
+            $g.in_offsets.len(),
+            $g.in_sources.as_ptr(),
+            $g.in_sources.len(),
+            $w.out.as_ptr(),
+            $w.out.len(),
+            $w.into.as_ptr(),
+            $w.into.len(),
             $($own),*
         )
     };
@@ -314,11 +395,39 @@ pub fn lcc(g: &Lent<'_>, numerators: &mut [usize], denominators: &mut [usize], w
     }
 }
 
-pub fn judge(g: &Lent<'_>, kernel: u64, parameter: i64, claim: &[u8], to: &mut Areas<'_>) -> u64 {
+pub fn sssp(
+    g: &Lent<'_>,
+    w: &Weights<'_>,
+    root: i64,
+    distance: &mut [i64],
+    settled: &mut [usize],
+    waiting: &mut [usize],
+    tree: &mut [usize],
+) -> u64 {
     unsafe {
-        on_graph!(
+        on_weighted!(
+            trace_sssp,
+            g,
+            w,
+            root,
+            distance.as_mut_ptr(),
+            distance.len(),
+            settled.as_mut_ptr(),
+            settled.len(),
+            waiting.as_mut_ptr(),
+            waiting.len(),
+            tree.as_mut_ptr(),
+            tree.len(),
+        )
+    }
+}
+
+pub fn judge(g: &Lent<'_>, w: &Weights<'_>, kernel: u64, parameter: i64, claim: &[u8], to: &mut Areas<'_>) -> u64 {
+    unsafe {
+        on_weighted!(
             trace_judge,
             g,
+            w,
             kernel,
             parameter,
             claim.as_ptr(),

@@ -20,10 +20,12 @@ pub enum Reason {
     NotThere = 10,
     BadRounds = 11,
     UnknownNumber = 12,
+    TooHeavy = 13,
+    Unweighted = 14,
 }
 
 impl Reason {
-    /// The reason of a refusal's number, 1 to 12; any other number is no refusal's.
+    /// The reason of a refusal's number, 1 to 14; any other number is no refusal's.
     fn of(number: u64) -> Option<Reason> {
         use Reason::*;
         let all = [
@@ -39,6 +41,8 @@ impl Reason {
             NotThere,
             BadRounds,
             UnknownNumber,
+            TooHeavy,
+            Unweighted,
         ];
         all.into_iter().find(|&reason| reason as u64 == number)
     }
@@ -58,6 +62,8 @@ impl Reason {
             Reason::NotThere => "a root or a book vertex isn't there",
             Reason::BadRounds => "the number of rounds is negative or above 1,000",
             Reason::UnknownNumber => "a mode or kernel number is unknown",
+            Reason::TooHeavy => "a weight is above 100000",
+            Reason::Unweighted => "distances are asked of a graph without weights",
         }
     }
 }
@@ -165,6 +171,7 @@ pub enum Kernel {
     Wcc,
     Cdlp(i64),
     Lcc,
+    Sssp(i64),
 }
 
 impl Kernel {
@@ -174,42 +181,82 @@ impl Kernel {
             Kernel::Wcc => (2, 0),
             Kernel::Cdlp(iterations) => (3, iterations),
             Kernel::Lcc => (4, 0),
+            Kernel::Sssp(root) => (5, root),
         }
     }
 }
 
 /// The verdict on a claim at desk limits, straight from the bytes of the two lists and the claim. A claim has a line per vertex, in any
 /// order: identifier, one space, value. For `Kernel::Lcc` the value is a plain or scientific decimal with at most 17 digits before any `e`,
-/// a leading `0` included; behind the `e` stand a sign and two digits.
+/// a leading `0` included; behind the `e` stand a sign and two digits. For `Kernel::Sssp` it is such a decimal, in the unit of the weights,
+/// or `infinity`, which matches exactly where the vertex is not reached.
 pub fn verdict(mode: Mode, vertices: &[u8], edges: &[u8], kernel: Kernel, claim: &[u8]) -> Result<Verdict, Refusal> {
     let (number, parameter) = kernel.numbers();
     judged_in(calls::verdict(vertices, edges, claim, mode as u64, number, parameter), HOST)
 }
 
-/// A loaded graph.
+/// How far a vertex is from a root: the least sum of weights on a route, in whole millionths, or that there is no route. It is shown as the
+/// shortest plain decimal or `infinity`.
+#[derive(Clone, Copy, Debug, PartialEq, Eq, PartialOrd, Ord)]
+pub enum Distance {
+    Millionths(u64),
+    Infinity,
+}
+
+impl Distance {
+    /// The distance that a result area holds.
+    fn of(held: i64) -> Distance {
+        match held {
+            i64::MAX => Distance::Infinity,
+            millionths => Distance::Millionths(millionths as u64),
+        }
+    }
+}
+
+impl fmt::Display for Distance {
+    fn fmt(&self, to: &mut fmt::Formatter<'_>) -> fmt::Result {
+        let millionths = match self {
+            Distance::Infinity => return write!(to, "infinity"),
+            Distance::Millionths(millionths) => millionths,
+        };
+        let fraction = format!(".{:06}", millionths % 1_000_000);
+        write!(to, "{}{}", millionths / 1_000_000, fraction.trim_end_matches('0').trim_end_matches('.'))
+    }
+}
+
+/// A loaded graph. The weight areas have places only where the graph is weighted.
 #[derive(Clone, Debug, PartialEq, Eq)]
 pub struct Graph {
     size: calls::Size,
+    weighted: bool,
     ids: Vec<i64>,
     out_offsets: Vec<usize>,
     out_targets: Vec<usize>,
     in_offsets: Vec<usize>,
     in_sources: Vec<usize>,
+    out_weights: Vec<usize>,
+    in_weights: Vec<usize>,
 }
 
 impl Graph {
-    /// Reads the two lists; each area has as many places as the lists have lines.
+    /// Reads the two lists; each area has as many places as the lists have lines, and the weight areas have none where the first edge line
+    /// has no third field.
     pub fn load(mode: Mode, vertices: &[u8], edges: &[u8]) -> Result<Graph, Refusal> {
         let lines = |file: &[u8]| file.iter().filter(|&&b| b == b'\n').count();
         let n = lines(vertices).min(65_536);
         let arcs = lines(edges).min(1_048_576) * if mode == Mode::Undirected { 2 } else { 1 };
+        let fields = edges.split(|&b| b == b'\n').next().map_or(0, |line| line.split(|&b| b == b' ').count());
+        let weights = if fields > 2 { arcs } else { 0 };
         let mut graph = Graph {
             size: calls::Size { vertices: 0, arcs: 0 },
+            weighted: false,
             ids: vec![0; n],
             out_offsets: vec![0; n + 1],
             out_targets: vec![0; arcs],
             in_offsets: vec![0; n + 1],
             in_sources: vec![0; arcs],
+            out_weights: vec![0; weights],
+            in_weights: vec![0; weights],
         };
         let size = given(calls::load(
             mode as u64,
@@ -220,8 +267,11 @@ impl Graph {
             &mut graph.out_targets,
             &mut graph.in_offsets,
             &mut graph.in_sources,
+            &mut graph.out_weights,
+            &mut graph.in_weights,
         ))? as usize;
-        graph.size = calls::Size { vertices: size / 10_000_000, arcs: size % 10_000_000 };
+        graph.size = calls::Size { vertices: size / 10_000_000 % 100_000, arcs: size % 10_000_000 };
+        graph.weighted = size / 1_000_000_000_000 == 1;
         Ok(graph)
     }
 
@@ -236,6 +286,10 @@ impl Graph {
         }
     }
 
+    fn weights(&self) -> calls::Weights<'_> {
+        calls::Weights { weighted: u64::from(self.weighted), out: &self.out_weights, into: &self.in_weights }
+    }
+
     /// The identifiers, in the order of the vertex numbers.
     pub fn identifiers(&self) -> &[i64] {
         &self.ids[..self.size.vertices]
@@ -243,6 +297,11 @@ impl Graph {
 
     pub fn arcs(&self) -> usize {
         self.size.arcs
+    }
+
+    /// Whether the edge list has weights; a list without lines has none.
+    pub fn is_weighted(&self) -> bool {
+        self.weighted
     }
 
     /// The vertex numbers that a vertex's arcs lead to.
@@ -253,6 +312,16 @@ impl Graph {
     /// The vertex numbers whose arcs lead to a vertex.
     pub fn inward(&self, v: usize) -> &[usize] {
         &self.in_sources[self.in_offsets[v]..self.in_offsets[v + 1]]
+    }
+
+    /// What the arcs of `outward` weigh, in millionths and in the same places; nothing where the graph is unweighted.
+    pub fn outward_weights(&self, v: usize) -> &[usize] {
+        self.out_weights.get(self.out_offsets[v]..self.out_offsets[v + 1]).unwrap_or(&[])
+    }
+
+    /// What the arcs of `inward` weigh, in millionths and in the same places; nothing where the graph is unweighted.
+    pub fn inward_weights(&self, v: usize) -> &[usize] {
+        self.in_weights.get(self.in_offsets[v]..self.in_offsets[v + 1]).unwrap_or(&[])
     }
 
     fn area(&self) -> Vec<usize> {
@@ -291,6 +360,14 @@ impl Graph {
         Ok(numerators.into_iter().zip(denominators).collect())
     }
 
+    /// Least sums of weights on routes from the vertex with the identifier `root`. Of a graph without weights it is refused.
+    pub fn sssp(&self, root: i64) -> Result<Vec<Distance>, Refusal> {
+        let mut result = self.results();
+        let (mut settled, mut waiting, mut tree) = (self.area(), self.area(), self.area());
+        given(calls::sssp(&self.lent(), &self.weights(), root, &mut result, &mut settled, &mut waiting, &mut tree))?;
+        Ok(result.into_iter().map(Distance::of).collect())
+    }
+
     /// The verdict on a claim of this kernel's result, its lines as for `verdict`. For `Kernel::Wcc` it compares each vertex of a complete
     /// claim with every smaller one.
     pub fn judge(&self, kernel: Kernel, claim: &[u8]) -> Result<Verdict, Refusal> {
@@ -303,7 +380,7 @@ impl Graph {
             third: &mut self.area(),
             lines: &mut self.area(),
         };
-        judged(calls::judge(&self.lent(), number, parameter, claim, &mut areas))
+        judged(calls::judge(&self.lent(), &self.weights(), number, parameter, claim, &mut areas))
     }
 }
 

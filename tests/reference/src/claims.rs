@@ -64,34 +64,52 @@ pub struct Verdict {
     pub line: usize,
 }
 
+/// A distance claimed: a decimal, or none where it is `infinity`.
+type Distance = Option<Decimal>;
+
 enum Values {
     Numbers(Vec<(i64, i64)>),
     Decimals(Vec<(i64, Decimal)>),
+    Distances(Vec<(i64, Distance)>),
+}
+
+/// An identifier, one space and a value; a malformed value comes before an identifier out of range.
+fn named_line<V>(line: &Line, value: impl Fn(&[u8]) -> Option<V>) -> Result<(i64, V), u64> {
+    let space = line.bytes.iter().position(|&b| b == b' ');
+    let cut = space.filter(|_| line.ended).ok_or(2u64)?;
+    let value = value(&line.bytes[cut + 1..]).ok_or(2u64)?;
+    Ok((lists::idents(&[&line.bytes[..cut]])?[0], value))
 }
 
 /// An identifier, one space and a decimal.
 pub fn coefficient_line(line: &Line) -> Result<(i64, Decimal), u64> {
-    let space = line.bytes.iter().position(|&b| b == b' ');
-    let cut = space.filter(|_| line.ended).ok_or(2u64)?;
-    let value = decimal(&line.bytes[cut + 1..]).ok_or(2u64)?;
-    Ok((lists::idents(&[&line.bytes[..cut]])?[0], value))
+    named_line(line, decimal)
 }
 
-fn read(claim: &[u8], coefficients: bool, most: usize) -> Result<Values, Refusal> {
-    let (mut numbers, mut decimals) = (Vec::new(), Vec::new());
-    let form = if coefficients { Form::Coefficient } else { Form::Pair };
-    for (i, line) in lists::lines(claim).iter().enumerate() {
+/// An identifier, one space and a decimal in the coefficients' form or `infinity`.
+pub fn distance_line(line: &Line) -> Result<(i64, Distance), u64> {
+    named_line(line, |word| if word == b"infinity" { Some(None) } else { decimal(word).map(Some) })
+}
+
+fn read(claim: &[u8], kernel: u64, most: usize) -> Result<Values, Refusal> {
+    Ok(match kernel {
+        4 => Values::Decimals(read_lines(claim, Form::Coefficient, most, coefficient_line)?),
+        5 => Values::Distances(read_lines(claim, Form::Distance, most, distance_line)?),
+        _ => Values::Numbers(read_lines(claim, Form::Pair, most, lists::pair_line)?),
+    })
+}
+
+type Read<V> = fn(&Line) -> Result<(i64, V), u64>;
+
+fn read_lines<V>(claim: &[u8], form: Form, most: usize, read: Read<V>) -> Result<Vec<(i64, V)>, Refusal> {
+    let each = |(i, line): (usize, &Line)| {
         let refused = |number| places::refused(number, 3, i + 1, form, line);
         if i >= most {
             return Err(refused(1));
         }
-        if coefficients {
-            decimals.push(coefficient_line(line).map_err(refused)?);
-        } else {
-            numbers.push(lists::edge_line(line).map_err(refused)?);
-        }
-    }
-    Ok(if coefficients { Values::Decimals(decimals) } else { Values::Numbers(numbers) })
+        read(line).map_err(refused)
+    };
+    lists::lines(claim).iter().enumerate().map(each).collect()
 }
 
 /// The line of each vertex, where each vertex has exactly one; else the first line that names an unknown or already named vertex, or, if
@@ -120,6 +138,18 @@ fn first_far(exact: &[(u64, u64)], claimed: &[Decimal]) -> Option<usize> {
     (0..claimed.len()).find(|&v| !close(exact[v].0, exact[v].1, claimed[v]))
 }
 
+/// A decimal matches a distance of so many millionths as a coefficient does a fraction; `infinity` matches exactly where it is unreachable.
+pub fn near(distance: i64, claimed: Distance) -> bool {
+    match claimed {
+        Some(s) => distance != kernels::UNREACHABLE && close(distance as u64, 1_000_000, s),
+        None => distance == kernels::UNREACHABLE,
+    }
+}
+
+fn first_not_near(distances: &[i64], claimed: &[Distance]) -> Option<usize> {
+    (0..claimed.len()).find(|&v| !near(distances[v], claimed[v]))
+}
+
 /// The verdict on the lines of a claim; `at_fault` answers the smallest vertex at fault among the values of all vertices.
 fn settle<V: Copy>(ids: &[i64], claim: &[(i64, V)], at_fault: impl FnOnce(&[V]) -> Option<usize>) -> Verdict {
     let named: Vec<i64> = claim.iter().map(|&(id, _)| id).collect();
@@ -134,26 +164,28 @@ fn settle<V: Copy>(ids: &[i64], claim: &[(i64, V)], at_fault: impl FnOnce(&[V]) 
     }
 }
 
-/// The verdict on a sound graph: 12, 10 or 11, then the claim.
+/// The verdict on a sound graph: 12, then 14, 10 or 11, then the claim.
 pub fn verdict(g: &Graph, kernel: u64, parameter: i64, claim: &[u8], limits: Limits) -> Result<Verdict, Refusal> {
     let results = match kernel {
         1 => kernels::bfs(g, parameter)?,
         2 => kernels::wcc(g),
         3 => kernels::cdlp(g, parameter)?,
         4 => Vec::new(),
+        5 => kernels::sssp(g, parameter)?,
         _ => return Err(plain(12)),
     };
-    Ok(match read(claim, kernel == 4, limits.claims)? {
+    Ok(match read(claim, kernel, limits.claims)? {
         Values::Numbers(lines) if kernel == 2 => settle(&g.ids, &lines, |claimed| first_unlike(&results, claimed)),
         Values::Numbers(lines) => settle(&g.ids, &lines, |claimed| first_other(&results, claimed)),
         Values::Decimals(lines) => settle(&g.ids, &lines, |claimed| first_far(&kernels::lcc(g), claimed)),
+        Values::Distances(lines) => settle(&g.ids, &lines, |claimed| first_not_near(&results, claimed)),
     })
 }
 
 /// The host call's number: number × 1,000,000 + file × 100,000 + line, at desk limits.
 pub fn host_verdict(vertices: &[u8], edges: &[u8], claim: &[u8], mode: u64, kernel: u64, parameter: i64) -> u64 {
     let coded = |number: u64, file: u64, line: u64| number * 1_000_000 + file * 100_000 + line;
-    if mode > 1 || !(1..=4).contains(&kernel) {
+    if mode > 1 || !(1..=5).contains(&kernel) {
         return coded(12, 0, 0);
     }
     let judged = lists::load(mode, vertices, edges, crate::DESK, lists::ROOM_ENOUGH)

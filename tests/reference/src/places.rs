@@ -4,12 +4,16 @@
 use crate::lists::{self, Line};
 use crate::{at, claims, Refusal};
 
-/// The forms of a line. An edge line and a claim line of numbers are both two identifiers with one space between.
+/// The forms of a line. An edge line without a weight and a claim line of numbers are both two identifiers with one space between. The
+/// first edge line may have a weight or none; the others have one where the first has.
 #[derive(Clone, Copy, Debug, PartialEq, Eq)]
 pub enum Form {
     Vertex,
     Pair,
+    Weighted,
+    FirstEdge,
     Coefficient,
+    Distance,
 }
 
 /// What stands before the next byte of a line.
@@ -26,7 +30,14 @@ enum State {
     Whole(u8),
     Point(u8),
     Fraction(u8),
-    /// Its `e`, the sign, one digit and two.
+    /// Of a weight: nothing, a lone `0`, its digits; with its point and so many digits behind it.
+    Weight,
+    NoWhole,
+    Units,
+    Parts(u8),
+    /// So many letters of `infinity`.
+    Letters(u8),
+    /// Of a decimal: its `e`, the sign, one digit and two.
     Power,
     Sign,
     Tens,
@@ -43,10 +54,20 @@ fn step(form: Form, state: State, byte: u8) -> Option<State> {
         (Ident(k), b'0') => Zero(k),
         (Ident(k) | Minus(k), b'1'..=b'9') => Number(k),
         (Number(k), b'0'..=b'9') => Number(k),
-        (Zero(1) | Number(1), b' ') if form == Form::Pair => Ident(2),
-        (Zero(1) | Number(1), b' ') if form == Form::Coefficient => Decimal,
+        (Zero(1) | Number(1), b' ') if matches!(form, Form::Pair | Form::Weighted | Form::FirstEdge) => Ident(2),
+        (Zero(1) | Number(1), b' ') if matches!(form, Form::Coefficient | Form::Distance) => Decimal,
         (Zero(1) | Number(1), b'\n') if form == Form::Vertex => Ended,
-        (Zero(2) | Number(2), b'\n') => Ended,
+        (Zero(2) | Number(2), b'\n') if form != Form::Weighted => Ended,
+        (Zero(2) | Number(2), b' ') if form != Form::Pair => Weight,
+        (Weight, b'0') => NoWhole,
+        (Weight, b'1'..=b'9') => Units,
+        (Units, b'0'..=b'9') => Units,
+        (NoWhole | Units, b'.') => Parts(0),
+        (Parts(k), b'0'..=b'9') if k < 6 => Parts(k + 1),
+        (NoWhole | Units | Parts(1..=6), b'\n') => Ended,
+        (Decimal, b'i') if form == Form::Distance => Letters(1),
+        (Letters(k), letter) if b"infinity".get(usize::from(k)) == Some(&letter) => Letters(k + 1),
+        (Letters(8), b'\n') => Ended,
         (Decimal, b'0') => Nought,
         (Decimal, b'1'..=b'9') => Whole(1),
         (Whole(n), b'0'..=b'9') if n < 17 => Whole(n + 1),
@@ -89,8 +110,9 @@ pub fn refused(number: u64, file: u64, place: usize, form: Form, line: &Line) ->
 pub fn fault(form: Form, line: &Line) -> (u64, u64) {
     let number = match form {
         Form::Vertex => lists::vertex_line(line).err(),
-        Form::Pair => lists::edge_line(line).err(),
+        Form::Pair | Form::Weighted | Form::FirstEdge => lists::edge_line(form, line).err(),
         Form::Coefficient => claims::coefficient_line(line).err(),
+        Form::Distance => claims::distance_line(line).err(),
     };
     (number.unwrap_or(0), if number == Some(2) { column(form, line) } else { 0 })
 }

@@ -9,6 +9,7 @@ enum Job {
     Wcc,
     Cdlp(i64),
     Lcc,
+    Sssp(i64),
 }
 
 pub fn output(sheet: &[u8]) -> String {
@@ -79,6 +80,8 @@ impl<'a> Reader<'a> {
             Job::Bfs(number(word)?)
         } else if let Some(word) = line.strip_prefix(b"cdlp ") {
             Job::Cdlp(number(word)?)
+        } else if let Some(word) = line.strip_prefix(b"sssp ") {
+            Job::Sssp(number(word)?)
         } else {
             return Err(self.fault(2));
         };
@@ -109,12 +112,22 @@ fn run(sheet: &[u8]) -> Result<String, Refusal> {
     Ok(jobs.iter().map(|(line, job)| printed(&graph, line, job)).collect())
 }
 
+/// A distance of so many millionths as the shortest plain decimal, or `infinity`.
+pub fn distance(millionths: i64) -> String {
+    if millionths == kernels::UNREACHABLE {
+        return "infinity".to_string();
+    }
+    let fraction = format!(".{:06}", millionths % 1_000_000);
+    format!("{}{}", millionths / 1_000_000, fraction.trim_end_matches('0').trim_end_matches('.'))
+}
+
 fn printed(g: &Graph, line: &[u8], job: &Job) -> String {
     let values: Result<Vec<String>, Refusal> = match job {
         Job::Bfs(root) => kernels::bfs(g, *root).map(|v| v.iter().map(i64::to_string).collect()),
         Job::Wcc => Ok(kernels::wcc(g).iter().map(i64::to_string).collect()),
         Job::Cdlp(rounds) => kernels::cdlp(g, *rounds).map(|v| v.iter().map(i64::to_string).collect()),
         Job::Lcc => Ok(kernels::lcc(g).iter().map(|(a, b)| format!("{}/{}", a, b)).collect()),
+        Job::Sssp(root) => kernels::sssp(g, *root).map(|v| v.iter().map(|&d| distance(d)).collect()),
     };
     match values {
         Err(r) => refused(r),

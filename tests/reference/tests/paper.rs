@@ -4,6 +4,7 @@ use reference::dice::Dice;
 use reference::groups::groups;
 use reference::places::{self, Form};
 use reference::{at, book::Book, claims, kernels, lists, plain, sheet, two_areas, Refusal, DESK, LIBRARY};
+use std::collections::BTreeMap;
 
 const SHEET: &str = "directed\n5\n-3\n2\n5\n9\n20\n5\n2 5\n2 9\n5 2\n5 9\n9 20\n4\nbfs 2\nwcc\ncdlp 2\nlcc\n";
 
@@ -376,7 +377,9 @@ fn four_numbers_k2() {
 /// Whether the bytes can go on to a good line, by trying ends: wherever a good line is cut, one of these can follow. Which line is good,
 /// the test of a whole line's form says, which knows no columns.
 fn goes_on(form: Form, front: &[u8]) -> bool {
-    [&b""[..], b"\n", b"0\n", b"1\n", b"00\n", b"+00\n", b" 0\n", b"1 0\n"].into_iter().any(|end| {
+    let ends = [&b""[..], b"\n", b"0\n", b"1\n", b"00\n", b"+00\n", b" 0\n", b"1 0\n", b"0 0\n", b" 0 0\n", b"1 0 0\n"];
+    let letters = (1..8).map(|k| &b"infinity\n"[k..]);
+    ends.into_iter().chain(letters).any(|end| {
         let file = [front, end].concat();
         let line = &lists::lines(&file)[..];
         line.len() == 1 && line[0].ended && places::fault(form, &line[0]).0 != 2
@@ -395,7 +398,7 @@ fn columns_agree(form: Form, front: &mut Vec<u8>, bad: Option<u64>, more: usize)
         assert_eq!(places::fault(form, &line).0 == 2, !ended || bad.is_some());
     }
     if more > 0 && !ended {
-        for &byte in b"019-.e+ \t\n" {
+        for &byte in if form == Form::Distance { &b"01-.e+in \n"[..] } else { b"019-.e+ \t\n" } {
             front.push(byte);
             columns_agree(form, front, bad, more - 1);
             front.pop();
@@ -405,12 +408,321 @@ fn columns_agree(form: Form, front: &mut Vec<u8>, bad: Option<u64>, more: usize)
 
 #[test]
 fn columns_by_trying() {
+    use Form::{Coefficient, Distance, FirstEdge, Pair, Vertex, Weighted};
     let fronts: [&[u8]; 8] =
         [b"", b"-9", b"7 ", b"7 1e", b"7 123456789012345", b"7 0.12345678901234", b"7 12345678901234.5", b"99999999999999999999 "];
-    for form in [Form::Vertex, Form::Pair, Form::Coefficient] {
-        for front in fronts {
+    let weights: [&[u8]; 4] = [b"7 8 ", b"7 8 0.1234", b"-7 99999999999999999999 1234567", b"7 8 99999999999999999999.99999"];
+    let letters: [&[u8]; 4] = [b"7 in", b"7 infini", b"7 infinity", b"99999999999999999999 infin"];
+    let none: [&[u8]; 0] = [];
+    let own =
+        [(Vertex, &none[..]), (Pair, &weights), (Weighted, &weights), (FirstEdge, &weights), (Coefficient, &letters), (Distance, &letters)];
+    for (form, more) in own {
+        for front in fronts.iter().chain(more) {
             let bad = (1..front.len()).find(|&k| !goes_on(form, &front[..k])).map(|k| k as u64);
             columns_agree(form, &mut front.to_vec(), bad, if front.is_empty() { 5 } else { 4 });
         }
     }
+}
+
+#[test]
+fn weights_k3() {
+    use lists::Weight::{Malformed, Millionths, TooHeavy};
+    let good = [
+        ("0", 0),
+        ("0.0", 0),
+        ("0.000001", 1),
+        ("0.5", 500_000),
+        ("3.000001", 3_000_001),
+        ("7.25", 7_250_000),
+        ("12", 12_000_000),
+        ("99999.999999", 99_999_999_999),
+        ("100000", 100_000_000_000),
+        ("100000.000000", 100_000_000_000),
+    ];
+    for (word, millionths) in good {
+        assert_eq!(lists::weight(word.as_bytes()), Millionths(millionths), "{}", word);
+    }
+    for word in ["100000.000001", "100001", "100000.1", "1000000", "18446744073709551616", "99999999999999999999999999999999.5"] {
+        assert_eq!(lists::weight(word.as_bytes()), TooHeavy, "{}", word);
+    }
+    for word in
+        ["", ".", "00", "01", "007", "-1", "-0", "+1", ".5", "1.", "0.", "1.0000000", "1.2.3", "1e5", "1e+05", "1,5", " 1", "1 ", "x"]
+    {
+        assert_eq!(lists::weight(word.as_bytes()), Malformed, "{}", word);
+    }
+}
+
+#[test]
+fn weighted_lines_k3() {
+    use Form::{Distance, FirstEdge, Pair, Weighted};
+    let examples: &[(Form, &[u8], (u64, u64))] = &[
+        (FirstEdge, b"7 8\n", (0, 0)),
+        (FirstEdge, b"7 8 9\n", (0, 0)),
+        (FirstEdge, b"7 8 100000\n", (0, 0)),
+        (FirstEdge, b"7 8 100000.000001\n", (13, 0)),
+        (FirstEdge, b"7 8 \n", (2, 5)),
+        (FirstEdge, b"7 8 09\n", (2, 6)),
+        (FirstEdge, b"7 8 .5\n", (2, 5)),
+        (FirstEdge, b"7 8 9.\n", (2, 7)),
+        (FirstEdge, b"7 8 9.1234567\n", (2, 13)),
+        (FirstEdge, b"7 8 9 \n", (2, 6)),
+        (FirstEdge, b"7 8 9 1\n", (2, 6)),
+        (FirstEdge, b"7 8  9\n", (2, 5)),
+        (FirstEdge, b"7 8\t9\n", (2, 4)),
+        (FirstEdge, b"7 8 -9\n", (2, 5)),
+        (FirstEdge, b"7 8 9e+00\n", (2, 6)),
+        (FirstEdge, b"7 8", (2, 4)),
+        (FirstEdge, b"7 8 9", (2, 6)),
+        (FirstEdge, b"7\n", (2, 2)),
+        (Pair, b"7 8\n", (0, 0)),
+        (Pair, b"7 8 9\n", (2, 4)),
+        (Pair, b"7 8 x\n", (2, 4)),
+        (Weighted, b"7 8 9\n", (0, 0)),
+        (Weighted, b"7 8\n", (2, 4)),
+        (Weighted, b"7 8\t9\n", (2, 4)),
+        (Weighted, b"7 8", (2, 4)),
+        // form before range, range before 13, and 13 whatever the number of digits
+        (Weighted, b"9223372036854775808 8 1.\n", (2, 25)),
+        (Weighted, b"9223372036854775808 8\n", (2, 22)),
+        (Weighted, b"7 9223372036854775808 100001\n", (3, 0)),
+        (Weighted, b"7 8 99999999999999999999999999999999999999999999\n", (13, 0)),
+        (Distance, b"7 infinity\n", (0, 0)),
+        (Distance, b"7 0.5\n", (0, 0)),
+        (Distance, b"7 1.25e+03\n", (0, 0)),
+        (Distance, b"7 infinit\n", (2, 10)),
+        (Distance, b"7 infinite\n", (2, 10)),
+        (Distance, b"7 infinity \n", (2, 11)),
+        (Distance, b"7 infinity", (2, 11)),
+        (Distance, b"7 inf\n", (2, 6)),
+        (Distance, b"7 Infinity\n", (2, 3)),
+        (Distance, b"7 -infinity\n", (2, 3)),
+        (Distance, b"7 1infinity\n", (2, 4)),
+        (Distance, b"infinity 7\n", (2, 1)),
+        (Distance, b"7\n", (2, 2)),
+        (Distance, b"9223372036854775808 infinity\n", (3, 0)),
+        (Distance, b"9223372036854775808 infinitx\n", (2, 28)),
+    ];
+    for &(form, file, said) in examples {
+        assert_eq!(places::fault(form, &lists::lines(file)[0]), said, "{:?} {:?}", form, String::from_utf8_lossy(file));
+    }
+}
+
+/// Three vertices, and edge lines with a bar for each line's end, loaded as undirected or directed lists.
+fn three(mode: u64, edges: &str) -> Result<lists::Graph, Refusal> {
+    lists::load(mode, b"1\n2\n3\n", edges.replace('|', "\n").as_bytes(), LIBRARY, lists::ROOM_ENOUGH)
+}
+
+#[test]
+fn weighted_files_k3() {
+    let refusal = |number, line, column| Err(Refusal { number, file: 2, line, column });
+    let said = |edges: &str| three(0, edges).map(|g| g.weights.is_some());
+    // all lines or none; no lines are unweighted
+    assert_eq!((said("1 2 0|1 3 1|"), said("1 2|1 3|"), said("")), (Ok(true), Ok(false), Ok(false)));
+    // a line that differs: the space before its weight, or its LF
+    assert_eq!((said("1 2|1 3 1|"), said("1 2 1|1 3|")), (refusal(2, 2, 4), refusal(2, 2, 4)));
+    assert_eq!((said("1 2|1 3|10000 20000 7|"), said("1 2 1|1 3 1|10000 20000|")), (refusal(2, 3, 12), refusal(2, 3, 12)));
+    assert_eq!((said("1 2|1 3 x|"), said("1 2 1|1 3 x|"), said("1 2 1|1 3 |")), (refusal(2, 2, 4), refusal(2, 2, 5), refusal(2, 2, 5)));
+    // 1, 2, 3, 13, 5, 6, 4, 7
+    assert_eq!((said("1 2 0|1 1 100001|"), said("1 2 0|3 1 100001|")), (refusal(13, 2, 0), refusal(13, 2, 0)));
+    assert_eq!((said("1 2 0|1 2 100001|"), said("1 2 0|2 9 100001|")), (refusal(13, 2, 0), refusal(13, 2, 0)));
+    assert_eq!((said("1 2 0|1 99999999999999999999 100001|"), said("1 2 0|1 1 0|")), (refusal(3, 2, 0), refusal(5, 2, 0)));
+    assert_eq!((said("1 2 0|3 1 0|"), said("1 2 0|1 2 0|"), said("1 2 0|2 9 0|")), (refusal(6, 2, 0), refusal(4, 2, 0), refusal(7, 2, 0)));
+    let few = reference::Limits { edges: 1, ..DESK };
+    let one = lists::load(1, b"1\n2\n", b"1 2 1\n1", few, lists::ROOM_ENOUGH);
+    assert_eq!(one.unwrap_err(), at(1, 2, 2));
+}
+
+#[test]
+fn weight_areas_k3() {
+    let lent = lists::Lent::of(&three(1, "1 2 0.5|1 3 2|3 1 3|3 2 4.25|").unwrap());
+    assert_eq!((&lent.out_targets[..], &lent.in_sources[..]), (&[1, 2, 0, 1][..], &[2, 0, 2, 0][..]));
+    assert_eq!(lent.out_weights, [500_000, 2_000_000, 3_000_000, 4_250_000]);
+    assert_eq!(lent.in_weights, [3_000_000, 500_000, 4_250_000, 2_000_000]);
+    assert!(lent.weighted);
+    // an edge of an undirected list has its weight both ways
+    let both = lists::Lent::of(&three(0, "1 2 0.5|1 3 2|2 3 7|").unwrap());
+    assert_eq!((&both.out_targets[..], &both.out_weights), (&[1, 2, 0, 2, 0, 1][..], &both.in_weights));
+    assert_eq!(both.out_weights, [500_000, 2_000_000, 500_000, 7_000_000, 2_000_000, 7_000_000]);
+    // without weights the areas are not looked at, and with them they need room for the arcs each way, which is asked for last
+    let load = |edges: &str, out_weights, in_weights| {
+        let room = lists::Room { out_weights, in_weights, ..lists::ROOM_ENOUGH };
+        lists::load(1, b"1\n2\n3\n", edges.replace('|', "\n").as_bytes(), LIBRARY, room).map(|g| g.arcs())
+    };
+    assert_eq!((load("1 2|2 3|", 0, 0), load("", 0, 0), load("1 2 0|2 3 0|", 2, 2)), (Ok(2), Ok(0), Ok(2)));
+    assert_eq!((load("1 2 0|2 3 0|", 1, 2), load("1 2 0|2 3 0|", 2, 1)), (Err(plain(8)), Err(plain(8))));
+    assert_eq!(load("1 2 0|2 3 x|", 0, 0), Err(Refusal { number: 2, file: 2, line: 2, column: 5 }));
+}
+
+#[test]
+fn weighted_soundness_k3() {
+    let sound = lists::Lent::of(&three(1, "1 2 0.5|1 3 2|3 1 3|3 2 4.25|").unwrap());
+    let with = |change: &dyn Fn(&mut lists::Lent)| {
+        let mut lent = sound.clone();
+        change(&mut lent);
+        (lent.graph().map(|_| ()), lent.weighted_graph().map(|g| g.weights.is_some()))
+    };
+    let unsound = (Ok(()), Err(plain(9)));
+    assert_eq!(with(&|_| ()), (Ok(()), Ok(true)));
+    // too short either way, and longer than it needs to be
+    assert_eq!((with(&|g| g.out_weights.truncate(3)), with(&|g| g.in_weights.truncate(3))), (unsound, unsound));
+    assert_eq!(with(&|g| g.out_weights.push(usize::MAX)), (Ok(()), Ok(true)));
+    // unequal, though the two areas hold the same numbers; too heavy both ways; the heaviest there is
+    assert_eq!((with(&|g| g.in_weights.swap(0, 1)), with(&|g| g.out_weights[0] = 1)), (unsound, unsound));
+    let heavy = |weight: usize| with(&|g| (g.out_weights[3], g.in_weights[2]) = (weight, weight));
+    assert_eq!((heavy(100_000_000_000), heavy(100_000_000_001), heavy(usize::MAX)), ((Ok(()), Ok(true)), unsound, unsound));
+    // not marked as weighted, the areas are not looked at; and what was unsound stays so
+    let mark = |g: &mut lists::Lent| (g.weighted, g.out_weights) = (false, Vec::new());
+    assert_eq!(with(&|g| mark(g)), (Ok(()), Ok(false)));
+    assert_eq!(with(&|g| g.out_targets[0] = 9), (Err(plain(9)), Err(plain(9))));
+    // without arcs a graph is unweighted, whatever it is marked
+    let mut none = lists::Lent::of(&three(1, "").unwrap());
+    none.weighted = true;
+    assert_eq!(none.weighted_graph().map(|g| g.weights), Ok(None));
+    assert_eq!(kernels::sssp(&none.weighted_graph().unwrap(), 1), Err(plain(14)));
+}
+
+/// The sheet's graph with weights: 2 to 9 is shorter by way of 5.
+const ROUTES: &str = "2 5 0.5|2 9 4|5 2 0|5 9 2.500001|9 20 100000|";
+
+fn routes() -> lists::Graph {
+    lists::load(1, b"-3\n2\n5\n9\n20\n", ROUTES.replace('|', "\n").as_bytes(), DESK, lists::ROOM_ENOUGH).unwrap()
+}
+
+#[test]
+fn distances_k3() {
+    assert_eq!(kernels::sssp(&routes(), 2), Ok(vec![i64::MAX, 0, 500_000, 3_000_001, 100_003_000_001]));
+    assert_eq!(kernels::sssp(&routes(), 20), Ok(vec![i64::MAX, i64::MAX, i64::MAX, i64::MAX, 0]));
+    // 14 before 10; the other kernels answer as they do without weights
+    assert_eq!(
+        (kernels::sssp(&graph(), 2), kernels::sssp(&graph(), 4), kernels::sssp(&routes(), 4)),
+        (Err(plain(14)), Err(plain(14)), Err(plain(10)))
+    );
+    assert_eq!((kernels::bfs(&routes(), 2), kernels::wcc(&routes())), (kernels::bfs(&graph(), 2), kernels::wcc(&graph())));
+    assert_eq!((kernels::cdlp(&routes(), 2), kernels::lcc(&routes())), (kernels::cdlp(&graph(), 2), kernels::lcc(&graph())));
+    // zero weights, equal routes, and the longest route that there can be
+    assert_eq!(kernels::sssp(&three(1, "1 2 0|1 3 1|2 3 1|3 1 0|").unwrap(), 1), Ok(vec![0, 0, 1_000_000]));
+    assert_eq!(kernels::sssp(&three(0, "1 2 0|1 3 7|2 3 0|").unwrap(), 3), Ok(vec![0, 0, 0]));
+    let (mut vertices, mut edges) = (String::new(), String::new());
+    for v in 0..65_536 {
+        vertices += &format!("{}\n", v);
+    }
+    for v in 0..100 {
+        edges += &format!("{} {} 100000\n", v, v + 1);
+    }
+    let path = lists::load(1, vertices.as_bytes(), edges.as_bytes(), LIBRARY, lists::ROOM_ENOUGH).unwrap();
+    assert_eq!(kernels::sssp(&path, 0).unwrap()[98..102], [9_800_000_000_000, 9_900_000_000_000, 10_000_000_000_000, i64::MAX]);
+}
+
+/// The least sum along any route that names no vertex twice, by trying all of them.
+fn tried(g: &lists::Graph, weights: &BTreeMap<(usize, usize), usize>, passed: &mut Vec<usize>, sum: usize, least: &mut [i64]) {
+    let u = *passed.last().unwrap();
+    least[u] = least[u].min(sum as i64);
+    for &w in &g.out[u] {
+        if !passed.contains(&w) {
+            passed.push(w);
+            tried(g, weights, passed, sum + weights[&(u, w)], least);
+            passed.pop();
+        }
+    }
+}
+
+#[test]
+fn distances_by_trying_k3() {
+    for seed in 0..3_000 {
+        let (mut dice, n) = (Dice::new(seed), 2 + seed as usize % 5);
+        let vertices: String = (0..n).map(|v| format!("{}\n", v)).collect();
+        let (mut edges, mut weights) = (String::new(), BTreeMap::new());
+        let mode = dice.below(2) as u64;
+        for (u, v) in (0..n).flat_map(|u| (0..n).map(move |v| (u, v))) {
+            if u != v && (mode == 1 || u < v) && !dice.one_in(2) {
+                let weight = *dice.pick(&[0, 0, 1, 500_000, 1_000_000, 1_500_000, 100_000_000_000]);
+                edges += &format!("{} {} {}\n", u, v, sheet::distance(weight as i64));
+                weights.insert((u, v), weight);
+                if mode == 0 {
+                    weights.insert((v, u), weight);
+                }
+            }
+        }
+        let g = lists::load(mode, vertices.as_bytes(), edges.as_bytes(), DESK, lists::ROOM_ENOUGH).unwrap();
+        for root in 0..n {
+            let mut least = vec![i64::MAX; n];
+            tried(&g, &weights, &mut vec![root], 0, &mut least);
+            assert_eq!(kernels::sssp(&g, root as i64), if weights.is_empty() { Err(plain(14)) } else { Ok(least) }, "{}", edges);
+        }
+    }
+}
+
+#[test]
+fn distance_claims_k3() {
+    let near = |millionths, text: &str| {
+        claims::near(millionths, claims::distance_line(&lists::lines(format!("1 {}\n", text).as_bytes())[0]).unwrap().1)
+    };
+    // a part in ten thousand of 0.5 on either side, and just past it
+    assert!(near(500_000, "0.5") && near(500_000, "0.50005") && near(500_000, "0.49995") && near(500_000, "5e-01"));
+    assert!(!near(500_000, "0.500051") && !near(500_000, "0.4999499999999999") && !near(500_000, "500000") && !near(500_000, "0"));
+    // a millionth; zero; the longest route; a distance that is not there
+    assert!(near(1, "0.000001") && near(1, "1e-06") && near(1, "0.0000010001") && !near(1, "0.00000100010001"));
+    assert!(near(0, "0") && near(0, "0.0e+99") && !near(0, "1e-99") && !near(0, "infinity"));
+    assert!(
+        near(6_553_500_000_000_000, "6553500000")
+            && near(6_553_500_000_000_000, "6.55415535e+09")
+            && !near(6_553_500_000_000_000, "6554155351")
+    );
+    assert!(
+        near(i64::MAX, "infinity") && !near(i64::MAX, "9223372036854.7758") && !near(i64::MAX, "9e+99") && !near(i64::MAX - 1, "infinity")
+    );
+
+    let judged = |parameter, claim: &str| claims::verdict(&routes(), 5, parameter, claim.replace('|', "\n").as_bytes(), DESK);
+    let said = |claim: &str| judged(2, claim).map(|v| (v.number, v.line));
+    assert_eq!(said("-3 infinity|2 0|5 0.5|9 3.000001|20 100003.000001|"), Ok((0, 0)));
+    assert_eq!(said("20 1.00003e+05|9 3|5 0.50005|2 0.0|-3 infinity|"), Ok((0, 0)));
+    // the smallest vertex at fault, by its line
+    assert_eq!((said("20 infinity|9 3|5 0.5|2 0|-3 0|"), said("20 infinity|9 3|5 infinity|2 0|-3 infinity|")), (Ok((21, 5)), Ok((21, 3))));
+    assert_eq!((said("20 9|9 9|5 9|2 9|"), said("2 0|2 0|"), said("4 0|")), (Ok((20, 5)), Ok((20, 2)), Ok((20, 1))));
+    assert_eq!(said("-3 infinity|2 0|5 0.5x|"), Err(Refusal { number: 2, file: 3, line: 3, column: 6 }));
+    assert_eq!((judged(4, "x"), said("99999999999999999999 infinity|")), (Err(plain(10)), Err(at(3, 3, 1))));
+    assert_eq!(claims::verdict(&graph(), 5, 4, b"x", DESK), Err(plain(14)));
+
+    // the host call: 12, the load, 14, 10, the claim
+    let host = |edges: &str, mode, kernel, parameter, claim: &str| {
+        let (edges, claim) = (edges.replace('|', "\n"), claim.replace('|', "\n"));
+        claims::host_verdict(b"1\n2\n3\n", edges.as_bytes(), claim.as_bytes(), mode, kernel, parameter)
+    };
+    assert_eq!(
+        (host("1 2 x|", 2, 5, 9, "x"), host("1 2 x|", 1, 6, 9, "x"), host("1 2 x|", 1, 5, 9, "x")),
+        (12_000_000, 12_000_000, 2_200_001)
+    );
+    assert_eq!(
+        (host("1 2 100001|", 1, 5, 9, "x"), host("1 2|", 1, 5, 9, "x"), host("", 1, 5, 9, "x")),
+        (13_200_001, 14_000_000, 14_000_000)
+    );
+    assert_eq!((host("1 2 1|", 1, 5, 9, "x"), host("1 2 1|", 1, 5, 1, "x")), (10_000_000, 2_300_001));
+    assert_eq!((host("1 2 1|", 1, 5, 1, "3 infinity|2 1.0001|1 0|"), host("1 2 1|", 1, 5, 1, "3 0|2 1|1 0|")), (300_000, 21_300_001));
+    assert_eq!((host("1 2 1|", 1, 2, 9, "1 7|2 7|3 3|"), host("1 2 1|", 1, 1, 1, "1 0|2 1|3 9223372036854775807|")), (300_000, 300_000));
+}
+
+#[test]
+fn distances_printed_k3() {
+    let shown = [(0, "0"), (1, "0.000001"), (500_000, "0.5"), (3_000_001, "3.000001"), (12_000_000, "12"), (100_000_000_000, "100000")];
+    for (millionths, text) in shown.into_iter().chain([(10, "0.00001"), (10_100_000, "10.1"), (i64::MAX, "infinity")]) {
+        assert_eq!(sheet::distance(millionths), text);
+    }
+    let edges = ROUTES.replace('|', "\n");
+    let sheet = |edges: &str, jobs: &str| sheet::output(format!("directed\n5\n-3\n2\n5\n9\n20\n{}{}\n", edges, jobs).as_bytes());
+    let weighted = |jobs: &str| sheet(&format!("5\n{}", edges), jobs);
+    assert_eq!(weighted("1\nsssp 2"), "sssp 2\n5\n-3 infinity\n2 0\n5 0.5\n9 3.000001\n20 100003.000001\n");
+    assert_eq!(
+        weighted("2\nsssp 4\nbfs 20"),
+        "refused 10 0 0 0\nbfs 20\n5\n-3 9223372036854775807\n2 9223372036854775807\n5 9223372036854775807\n9 9223372036854775807\n20 0\n"
+    );
+    assert_eq!(
+        (sheet("0\n", "1\nsssp 2"), sheet("1\n2 5\n", "1\nsssp 4")),
+        ("refused 14 0 0 0\n".to_string(), "refused 14 0 0 0\n".to_string())
+    );
+    assert_eq!((weighted("1\nsssp"), weighted("1\nsssp 007")), ("refused 2 4 15 0\n".to_string(), "refused 2 4 15 0\n".to_string()));
+    assert_eq!(weighted("1\nsssp 9223372036854775808"), "refused 3 4 15 0\n");
+    assert_eq!(
+        (sheet("1\n2 5 100000.000001\n", "0"), sheet("2\n2 5 1\n2 9\n", "0")),
+        ("refused 13 2 1 0\n".to_string(), "refused 2 2 2 4\n".to_string())
+    );
 }

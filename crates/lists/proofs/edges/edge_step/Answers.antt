@@ -6,10 +6,10 @@ pub returns-then-fault-ne0 : goal.returns-then-fault-ne0
 returns-then-fault-ne0 c = search (edge-fault, rules, c.if-fault-ne0.true)
 
 pub returns-in-End : goal.returns-in-End
-returns-in-End c = search edge-end
+returns-in-End c = search (edge-end, rules)
 
 pub returns-in-Fault : goal.returns-in-Fault
-returns-in-Fault c = search edge-bad
+returns-in-Fault c = search (edge-bad, rules)
 
 pub returns-in-Unknown : goal.returns-in-Unknown
 returns-in-Unknown c = search (edge-unknown, rules)

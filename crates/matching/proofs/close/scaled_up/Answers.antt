@@ -10,9 +10,9 @@ loop-j-preserved c =
     let l = c.loop-j in
     let d = c.args.d in (
       search rules,
-      c.capped-m-in-loop-j.ensures
+      c.ten_times-m.ensures
           ∙ cap-next (d * 10 ^ l.j) l.m l.invariant.1
-          ∙ ap (λ (x : ℕ). min x (10 ^ 18)) (ten-more d l.j),
+          ∙ ap (λ (x : ℕ). min x (10 ^ 19)) (ten-more d l.j),
     )
 
 pub returns : goal.returns

@@ -1,6 +1,7 @@
 use borrow.Author.Rules.{rules}
 use Rattle.matching.proofs.NumberLines.{named-within}
-use Rattle.matching.proofs.DecimalLines.{decimals-none, decimals-far, decimals-next, decimals-end, decimals-fault}
+use Rattle.matching.proofs.ValueLines.{values-far}
+use Rattle.matching.proofs.DecimalLines.{decimals-none, decimals-next, decimals-end, decimals-fault}
 use Rattle.matching.proofs.DecimalLines.{decimals-over, decimals-full}
 use Rattle.matching.proofs.coefficients.read_coefficients.Goals as goal
 
@@ -8,7 +9,7 @@ pub loop-k-init : goal.loop-k-init
 loop-k-init c = search decimals-none
 
 pub reported-requires : goal.reported-requires
-reported-requires c = search (decimals-far, rules)
+reported-requires c = search (values-far, rules)
 
 pub returns-in-End : goal.returns-in-End
 returns-in-End c = search decimals-end
@@ -26,7 +27,7 @@ pub returns-then-at-claim : goal.returns-then-at-claim
 returns-then-at-claim c = search decimals-over
 
 pub reported-requires-2 : goal.reported-requires-2
-reported-requires-2 c = search (decimals-far, rules)
+reported-requires-2 c = search (values-far, rules)
 
 pub returns : goal.returns
 returns c = search decimals-full

@@ -1,4 +1,4 @@
-use Rattle.sheet.proofs.Ran.{job-bfs, job-wcc, job-cdlp, job-lcc}
+use Rattle.sheet.proofs.Ran.{job-bfs, job-wcc, job-cdlp, job-lcc, job-sssp}
 use borrow.Author.Rules.{rules}
 use Rattle.sheet.proofs.jobs.run_job.Goals as goal
 
@@ -13,3 +13,6 @@ returns-in-Cdlp c = search (job-cdlp, rules)
 
 pub returns-in-Lcc : goal.returns-in-Lcc
 returns-in-Lcc c = search job-lcc
+
+pub returns-in-Sssp : goal.returns-in-Sssp
+returns-in-Sssp c = search (job-sssp, rules)

@@ -8,8 +8,14 @@ use Rattle.trace.proofs.code.load_code.Goals as goal
 pub overflow_mul-result : goal.overflow_mul-result
 overflow_mul-result c = omega (arith, c.requires.values _ (ap says c.in-Graph.is))
 
+pub overflow_mul-result-in-Graph : goal.overflow_mul-result-in-Graph
+overflow_mul-result-in-Graph c = omega (arith, c.requires.values _ (ap says c.in-Graph.is))
+
 pub overflow_add-result : goal.overflow_add-result
 overflow_add-result c = omega (arith, c.requires.values _ (ap says c.in-Graph.is))
+
+pub overflow_add-result-in-Graph : goal.overflow_add-result-in-Graph
+overflow_add-result-in-Graph c = omega (arith, c.requires.values _ (ap says c.in-Graph.is))
 
 pub refusal_code-requires : goal.refusal_code-requires
 refusal_code-requires c = (c.requires.refusals _ (ap says c.in-Refused.is)).1

@@ -6,4 +6,6 @@ pub refusal_code-requires : goal.refusal_code-requires
 refusal_code-requires c = search judge-small
 
 pub returns : goal.returns
-returns c = search (judge-told, to_z-of_z)
+returns c =
+    judge-told _ _ _ _ _ _ _ _ _ _ _ _ _ _ _ _ _ c.verdict-judged.ensures _ c.as_refusal.ensures _ c.refusal_code.ensures _
+    (to_z-of_z c.ranges.parameter)

@@ -21,7 +21,6 @@ returns-in-Refused c = search host-refused
 
 pub returns-in-Graph : goal.returns-in-Graph
 returns-in-Graph c =
-    host-judged _ _ _ _ _ _ _ c.is_known.ensures
-    c.if-not-is_known.false _ _ _ _ _ _
-    c.in-Graph.ensures _ refl _
-    (to_z-of_z c.ranges.parameter) _ c.judge_loaded.ensures
+    host-judged _ _ _ _ _ _ _ c.is_known.ensures c.if-not-is_known.false _ _ _ _ _ _ _ _ c.in-Graph.ensures _ _ refl _
+    (to_z-of_z c.ranges.parameter) _
+    c.judge_loaded.ensures

@@ -1,5 +1,5 @@
 use mir.Facts.{to_z-of_z}
-use Rattle.verdicts.proofs.Calls.{roomy, verdict-unknown, verdict-bfs, verdict-wcc, verdict-cdlp, verdict-lcc}
+use Rattle.verdicts.proofs.Calls.{roomy, verdict-unknown, verdict-bfs, verdict-wcc, verdict-cdlp, verdict-lcc, verdict-sssp}
 use Rattle.verdicts.proofs.verdict.verdict_within.Goals as goal
 
 pub on_bfs-requires : goal.on_bfs-requires
@@ -38,8 +38,7 @@ on_cdlp-requires c =
 
 pub returns-then-kernel-eq-CDLP : goal.returns-then-kernel-eq-CDLP
 returns-then-kernel-eq-CDLP c =
-    verdict-cdlp _ _ _ _ _ _ _ _ _ _ _ c.has_room-room.ensures (to_z-of_z
-    c.ranges.parameter)
+    verdict-cdlp _ _ _ _ _ _ _ _ _ _ _ c.has_room-room.ensures (to_z-of_z c.ranges.parameter)
     c.if-kernel-eq-BFS.false c.if-kernel-eq-WCC.false c.if-kernel-eq-CDLP.true c.on_cdlp.ensures.lines_after c.on_cdlp.ensures.labels_after
 
 pub on_lcc-requires : goal.on_lcc-requires
@@ -52,11 +51,27 @@ on_lcc-requires c =
 
 pub returns-then-kernel-eq-LCC : goal.returns-then-kernel-eq-LCC
 returns-then-kernel-eq-LCC c =
-    verdict-lcc _ _ _ _ _ _ _ _ _ _ _ c.has_room-room.ensures c.if-kernel-eq-BFS.false
-    c.if-kernel-eq-WCC.false c.if-kernel-eq-CDLP.false c.if-kernel-eq-LCC.true c.on_lcc.ensures.lines_after c.clear_signed.ensures
-    c.clear_signed-then-kernel-eq-LCC.ensures c.on_lcc.ensures.work_after
+    verdict-lcc _ _ _ _ _ _ _ _ _ _ _ c.has_room-room.ensures c.if-kernel-eq-BFS.false c.if-kernel-eq-WCC.false c.if-kernel-eq-CDLP.false
+    c.if-kernel-eq-LCC.true
+    c.on_lcc.ensures.lines_after c.clear_signed.ensures c.clear_signed-then-kernel-eq-LCC.ensures c.on_lcc.ensures.work_after
+
+pub on_sssp-requires : goal.on_sssp-requires
+on_sssp-requires c =
+    let h = roomy _ _ _ _ _ _ _ c.has_room-room.ensures in
+    record {
+      roomy = (h.0.0, h.2);
+      roomy_2 = h.1;
+    }
+
+pub returns-then-kernel-eq-SSSP : goal.returns-then-kernel-eq-SSSP
+returns-then-kernel-eq-SSSP c =
+    verdict-sssp _ _ _ _ _ _ _ _ _ _ _ c.has_room-room.ensures (to_z-of_z c.ranges.parameter)
+    c.if-kernel-eq-BFS.false c.if-kernel-eq-WCC.false c.if-kernel-eq-CDLP.false c.if-kernel-eq-LCC.false c.if-kernel-eq-SSSP.true
+    c.on_sssp.ensures.lines_after
+    c.on_sssp.ensures.settled_after
 
 pub returns : goal.returns
 returns c =
     verdict-unknown _ _ _ _ _ _ _ _ _ _ _ c.if-kernel-eq-BFS.false c.if-kernel-eq-WCC.false c.if-kernel-eq-CDLP.false
-    c.if-kernel-eq-LCC.false c.refuse_unknown.ensures
+    c.if-kernel-eq-LCC.false c.if-kernel-eq-SSSP.false
+    c.refuse_unknown.ensures
