@@ -1,5 +1,5 @@
 -- 01 "Refusal numbers": what a call says, in the paper's numbers.
-use Rattle.std.specs.Prelude.{ℕ, Bool, cond}
+use Rattle.std.specs.Prelude.{ℕ, Bool, cond, Result, Ok, Err}
 use Rattle.basis.specs.declared.refusal.Refusal.{Refusal}
 
 -- 02 K2: "Every refusal now has four numbers": its number, file and line, and the column, from 1, in that line
@@ -91,6 +91,11 @@ sheet_file = 4
 pub data Said (A : Type 0) : Type 0 where
   gives : A → Said A
   refuses : Refusal → Said A
+
+-- the same of an answer of the code
+abbrev pub said : {A : Type 0} → Result A Refusal → Said A
+said (Ok x) = gives x
+said (Err r) = refuses r
 
 -- "The first fault met is the answer": what a call says that goes on from what another gives, and is refused where that is
 abbrev pub onward : {A B : Type 0} → Said A → (A → Said B) → Said B

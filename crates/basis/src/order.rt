@@ -21,5 +21,5 @@ pub fn same(a: i64, b: i64) -> bool
 pub fn lesser(a: usize, b: usize) -> usize
     ensures { result ≡ min a b }
 {
-    if a < b { a } else { b }
+    a.min(b)
 }

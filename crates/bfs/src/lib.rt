@@ -12,7 +12,7 @@ ghost use Rattle.bfs.specs.Depth.{infinity, depths};
 ghost use Rattle.bfs.specs.Call.{outcome, refusal, room_for, left_by, bfs_call};
 ghost use Rattle.bfs.specs.Steps.{Ready, Queued, board, relaxed, relaxed_all, advanced};
 
-use basis::area::{clear, clear_signed, fill_signed};
+use basis::area::clear;
 use basis::order::{lesser, same};
 use basis::refusal::{NO_ROOM, NOT_THERE, UNSOUND};
 use graph::Size;
@@ -96,7 +96,7 @@ fn search(offsets: &[usize], targets: &[usize], root: usize, depth: &mut [i64], 
         (part_of (length depth.old) offsets.now targets.now) root }
 {
     let n = depth.len();
-    fill_signed(depth, UNREACHABLE);
+    depth.fill(UNREACHABLE);
     let mut tail = relax(depth, queue, 0, root, 0);
     let mut head = 0;
     let mut ring = Ring { end: 1, level: 0 };
@@ -121,7 +121,7 @@ fn refuse(number: usize, depth: &mut [i64], queue: &mut [usize]) -> Answer
     ensures { outcome (says result) depth.new queue.new
         ≡ refusal number depth.old queue.old }
 {
-    clear_signed(depth);
+    clear(depth);
     clear(queue);
     refused(number)
 }
@@ -155,7 +155,7 @@ fn fill(
         &mut depth[..n],
         &mut queue[..n],
     );
-    clear_signed(&mut depth[n..]);
+    clear(&mut depth[n..]);
     clear(queue);
     Answer::Done
 }

@@ -6,7 +6,7 @@ ghost use Rattle.book.specs.Says.{says_opened};
 
 use super::{Opened, well_lent};
 use basis::Refusal;
-use basis::area::fill_signed;
+use basis::area::fill;
 use basis::refusal::NO_ROOM;
 
 // What a group of one holds: minus its size.
@@ -19,6 +19,6 @@ pub fn open_book(entries: &mut [i64]) -> Opened
     if !well_lent(entries) {
         return Opened::Refused(Refusal::plain(NO_ROOM));
     }
-    fill_signed(entries, FRESH);
+    fill(entries, FRESH);
     Opened::Ready
 }

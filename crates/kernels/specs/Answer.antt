@@ -1,13 +1,12 @@
 -- 01 "The loaded graph" and "Kernels": what every kernel answers.
-use Rattle.std.specs.Prelude.{ℕ, Bool}
+use Rattle.std.specs.Prelude.{ℕ, Bool, Result, Ok, Err}
+use Rattle.basis.specs.declared.refusal.Refusal.{Refusal}
 use Rattle.basis.specs.Refusal.{Said, gives, refuses, unsound, no_room, check}
-use Rattle.kernels.specs.declared.Answer.{Answer}
-use Rattle.kernels.specs.declared.Answer.TheVariants.{Done, Refused}
 
 -- the paper's number and values of an answer: a kernel has no values beside its areas
-abbrev pub says : Answer → Said (Unit {0})
-says Done = gives tt
-says (Refused r) = refuses r
+abbrev pub says : Result (Unit {0}) Refusal → Said (Unit {0})
+says (Ok u) = gives u
+says (Err r) = refuses r
 
 -- "Kernels check 9, then 10 or 11, then 8": by whether the graph is sound, the parameter good (else the refusal with its number) and the
 -- room enough

@@ -17,16 +17,9 @@ pub const LCC: usize = 4;
 
 pub const SSSP: usize = 5;
 
-// A kernel answers that its results stand in the areas, or why it was refused.
-#[derive(Drop)]
-pub enum Answer {
-    Done,
-    Refused(Refusal),
-}
-
 // A refusal of a kernel meets no line.
-pub fn refused(number: usize) -> Answer
+pub fn refused(number: usize) -> Result<(), Refusal>
     ensures { says result ≡ refuses (plain number) }
 {
-    Answer::Refused(Refusal::plain(number))
+    Err(Refusal::plain(number))
 }

@@ -25,11 +25,11 @@ search-requires c = record {
 pub offset_bounds-depth-n : goal.offset_bounds-depth-n
 offset_bounds-depth-n c = let fits : c.args.size.vertices ≤ length c.args.depth.now = search lent-depth in omega arith
 
-pub slice_bounds-clear_signed-count : goal.slice_bounds-clear_signed-count
-slice_bounds-clear_signed-count c = let fits : c.args.size.vertices ≤ length c.args.depth.now = search lent-depth in omega arith
+pub slice_bounds-clear-count : goal.slice_bounds-clear-count
+slice_bounds-clear-count c = let fits : c.args.size.vertices ≤ length c.args.depth.now = search lent-depth in omega arith
 
-pub slice_bounds-clear_signed-start : goal.slice_bounds-clear_signed-start
-slice_bounds-clear_signed-start c = let fits : c.args.size.vertices ≤ length c.args.depth.now = search lent-depth in omega arith
+pub slice_bounds-clear-start : goal.slice_bounds-clear-start
+slice_bounds-clear-start c = let fits : c.args.size.vertices ≤ length c.args.depth.now = search lent-depth in omega arith
 
 pub returns : goal.returns
 returns c = search fill-all

@@ -6,15 +6,15 @@ use Rattle.bfs.proofs.Queue.{Base, serving-queued, serving-begin, serving-level,
 use Rattle.bfs.proofs.Queue.{serving-tail, serving-deeper, serving-part, serving-more, serving-end}
 use Rattle.bfs.proofs.search.Goals as goal
 
-pub fill_signed-requires : goal.fill_signed-requires
-fill_signed-requires c = tt
+pub fill-requires : goal.fill-requires
+fill-requires c = tt
 
 pub relax-tail-requires : goal.relax-tail-requires
 relax-tail-requires c =
     let base : Base (length c.args.depth.now) (part_of (length c.args.depth.now) c.args.offsets.now c.args.targets.now) c.args.root =
     record { inside = c.requires.inside; root = c.requires.root_in_bounds.0; few = omega arith } in
     record {
-      queued = serving-queued _ _ _ base _ _ c.fill_signed.ensures c.requires.root_in_bounds.1;
+      queued = serving-queued _ _ _ base _ _ c.fill.ensures c.requires.root_in_bounds.1;
       w_in_bounds = (omega arith, omega arith);
     }
 
@@ -22,7 +22,7 @@ pub loop-head-init : goal.loop-head-init
 loop-head-init c =
     let base : Base (length c.args.depth.now) (part_of (length c.args.depth.now) c.args.offsets.now c.args.targets.now) c.args.root =
     record { inside = c.requires.inside; root = c.requires.root_in_bounds.0; few = omega arith } in
-    serving-begin _ _ _ base _ _ c.fill_signed.ensures c.requires.root_in_bounds.1 c.relax-tail.ensures
+    serving-begin _ _ _ base _ _ c.fill.ensures c.requires.root_in_bounds.1 c.relax-tail.ensures
 
 pub advance-ring-requires : goal.advance-ring-requires
 advance-ring-requires c = omega (arith, serving-level _ _ _ c.loop-head.invariant)

@@ -1,13 +1,5 @@
-use native.Mathlib.Omega.{arith}
-use borrow.Author.Rules.{rules}
-use Rattle.basis.proofs.Areas.{copied_none, copied_more, copied-end}
+use Rattle.basis.proofs.Areas.{copied-front}
 use Rattle.basis.proofs.area.copy.Goals as goal
 
-pub loop-i-init : goal.loop-i-init
-loop-i-init c = (omega arith, search rules, search copied_none)
-
-pub loop-i-preserved : goal.loop-i-preserved
-loop-i-preserved c = (search rules, search rules, search copied_more)
-
 pub returns : goal.returns
-returns c = search copied-end
+returns c = copied-front _ _ _ _ _ _ c.lesser.ensures c.lesser-most.ensures c.copy_from_slice.ensures.after
