@@ -4,6 +4,8 @@
 ghost use Rattle.std.specs.Prelude.{◌≡◌};
 ghost use Rattle.basis.specs.Refusal.{at_column, at, plain};
 
+use std::fmt;
+
 pub const TOO_MANY: usize = 1;
 
 pub const BAD_FORM: usize = 2;
@@ -40,7 +42,7 @@ pub const CLAIM_FILE: usize = 3;
 
 pub const SHEET_FILE: usize = 4;
 
-#[derive(Clone, Copy)]
+#[derive(Clone, Copy, Debug, PartialEq, Eq)]
 pub struct Refusal {
     pub number: usize,
     pub file: usize,
@@ -83,5 +85,12 @@ impl Refusal {
             line,
             column,
         }
+    }
+}
+
+// The word and the number, the file and the line, a space between.
+impl fmt::Display for Refusal {
+    fn fmt<W: fmt::Write>(&self, f: &mut fmt::Formatter<W>) -> fmt::Result {
+        write!(f, "refused {} {} {}", self.number, self.file, self.line)
     }
 }
