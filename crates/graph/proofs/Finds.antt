@@ -17,13 +17,12 @@ use Rattle.basis.specs.Refusal.{gives, refuses, plain, not_there}
 use Rattle.basis.proofs.Tests.{clash, no-case, bool_cases}
 use Rattle.basis.proofs.Saids.{refused-given, given-one}
 use Rattle.basis.proofs.Orders.{Order, less-trans, rising-less, same-places, signed-order}
-use Rattle.graph.specs.declared.find.Found.{Found}
-use Rattle.graph.specs.declared.find.Found.TheVariants.{At, Missing}
+use Rattle.std.specs.Prelude.{Option, Some, None}
 use Rattle.graph.specs.Find.{place_from, place_in, found_says, bisect, bisect_by, bisected, StandsAt, Searched}
 
 -- ---- one turn
 module _ {A : Type 0} (less : A → A → Bool) (z : A) (l : List A) (x : A) where
-  bisect-far : (turns low high : ℕ) → high ≤ low → bisect less z l x turns low high ≡ Missing
+  bisect-far : (turns low high : ℕ) → high ≤ low → bisect less z l x turns low high ≡ None
   unfolding bisect
   bisect-far zero low high h = refl
   bisect-far (suc turns) low high h = rw (bisect, le-ltb low high h)
@@ -41,7 +40,7 @@ module _ {A : Type 0} (less : A → A → Bool) (z : A) (l : List A) (x : A) whe
       bisect-down u = rw (bisect, lt-ltb low high h, t, u)
 
       bisect-here : less x (get_or l (low + (high - low) / 2) z) ≡ false
-          → bisect less z l x (suc turns) low high ≡ At (low + (high - low) / 2)
+          → bisect less z l x (suc turns) low high ≡ Some (low + (high - low) / 2)
       unfolding bisect
       bisect-here u = rw (bisect, lt-ltb low high h, t, u)
 
@@ -56,7 +55,7 @@ module _ {A : Type 0} (less : A → A → Bool) (z : A) (l : List A) (x : A) whe
   halving-start = record { turns = length l; enough = omega arith; same = refl }
 
 module _ {A : Type 0} {less : A → A → Bool} {z : A} {l : List A} {x : A} {low high : ℕ} (h : Halving less z l x low high) where
-  pub halving-end : high ≤ low → Missing ≡ bisect_by less z l x
+  pub halving-end : high ≤ low → None ≡ bisect_by less z l x
   halving-end g = sym (bisect-far less z l x h.turns low high g) ∙ h.same
 
   -- at a turn, y is what stands in the middle
@@ -79,24 +78,24 @@ module _ {A : Type 0} {less : A → A → Bool} {z : A} {l : List A} {x : A} {lo
         left (Halving less z l x low (low + (high - low) / 2))
         (λ k a s. record { turns = k; enough = omega arith; same = sym (bisect-down less z l x k low high g (rw e at t) (rw e at u)) ∙ s })
 
-    pub halving-here : less y x ≡ false → less x y ≡ false → At (low + (high - low) / 2) ≡ bisect_by less z l x
+    pub halving-here : less y x ≡ false → less x y ≡ false → Some (low + (high - low) / 2) ≡ bisect_by less z l x
     halving-here t u =
-        left (At (low + (high - low) / 2) ≡ bisect_by less z l x)
+        left (Some (low + (high - low) / 2) ≡ bisect_by less z l x)
         (λ k a s. sym (bisect-here less z l x k low high g (rw e at t) (rw e at u)) ∙ s)
 
 -- ---- what a search must answer: a place that holds x, or that no place does
 module _ {A : Type 0} (z : A) (l : List A) (x : A) where
-  abbrev pub Right : Found → Type 0
-  Right (At i) = (i < length l) × (get_or l i z ≡ x)
-  Right Missing = (i : ℕ) → i < length l → get_or l i z ≡ x → ⊥
+  abbrev pub Right : Option ℕ → Type 0
+  Right (Some i) = (i < length l) × (get_or l i z ≡ x)
+  Right None = (i : ℕ) → i < length l → get_or l i z ≡ x → ⊥
 
 module _ {A : Type 0} {same less : A → A → Bool} (order : Order same less) (z : A) (l : List A) (r : rising_by less l ≡ true) (x : A) where
   -- in a rising list there is one right answer
-  pub right-one : (f g : Found) → Right z l x f → Right z l x g → f ≡ g
-  right-one (At i) (At j) (a, b) (c, d) = ap At (eqb-true i j (sym (same-places order z l r i j a c) ∙ rw (b, d) (order.same_refl x)))
-  right-one (At i) Missing (a, b) g = absurd (g i a b)
-  right-one Missing (At i) f (a, b) = absurd (f i a b)
-  right-one Missing Missing f g = refl
+  pub right-one : (f g : Option ℕ) → Right z l x f → Right z l x g → f ≡ g
+  right-one (Some i) (Some j) (a, b) (c, d) = ap Some (eqb-true i j (sym (same-places order z l r i j a c) ∙ rw (b, d) (order.same_refl x)))
+  right-one (Some i) None (a, b) g = absurd (g i a b)
+  right-one None (Some i) f (a, b) = absurd (f i a b)
+  right-one None None f g = refl
 
   -- what lies before low is below x, what lies from high on is above it
   record Bracket (low high : ℕ) : Type 0 where
@@ -163,15 +162,15 @@ module _ {A : Type 0} {same less : A → A → Bool} (order : Order same less) (
       (record { inside = omega arith; before = λ i g. absurd (not-suc-le-zero g); behind = λ i g k. absurd (omega arith) })
 
 -- ---- identifiers
-abbrev From : ℕ → List ℤ → ℤ → Found → Type 0
-From i l id (At j) = (i ≤ j) × (j < i + length l) × (get_or l (j - i) (pos 0) ≡ id)
-From i l id Missing = (k : ℕ) → k < length l → get_or l k (pos 0) ≡ id → ⊥
+abbrev From : ℕ → List ℤ → ℤ → Option ℕ → Type 0
+From i l id (Some j) = (i ≤ j) × (j < i + length l) × (get_or l (j - i) (pos 0) ≡ id)
+From i l id None = (k : ℕ) → k < length l → get_or l k (pos 0) ≡ id → ⊥
 
-from_next : (i : ℕ) (x : ℤ) (l : List ℤ) (id : ℤ) (f : Found) → same_z x id ≡ false → From (i + 1) l id f → From i (x ∷ l) id f
-from_next i x l id (At j) t (a, b, e) =
+from_next : (i : ℕ) (x : ℤ) (l : List ℤ) (id : ℤ) (f : Option ℕ) → same_z x id ≡ false → From (i + 1) l id f → From i (x ∷ l) id f
+from_next i x l id (Some j) t (a, b, e) =
     let q : j - i ≡ suc (j - (i + 1)) = omega arith in
     (omega arith, omega arith, ap (λ (k : ℕ). get_or (x ∷ l) k (pos 0)) q ∙ e)
-from_next i x l id Missing t h = λ k.
+from_next i x l id None t h = λ k.
     elim k as (λ k. k < length (x ∷ l) → get_or (x ∷ l) k (pos 0) ≡ id → ⊥) [
       | zero ↦ λ g e. clash (rw e (signed-order.same_refl id)) t
       | suc k ↦ λ g e. h k (omega arith) e
@@ -183,7 +182,7 @@ place-from i [] id = λ k g e. absurd (not-suc-le-zero g)
 place-from i (x ∷ l) id = by (same_z x id) refl (place-from (i + 1) l id)
   where
     by : (t : Bool) → same_z x id ≡ t → From (i + 1) l id (place_from (i + 1) l id)
-        → From i (x ∷ l) id (elim t [ true ↦ At i | false ↦ place_from (i + 1) l id ])
+        → From i (x ∷ l) id (elim t [ true ↦ Some i | false ↦ place_from (i + 1) l id ])
     by true t h = (omega arith, omega arith, ap (λ (k : ℕ). get_or (x ∷ l) k (pos 0)) (sub_self i) ∙ signed-order.same-eq x id t)
     by false t h = from_next i x l id (place_from (i + 1) l id) t h
 
@@ -191,9 +190,9 @@ place-from i (x ∷ l) id = by (same_z x id) refl (place-from (i + 1) l id)
 pub place-right : (l : List ℤ) (id : ℤ) → Right (pos 0) l id (place_in l id)
 place-right l id = by (place_in l id) (place-from 0 l id)
   where
-    by : (f : Found) → From 0 l id f → Right (pos 0) l id f
-    by (At j) (a, b, e) = (omega arith, simp sub-zero at e)
-    by Missing h = h
+    by : (f : Option ℕ) → From 0 l id f → Right (pos 0) l id f
+    by (Some j) (a, b, e) = (omega arith, simp sub-zero at e)
+    by None h = h
 
 -- in a list that rises the bisection finds the vertex number of an identifier
 pub find-rising : (l : List ℤ) (id : ℤ) → rising_z l ≡ true → bisected l id ≡ place_in l id
@@ -202,9 +201,9 @@ find-rising l id r =
 
 -- in any list it ends at a place of the list, or at none
 bisect-below : (l : List ℤ) (id : ℤ) (turns low high : ℕ) (i : ℕ) → high ≤ length l
-    → bisect lt_z (pos 0) l id turns low high ≡ At i → i < length l
+    → bisect lt_z (pos 0) l id turns low high ≡ Some i → i < length l
 unfolding bisect
-bisect-below l id zero low high i h e = no-case (let z : Missing ≡ At i = e in cc)
+bisect-below l id zero low high i h e = no-case (let z : None ≡ Some i = e in cc)
 bisect-below l id (suc turns) low high i h e =
     let middle = low + (high - low) / 2 in
     by (ltb low high) (lt_z (get_or l middle (pos 0)) id) (lt_z id (get_or l middle (pos 0))) refl e
@@ -217,43 +216,43 @@ bisect-below l id (suc turns) low high i h e =
                 | true ↦ bisect lt_z (pos 0) l id turns (low + (high - low) / 2 + 1) high
                 | false ↦ elim c [
                   | true ↦ bisect lt_z (pos 0) l id turns low (low + (high - low) / 2)
-                  | false ↦ At (low + (high - low) / 2)
+                  | false ↦ Some (low + (high - low) / 2)
                 ]
               ]
-          | false ↦ Missing
-        ] ≡ At i
-        → (bisect lt_z (pos 0) l id turns (low + (high - low) / 2 + 1) high ≡ At i → i < length l)
-        → (low + (high - low) / 2 ≤ length l → bisect lt_z (pos 0) l id turns low (low + (high - low) / 2) ≡ At i → i < length l)
+          | false ↦ None
+        ] ≡ Some i
+        → (bisect lt_z (pos 0) l id turns (low + (high - low) / 2 + 1) high ≡ Some i → i < length l)
+        → (low + (high - low) / 2 ≤ length l → bisect lt_z (pos 0) l id turns low (low + (high - low) / 2) ≡ Some i → i < length l)
         → i < length l
     by true true c t e f g = f e
     by true false true t e f g = let k = ltb-true low high t in g (omega arith) e
     by true false false t e f g =
         let k = ltb-true low high t in let q : low + (high - low) / 2 ≡ i = cc in omega arith
-    by false b c t e f g = no-case (let z : Missing ≡ At i = e in cc)
+    by false b c t e f g = no-case (let z : None ≡ Some i = e in cc)
 
-pub bisected-below : (l : List ℤ) (id : ℤ) (i : ℕ) → bisected l id ≡ At i → i < length l
+pub bisected-below : (l : List ℤ) (id : ℤ) (i : ℕ) → bisected l id ≡ Some i → i < length l
 bisected-below l id i e = bisect-below l id (length l) 0 (length l) i (omega arith) e
 
 -- an identifier has the number i exactly where it stands at place i
-pub place_at : (l : List ℤ) (id : ℤ) → rising_z l ≡ true → (i : ℕ) → (place_in l id ≡ At i) ↔ StandsAt l id i
+pub place_at : (l : List ℤ) (id : ℤ) → rising_z l ≡ true → (i : ℕ) → (place_in l id ≡ Some i) ↔ StandsAt l id i
 place_at l id r i =
-    ((λ e. rw e at (place-right l id)), λ h. right-one signed-order (pos 0) l r id (place_in l id) (At i) (place-right l id) h)
+    ((λ e. rw e at (place-right l id)), λ h. right-one signed-order (pos 0) l r id (place_in l id) (Some i) (place-right l id) h)
 
 -- ---- what a search answers, from where it ends
-said_at : (f : Found) (i : ℕ) → found_says f ≡ gives i → f ≡ At i
-said_at (At j) i e = ap At (given-one e)
-said_at Missing i e = refused-given e
+said_at : (f : Option ℕ) (i : ℕ) → found_says f ≡ gives i → f ≡ Some i
+said_at (Some j) i e = ap Some (given-one e)
+said_at None i e = refused-given e
 
-said-missing : (f : Found) → found_says f ≡ refuses (plain not_there) → f ≡ Missing
-said-missing (At j) e = refused-given (sym e)
-said-missing Missing e = refl
+said-missing : (f : Option ℕ) → found_says f ≡ refuses (plain not_there) → f ≡ None
+said-missing (Some j) e = refused-given (sym e)
+said-missing None e = refl
 
-said-one : (f g : Found) → found_says f ≡ found_says g → f ≡ g
-said-one f (At i) e = said_at f i e
-said-one f Missing e = said-missing f e
+said-one : (f g : Option ℕ) → found_says f ≡ found_says g → f ≡ g
+said-one f (Some i) e = said_at f i e
+said-one f None e = said-missing f e
 
 -- a search that ends where the bisection does answers what it should
-pub searched : (ids : List ℤ) (id : ℤ) (f : Found) → f ≡ bisected ids id → Searched ids id f
+pub searched : (ids : List ℤ) (id : ℤ) (f : Option ℕ) → f ≡ bisected ids id → Searched ids id f
 searched ids id f e =
     record {
       any_list = ap found_says e;
@@ -261,7 +260,7 @@ searched ids id f e =
           let p = place_at ids id r i in
           ((λ s. p.0 (sym (here r) ∙ said_at f i s)), λ h. ap found_says (here r ∙ p.1 h));
       missing = λ r. (
-        (λ s i h. no-case (let z : At i ≡ Missing = sym ((place_at ids id r i).1 h) ∙ sym (here r) ∙ said-missing f s in cc)),
+        (λ s i h. no-case (let z : Some i ≡ None = sym ((place_at ids id r i).1 h) ∙ sym (here r) ∙ said-missing f s in cc)),
         λ none. by r f refl none,
       );
     }
@@ -269,10 +268,10 @@ searched ids id f e =
     here : rising_z ids ≡ true → f ≡ place_in ids id
     here r = e ∙ find-rising ids id r
 
-    by : rising_z ids ≡ true → (x : Found) → f ≡ x → ((i : ℕ) → StandsAt ids id i → ⊥) → found_says f ≡ refuses (plain not_there)
-    by r (At i) q none = absurd (none i ((place_at ids id r i).0 (sym (here r) ∙ q)))
-    by r Missing q none = ap found_says q
+    by : rising_z ids ≡ true → (x : Option ℕ) → f ≡ x → ((i : ℕ) → StandsAt ids id i → ⊥) → found_says f ≡ refuses (plain not_there)
+    by r (Some i) q none = absurd (none i ((place_at ids id r i).0 (sym (here r) ∙ q)))
+    by r None q none = ap found_says q
 
 -- and one that answers what it should ends where the bisection does
-pub searched-is : {ids : List ℤ} {id : ℤ} {f : Found} → Searched ids id f → f ≡ bisected ids id
+pub searched-is : {ids : List ℤ} {id : ℤ} {f : Option ℕ} → Searched ids id f → f ≡ bisected ids id
 searched-is {ids} {id} {f} s = said-one f (bisected ids id) s.any_list

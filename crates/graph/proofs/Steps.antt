@@ -19,8 +19,7 @@ use Rattle.basis.proofs.Tests.{same_test, and_first, and_second, and-off}
 use Rattle.basis.proofs.Scans.{every-at, every_more, every-fail, every-end, each-fail, each-every, mem_index, mem-none}
 use Rattle.basis.proofs.Orders.{rising_by-of, rising_by-fail, number-order}
 use Rattle.graph.specs.declared.Size.{Size}
-use Rattle.graph.specs.declared.find.Found.{Found}
-use Rattle.graph.specs.declared.find.Found.TheVariants.{At, Missing}
+use Rattle.std.specs.Prelude.{Option, Some, None}
 use Rattle.graph.specs.Part.{part_of}
 use Rattle.graph.specs.Find.{bisect_by, is_there}
 use Rattle.graph.specs.Sound.{Graph, outward, inward, lent, first_ids_rise, sound_ids, other, never_fall, sound_offsets}
@@ -190,9 +189,9 @@ module _ (l : List ℕ) (x low high : ℕ) (h : Halving ltb 0 l x low high) wher
 finds-member : (l : List ℕ) (x : ℕ) → rising l ≡ true → bisect_finds l x ≡ mem x l
 finds-member l x r = by (bisect_by ltb 0 l x) (bisect-finds number-order 0 l r x)
   where
-    by : (f : Found) → Right 0 l x f → is_there f ≡ mem x l
-    by (At i) (a, b) = sym (mem_index x l i a b)
-    by Missing h = sym (mem-none x l h)
+    by : (f : Option ℕ) → Right 0 l x f → is_there f ≡ mem x l
+    by (Some i) (a, b) = sym (mem_index x l i a b)
+    by None h = sym (mem-none x l h)
 
 parts-rise : (n : ℕ) (off tgt : List ℕ) → sound_parts n off tgt ≡ true → (v : ℕ) → rising (part_of n off tgt v) ≡ true
 parts-rise n off tgt s v =

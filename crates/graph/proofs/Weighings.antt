@@ -22,8 +22,7 @@ use Rattle.basis.proofs.Scans.{mem-cases}
 use Rattle.basis.proofs.Orders.{number-order, rising-lt}
 use Rattle.basis.proofs.Areas.{copied-length, copied_at}
 use Rattle.graph.specs.declared.Size.{Size}
-use Rattle.graph.specs.declared.find.Found.{Found}
-use Rattle.graph.specs.declared.find.Found.TheVariants.{At, Missing}
+use Rattle.std.specs.Prelude.{Option, Some, None}
 use Rattle.graph.specs.Part.{part_of}
 use Rattle.graph.specs.Find.{bisect_by}
 use Rattle.graph.specs.Sound.{Graph, lent, sound_part, mirrored, sound_graph, Side, Sound}
@@ -82,17 +81,17 @@ leg-is x c ws cs j r l h e =
 
 -- ---- a bisection for x
 module _ (ws cs : List ℕ) (x c low high : ℕ) (r : rising ws ≡ true) (l : length cs ≡ length ws) (h : Halving ltb 0 ws x low high) where
-  right : (f : Found) → f ≡ bisect_by ltb 0 ws x → Right 0 ws x f
+  right : (f : Option ℕ) → f ≡ bisect_by ltb 0 ws x → Right 0 ws x f
   right f e = rw e (bisect-finds number-order 0 ws r x)
 
   pub leg-here : low < high → ltb (get_or ws (low + (high - low) / 2) 0) x ≡ false → ltb x (get_or ws (low + (high - low) / 2) 0) ≡ false
       → eqb (get_or cs (low + (high - low) / 2) 0) c ≡ has_leg x c (legs ws cs)
   leg-here g t u =
-      let p = right (At (low + (high - low) / 2)) (halving-here h g (get_or ws (low + (high - low) / 2) 0) refl t u) in
+      let p = right (Some (low + (high - low) / 2)) (halving-here h g (get_or ws (low + (high - low) / 2) 0) refl t u) in
       sym (leg-is x c ws cs (low + (high - low) / 2) r l p.0 p.1)
 
   pub leg-missing : high ≤ low → false ≡ has_leg x c (legs ws cs)
-  leg-missing g = sym (leg-none x c ws cs (right Missing (halving-end h g)))
+  leg-missing g = sym (leg-none x c ws cs (right None (halving-end h g)))
 
 -- ---- the weights are light
 pub light-more : (l : List ℕ) (i : ℕ) → get_or l i 0 ≤ most_weight → leb (get_or l i 0) most_weight ≡ true
@@ -497,9 +496,9 @@ beside-of g s a b =
     }
 
 -- ---- the weights of a sound graph: a clause that fails, and all of them
-module _ (size : Size) (ids : List ℤ) (oo ot io is ow iw : List ℕ) where
+module _ (size : Size) (ids : List ℤ) (oo ot io is ow iw : List ℕ) (weighted : Bool) where
   abbrev lit : Weighted
-  lit = weighing (lent size ids oo ot io is) true ow iw
+  lit = weighing (lent size ids oo ot io is) weighted ow iw
 
   pub weights-beside : sound_graph (lent size ids oo ot io is) ≡ true → size.arcs ≤ length ow → size.arcs ≤ length iw
       → Beside size.vertices size.arcs oo ot io is ow iw
@@ -558,7 +557,7 @@ module _ (g : Graph) (weighted : Bool) (ow iw d e : List ℕ) (s : Bool) (told :
     checked-plain k = rw (checked-graph h, failed t (counts_weighted weighted g.arcs) f k, check-area told)
 
     -- r is what the check of the weights answered, x what it left in the area, y what stands there once that is cleared
-    pub checked-weights : t ≡ true → (r : Bool) (x y : List ℕ) → r ≡ sound_weights (weighing g true ow iw) → length x ≡ length e
+    pub checked-weights : t ≡ true → (r : Bool) (x y : List ℕ) → r ≡ sound_weights (weighing g weighted ow iw) → length x ≡ length e
         → y ≡ cleared x → arcs_checked r y ≡ arcs_checked (sound_weighted (weighing g weighted ow iw)) (cleared d)
     unfolding sound_weighted sound_weights
     checked-weights k r x y q l c =

@@ -5,6 +5,7 @@ use Rattle.basis.specs.Limits.{most_vertices, most_arcs}
 use Rattle.basis.specs.Order.{rising, rising_z}
 use Rattle.basis.specs.Scan.{every, each, mem}
 use Rattle.graph.specs.declared.Size.{Size}
+use Rattle.graph.specs.declared.Lent.{Lent}
 use Rattle.graph.specs.Part.{part_of}
 
 -- "Outward offsets and targets, and inward offsets and sources, are lent areas of whole numbers"
@@ -21,6 +22,10 @@ pub record Graph : Type 0 where
 abbrev pub lent : Size → List ℤ → List ℕ → List ℕ → List ℕ → List ℕ → Graph
 lent size ids oo ot io is =
     record { vertices = size.vertices; arcs = size.arcs; ids = ids; out_offsets = oo; out_targets = ot; in_offsets = io; in_sources = is }
+
+-- the same of a lent graph's own size and areas
+abbrev pub standing : Lent → Graph
+standing g = lent g.size g.ids.now g.outward.offsets.now g.outward.targets.now g.inward.offsets.now g.inward.targets.now
 
 -- the vertices that v's arcs lead to: its part of the targets
 abbrev pub outward : Graph → ℕ → List ℕ

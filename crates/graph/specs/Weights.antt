@@ -4,7 +4,8 @@ use Rattle.std.specs.Prelude.{ℕ, ◌≤◌, ◌<◌, ◌≡◌, ◌↔◌, Boo
 use Rattle.basis.specs.Limits.{most_weight}
 use Rattle.basis.specs.Scan.{every, each}
 use Rattle.graph.specs.Part.{part_of}
-use Rattle.graph.specs.Sound.{Graph, sound_side, both_ways, sound_graph, Sound}
+use Rattle.graph.specs.declared.Weighed.{Weighed}
+use Rattle.graph.specs.Sound.{Graph, standing, sound_side, both_ways, sound_graph, Sound}
 
 -- a lent graph, whether it is marked as weighted, and "The weight areas, one each way"
 pub record Weighted : Type 0 where
@@ -16,6 +17,10 @@ pub record Weighted : Type 0 where
 -- the same, by its fields in order
 abbrev pub weighing : Graph → Bool → List ℕ → List ℕ → Weighted
 weighing g weighted ow iw = record { graph = g; weighted = weighted; out_weights = ow; in_weights = iw }
+
+-- the same of a lent graph's own areas
+abbrev pub weighing_of : Weighed → Weighted
+weighing_of g = weighing (standing g.graph) g.weighted g.out_weights.now g.in_weights.now
 
 -- "a sound graph without arcs [is] unweighted", however it is marked
 abbrev pub counts_weighted : Bool → ℕ → Bool
@@ -97,3 +102,9 @@ pub record Beside (n m : ℕ) (oo ot io is ow iw : List ℕ) : Type 0 where
   pub both : both_ways n (part_of n oo ot) (part_of n io is) ≡ true
   pub out_room : m ≤ length ow
   pub in_room : m ≤ length iw
+
+-- the same of a lent graph with its weights
+abbrev pub HasBeside : Weighted → Type 0
+HasBeside g =
+    Beside g.graph.vertices g.graph.arcs g.graph.out_offsets g.graph.out_targets g.graph.in_offsets g.graph.in_sources g.out_weights
+    g.in_weights

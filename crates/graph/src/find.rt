@@ -1,15 +1,8 @@
 // Where an identifier stands.
 ghost use Rattle.graph.specs.Find.{Searched};
 
-// The place of an identifier in a list, or that it isn't there.
-#[derive(Clone, Copy)]
-pub enum Found {
-    At(usize),
-    Missing,
-}
-
 // The place of an identifier in a list that rises; in any other list, where a bisection ends.
-pub fn find(ids: &[i64], id: i64) -> Found
+pub fn find(ids: &[i64], id: i64) -> Option<usize>
     ensures { Searched ids.now id result }
 {
     let mut low = 0;
@@ -23,9 +16,9 @@ pub fn find(ids: &[i64], id: i64) -> Found
             if id < there {
                 high = middle;
             } else {
-                return Found::At(middle);
+                return Some(middle);
             }
         }
     }
-    Found::Missing
+    None
 }

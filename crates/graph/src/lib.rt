@@ -1,5 +1,5 @@
-// Layer graph. A lent graph: its size by value, and five areas, and two more for weights. Vertices are numbers from 0; a vertex's part of
-// the targets holds its neighbours.
+// Layer graph. A lent graph: its size by value, its identifiers, and its arcs each way, with weights beside them where it has them. Vertices
+// are numbers from 0; a vertex's part of a way's targets holds its neighbours.
 #![tactic(auto)]
 
 pub mod find;
@@ -13,4 +13,29 @@ pub mod weights;
 pub struct Size {
     pub vertices: usize,
     pub arcs: usize,
+}
+
+// One way of the arcs: where each vertex's part of the targets begins and ends, and the vertices at the arcs' other ends.
+#[derive(Clone, Copy)]
+pub struct Way<'a> {
+    pub offsets: &'a [usize],
+    pub targets: &'a [usize],
+}
+
+// A lent graph: the identifiers of its vertices, its arcs as they lead outward, and the same arcs reversed.
+#[derive(Clone, Copy)]
+pub struct Lent<'a> {
+    pub size: Size,
+    pub ids: &'a [i64],
+    pub outward: Way<'a>,
+    pub inward: Way<'a>,
+}
+
+// A lent graph, whether it is marked as weighted, and the weights beside its arcs each way.
+#[derive(Clone, Copy)]
+pub struct Weighed<'a> {
+    pub graph: Lent<'a>,
+    pub weighted: bool,
+    pub out_weights: &'a [usize],
+    pub in_weights: &'a [usize],
 }

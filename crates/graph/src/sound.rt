@@ -1,11 +1,11 @@
 // Is a lent graph sound? Refusal 9 is given exactly where it isn't.
 ghost use Rattle.std.specs.Prelude.{◌≡◌, true, ◌<◌, length};
 ghost use Rattle.graph.specs.Part.{part_of};
-ghost use Rattle.graph.specs.Sound.{lent, first_ids_rise, never_fall, sound_offsets, sound_part, sound_parts};
+ghost use Rattle.graph.specs.Sound.{standing, first_ids_rise, never_fall, sound_offsets, sound_part, sound_parts};
 ghost use Rattle.graph.specs.Sound.{sound_side, mirrored, sound_sides, sound_graph};
 ghost use Rattle.graph.specs.Steps.{bisect_finds, answered};
 
-use crate::Size;
+use crate::Lent;
 use crate::part::part;
 use basis::limits::{MOST_ARCS, MOST_VERTICES};
 
@@ -181,54 +181,48 @@ fn side_answered(
 }
 
 // All of it but how the two ways belong together: the limits, the identifiers, and each way for itself.
-pub(crate) fn sides_sound(
-    size: Size,
-    ids: &[i64],
-    out_offsets: &[usize],
-    out_targets: &[usize],
-    in_offsets: &[usize],
-    in_sources: &[usize],
-) -> bool
-    ensures { result ≡ sound_sides
-        (lent size ids.now out_offsets.now out_targets.now
-        in_offsets.now in_sources.now) }
+pub(crate) fn sides_sound(g: Lent) -> bool
+    ensures { result ≡ sound_sides (standing g.entry) }
 {
-    let n = size.vertices;
-    let m = size.arcs;
+    let n = g.size.vertices;
+    let m = g.size.arcs;
     if MOST_VERTICES < n {
         return false;
     }
     if MOST_ARCS < m {
         return false;
     }
-    if !ids_rise(ids, n) {
+    if !ids_rise(g.ids, n) {
         return false;
     }
-    if !side_sound(out_targets, out_offsets, n, m) {
+    if !side_sound(g.outward.targets, g.outward.offsets, n, m) {
         return false;
     }
-    side_sound(in_sources, in_offsets, n, m)
+    side_sound(g.inward.targets, g.inward.offsets, n, m)
 }
 
 // A lent graph is sound.
-pub fn sound(
-    size: Size,
-    ids: &[i64],
-    out_offsets: &[usize],
-    out_targets: &[usize],
-    in_offsets: &[usize],
-    in_sources: &[usize],
-) -> bool
-    ensures { result ≡ sound_graph
-        (lent size ids.now out_offsets.now out_targets.now
-        in_offsets.now in_sources.now) }
+pub fn sound(g: Lent) -> bool
+    ensures { result ≡ sound_graph (standing g.entry) }
 {
-    let n = size.vertices;
-    if !sides_sound(size, ids, out_offsets, out_targets, in_offsets, in_sources) {
+    let n = g.size.vertices;
+    if !sides_sound(g) {
         return false;
     }
-    if !side_answered(out_targets, out_offsets, in_sources, in_offsets, n) {
+    if !side_answered(
+        g.outward.targets,
+        g.outward.offsets,
+        g.inward.targets,
+        g.inward.offsets,
+        n,
+    ) {
         return false;
     }
-    side_answered(in_sources, in_offsets, out_targets, out_offsets, n)
+    side_answered(
+        g.inward.targets,
+        g.inward.offsets,
+        g.outward.targets,
+        g.outward.offsets,
+        n,
+    )
 }

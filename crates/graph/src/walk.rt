@@ -3,10 +3,10 @@ ghost use Rattle.std.specs.Prelude.{◌≡◌, true, ◌≤◌, ◌<◌, length}
 ghost use Rattle.basis.specs.Area.{cleared};
 ghost use Rattle.basis.specs.Scan.{all_below};
 ghost use Rattle.graph.specs.Part.{part_of};
-ghost use Rattle.graph.specs.Sound.{lent, sound_parts, both_ways, sound_graph};
+ghost use Rattle.graph.specs.Sound.{standing, sound_parts, both_ways, sound_graph};
 ghost use Rattle.graph.specs.Walk.{Ways, arcs_walked, all_walked, at_ends, arcs_checked};
 
-use crate::Size;
+use crate::Lent;
 use crate::part::part;
 use crate::sound::{sides_sound, sound};
 use basis::area::{clear, copy};
@@ -97,32 +97,27 @@ fn reversed(
 
 // A lent graph is sound: what `sound` answers, in linear time where the working area has a place for each vertex. The area is zero
 // afterwards.
-pub fn sound_over(
-    size: Size,
-    ids: &[i64],
-    out_offsets: &[usize],
-    out_targets: &[usize],
-    in_offsets: &[usize],
-    in_sources: &[usize],
-    cursors: &mut [usize],
-) -> bool
+pub fn sound_over(g: Lent, cursors: &mut [usize]) -> bool
     ensures { arcs_checked result cursors.new
-        ≡ arcs_checked
-        (sound_graph
-        (lent size ids.now out_offsets.now out_targets.now
-        in_offsets.now in_sources.now))
-        (cleared cursors.old) }
+        ≡ arcs_checked (sound_graph (standing g.entry)) (cleared cursors.old) }
 {
-    let n = size.vertices;
+    let n = g.size.vertices;
     if cursors.len() < n {
         clear(cursors);
-        return sound(size, ids, out_offsets, out_targets, in_offsets, in_sources);
+        return sound(g);
     }
-    if !sides_sound(size, ids, out_offsets, out_targets, in_offsets, in_sources) {
+    if !sides_sound(g) {
         clear(cursors);
         return false;
     }
-    let answer = reversed(out_targets, out_offsets, in_sources, in_offsets, n, cursors);
+    let answer = reversed(
+        g.outward.targets,
+        g.outward.offsets,
+        g.inward.targets,
+        g.inward.offsets,
+        n,
+        cursors,
+    );
     clear(cursors);
     answer
 }

@@ -2,14 +2,14 @@
 ghost use Rattle.std.specs.Prelude.{◌≡◌, true, ◌≤◌, length};
 ghost use Rattle.basis.specs.Area.{cleared};
 ghost use Rattle.basis.specs.Order.{rising};
-ghost use Rattle.graph.specs.Sound.{lent, sound_graph};
+ghost use Rattle.graph.specs.Sound.{standing, sound_graph};
 ghost use Rattle.graph.specs.Walk.{arcs_checked};
-ghost use Rattle.graph.specs.Weights.{weighing, counts_weighted, legs, legs_of, has_leg, legs_answered, legs_mirrored, all_light};
-ghost use Rattle.graph.specs.Weights.{sound_weights, sound_weighted, Beside};
+ghost use Rattle.graph.specs.Weights.{weighing_of, counts_weighted, legs, out_legs, in_legs, has_leg, legs_answered, legs_mirrored, all_light};
+ghost use Rattle.graph.specs.Weights.{sound_weights, sound_weighted, HasBeside};
 
-use crate::Size;
 use crate::part::part;
 use crate::walk::sound_over;
+use crate::{Size, Weighed};
 use basis::area::{clear, copy};
 use basis::limits::MOST_WEIGHT;
 
@@ -59,30 +59,20 @@ fn has_leg(members: &[usize], weights: &[usize], x: usize, c: usize) -> bool
 }
 
 // The arcs of u stand at their other ends with the same weight.
-fn legs_answered(
-    size: Size,
-    out_offsets: &[usize],
-    out_targets: &[usize],
-    in_offsets: &[usize],
-    in_sources: &[usize],
-    out_weights: &[usize],
-    in_weights: &[usize],
-    u: usize,
-) -> bool
-    requires { Beside size.vertices size.arcs out_offsets.now out_targets.now in_offsets.now in_sources.now
-        out_weights.now in_weights.now }
-    ensures { result ≡ legs_answered
-        (legs_of size.vertices in_offsets.now in_sources.now in_weights.now) u
-        (legs_of size.vertices out_offsets.now out_targets.now out_weights.now u) }
+fn legs_answered(g: Weighed, u: usize) -> bool
+    requires { HasBeside (weighing_of g) }
+    ensures { result ≡ legs_answered (in_legs (weighing_of g.entry)) u (out_legs (weighing_of g.entry) u) }
 {
-    let n = size.vertices;
-    let members = part(out_targets, out_offsets, n, u);
-    let weights = part(out_weights, out_offsets, n, u);
+    let n = g.graph.size.vertices;
+    let out = g.graph.outward;
+    let into = g.graph.inward;
+    let members = part(out.targets, out.offsets, n, u);
+    let weights = part(g.out_weights, out.offsets, n, u);
     let mut i = 0;
     while i < members.len() {
         let w = members[i];
-        let back = part(in_sources, in_offsets, n, w);
-        if !has_leg(back, part(in_weights, in_offsets, n, w), u, weights[i]) {
+        let back = part(into.targets, into.offsets, n, w);
+        if !has_leg(back, part(g.in_weights, into.offsets, n, w), u, weights[i]) {
             return false;
         }
         i += 1;
@@ -91,33 +81,13 @@ fn legs_answered(
 }
 
 // So do the arcs of every vertex: by bisection, with no working area.
-fn legs_searched(
-    size: Size,
-    out_offsets: &[usize],
-    out_targets: &[usize],
-    in_offsets: &[usize],
-    in_sources: &[usize],
-    out_weights: &[usize],
-    in_weights: &[usize],
-) -> bool
-    requires { Beside size.vertices size.arcs out_offsets.now out_targets.now in_offsets.now in_sources.now
-        out_weights.now in_weights.now }
-    ensures { result ≡ legs_mirrored size.vertices
-        (legs_of size.vertices out_offsets.now out_targets.now out_weights.now)
-        (legs_of size.vertices in_offsets.now in_sources.now in_weights.now) }
+fn legs_searched(g: Weighed) -> bool
+    requires { HasBeside (weighing_of g) }
+    ensures { result ≡ legs_mirrored g.entry.graph.size.vertices (out_legs (weighing_of g.entry)) (in_legs (weighing_of g.entry)) }
 {
     let mut u = 0;
-    while u < size.vertices {
-        if !legs_answered(
-            size,
-            out_offsets,
-            out_targets,
-            in_offsets,
-            in_sources,
-            out_weights,
-            in_weights,
-            u,
-        ) {
+    while u < g.graph.size.vertices {
+        if !legs_answered(g, u) {
             return false;
         }
         u += 1;
@@ -127,26 +97,17 @@ fn legs_searched(
 
 // The same in one walk over the outward arcs. Every cursor begins at the start of its vertex's part; the inward arc that reverses the next
 // one stands at its target's cursor, which moves on.
-fn legs_walked(
-    size: Size,
-    out_offsets: &[usize],
-    out_targets: &[usize],
-    in_offsets: &[usize],
-    in_sources: &[usize],
-    out_weights: &[usize],
-    in_weights: &[usize],
-    cursors: &mut [usize],
-) -> bool
-    requires beside { Beside size.vertices size.arcs out_offsets.now out_targets.now in_offsets.now in_sources.now
-        out_weights.now in_weights.now }
-    requires vertices_in_bounds { size.vertices ≤ length cursors.old }
-    ensures { result ≡ legs_mirrored size.vertices
-        (legs_of size.vertices out_offsets.now out_targets.now out_weights.now)
-        (legs_of size.vertices in_offsets.now in_sources.now in_weights.now) }
+fn legs_walked(g: Weighed, cursors: &mut [usize]) -> bool
+    requires beside { HasBeside (weighing_of g) }
+    requires vertices_in_bounds { g.graph.size.vertices ≤ length cursors.old }
+    ensures { result ≡ legs_mirrored g.entry.graph.size.vertices (out_legs (weighing_of g.entry)) (in_legs (weighing_of g.entry)) }
 {
-    copy(in_offsets, size.vertices, cursors);
+    let out_targets = g.graph.outward.targets;
+    let out_weights = g.out_weights;
+    let in_weights = g.in_weights;
+    copy(g.graph.inward.offsets, g.graph.size.vertices, cursors);
     let mut i = 0;
-    while i < size.arcs {
+    while i < g.graph.size.arcs {
         let w = out_targets[i];
         let cursor = cursors[w];
         if in_weights[cursor] != out_weights[i] {
@@ -159,107 +120,41 @@ fn legs_walked(
 }
 
 // The weights of a sound graph are sound, in linear time where the working area has a place for each vertex.
-fn weights_sound(
-    size: Size,
-    ids: &[i64],
-    out_offsets: &[usize],
-    out_targets: &[usize],
-    in_offsets: &[usize],
-    in_sources: &[usize],
-    out_weights: &[usize],
-    in_weights: &[usize],
-    cursors: &mut [usize],
-) -> bool
-    requires { sound_graph (lent size ids.now out_offsets.now out_targets.now in_offsets.now in_sources.now) ≡ true }
-    ensures { result ≡ sound_weights
-        (weighing
-        (lent size ids.now out_offsets.now out_targets.now
-        in_offsets.now in_sources.now)
-        true out_weights.now in_weights.now) }
+fn weights_sound(g: Weighed, cursors: &mut [usize]) -> bool
+    requires { sound_graph (standing g.graph) ≡ true }
+    ensures { result ≡ sound_weights (weighing_of g.entry) }
 {
-    let m = size.arcs;
-    if out_weights.len() < m {
+    let m = g.graph.size.arcs;
+    if g.out_weights.len() < m {
         return false;
     }
-    if in_weights.len() < m {
+    if g.in_weights.len() < m {
         return false;
     }
-    if !all_light(out_weights, m) {
+    if !all_light(g.out_weights, m) {
         return false;
     }
-    if !all_light(in_weights, m) {
+    if !all_light(g.in_weights, m) {
         return false;
     }
-    if cursors.len() < size.vertices {
-        return legs_searched(
-            size,
-            out_offsets,
-            out_targets,
-            in_offsets,
-            in_sources,
-            out_weights,
-            in_weights,
-        );
+    if cursors.len() < g.graph.size.vertices {
+        return legs_searched(g);
     }
-    legs_walked(
-        size,
-        out_offsets,
-        out_targets,
-        in_offsets,
-        in_sources,
-        out_weights,
-        in_weights,
-        cursors,
-    )
+    legs_walked(g, cursors)
 }
 
 // A lent graph is sound with its weights, which are looked at only where it is weighted. The working area is zero afterwards.
-pub fn weighted_sound_over(
-    size: Size,
-    weighted: bool,
-    ids: &[i64],
-    out_offsets: &[usize],
-    out_targets: &[usize],
-    in_offsets: &[usize],
-    in_sources: &[usize],
-    out_weights: &[usize],
-    in_weights: &[usize],
-    cursors: &mut [usize],
-) -> bool
+pub fn weighted_sound_over(g: Weighed, cursors: &mut [usize]) -> bool
     ensures { arcs_checked result cursors.new
-        ≡ arcs_checked
-        (sound_weighted
-        (weighing
-        (lent size ids.now out_offsets.now out_targets.now
-        in_offsets.now in_sources.now)
-        weighted out_weights.now in_weights.now))
-        (cleared cursors.old) }
+        ≡ arcs_checked (sound_weighted (weighing_of g.entry)) (cleared cursors.old) }
 {
-    if !sound_over(
-        size,
-        ids,
-        out_offsets,
-        out_targets,
-        in_offsets,
-        in_sources,
-        cursors,
-    ) {
+    if !sound_over(g.graph, cursors) {
         return false;
     }
-    if !is_weighted(size, weighted) {
+    if !is_weighted(g.graph.size, g.weighted) {
         return true;
     }
-    let answer = weights_sound(
-        size,
-        ids,
-        out_offsets,
-        out_targets,
-        in_offsets,
-        in_sources,
-        out_weights,
-        in_weights,
-        cursors,
-    );
+    let answer = weights_sound(g, cursors);
     clear(cursors);
     answer
 }

@@ -14,7 +14,9 @@ pub has_leg-requires : goal.has_leg-requires
 has_leg-requires c = (search found-rises, search found-beside)
 
 pub returns-then-not-has_leg : goal.returns-then-not-has_leg
-returns-then-not-has_leg c = search found-stop
+returns-then-not-has_leg c =
+    found-stop c.requires _ _ _ c.part-members.ensures c.part-weights.ensures _ _ _ c.part-back.ensures c.part.ensures _ c.has_leg.ensures
+    c.loop-i-test.true c.if-not-has_leg.true
 
 pub loop-i-preserved : goal.loop-i-preserved
 loop-i-preserved c = (
@@ -27,4 +29,5 @@ loop-i-preserved c = (
 )
 
 pub returns : goal.returns
-returns c = search found-end
+returns c = found-end c.requires _ _ _ c.part-members.ensures c.part-weights.ensures c.loop-i.i c.loop-i-test.false c.loop-i.invariant.0
+    c.loop-i.invariant.1

@@ -13,7 +13,7 @@ pub loop-u-preserved : goal.loop-u-preserved
 loop-u-preserved c = (
   omega arith,
   search-more
-      c.args.size.vertices _ _ _ _
+      c.args.g.graph.size.vertices _ _ _ _
       c.legs_answered.ensures c.if-not-legs_answered.false c.loop-u.invariant.1,
 )
 

@@ -39,7 +39,8 @@ pub bounds-out_weights-i : goal.bounds-out_weights-i
 bounds-out_weights-i c = omega (arith, (legs-room _ _ c.loop-i.invariant.2).1)
 
 pub returns-then-in_weights-cursor : goal.returns-then-in_weights-cursor
-returns-then-in_weights-cursor c = search legs-stop
+returns-then-in_weights-cursor c =
+    legs-stop c.loop-i.i c.loop-i.cursors c.loop-i.invariant.2 c.loop-i-test.true (search rules)
 
 pub overflow_add-cursors : goal.overflow_add-cursors
 overflow_add-cursors c = omega (
@@ -68,4 +69,4 @@ pub loop-i-preserved : goal.loop-i-preserved
 loop-i-preserved c = (search rules, omega arith, search legs-more)
 
 pub returns : goal.returns
-returns c = search legs-end
+returns c = legs-end c.loop-i.i c.loop-i.cursors c.loop-i.invariant.2 c.loop-i-test.false

@@ -6,8 +6,9 @@ use Rattle.graph.proofs.weights.legs_walked.Given as goal
 
 abbrev pub invariant-loop-i : goal.invariant-loop-i
 invariant-loop-i l =
-    (length l.cursors ≡ length l.initial.cursors) × (l.i ≤ l.size.arcs)
-    × Walking l.size.vertices l.size.arcs l.out_offsets l.out_targets l.in_offsets l.in_sources l.out_weights l.in_weights l.i l.cursors
+    (length l.cursors ≡ length l.initial.cursors) × (l.i ≤ l.g.graph.size.arcs)
+    × Walking l.g.graph.size.vertices l.g.graph.size.arcs l.g.graph.outward.offsets.now l.g.graph.outward.targets.now
+    l.g.graph.inward.offsets.now l.g.graph.inward.targets.now l.g.out_weights.now l.g.in_weights.now l.i l.cursors
 
 abbrev pub decreases-loop-i : goal.decreases-loop-i
-decreases-loop-i l = l.size.arcs - l.i
+decreases-loop-i l = l.g.graph.size.arcs - l.i
