@@ -14,8 +14,8 @@ use Rattle.basis.specs.Scan.{all_below}
 use Rattle.basis.proofs.Tests.{bool_cases}
 use Rattle.basis.proofs.Scans.{below_at}
 use Rattle.basis.proofs.Orders.{signed-order}
-use Rattle.bfs.specs.Depth.{infinity, unreachable}
-use Rattle.bfs.specs.Steps.{Board, is_far, entered, relaxed, relaxed_all, seen, Queued}
+use Rattle.basis.specs.Area.{infinity, unreachable}
+use Rattle.bfs.specs.Steps.{Board, board, is_far, entered, relaxed, relaxed_all, seen, Queued}
 
 -- ---- how many vertices are seen
 more-le : (t : Bool) (k : ℕ) → cond t k (suc k) ≤ suc k
@@ -59,6 +59,9 @@ far-mark z e = ap is_far e
 pub mark-far : (z : ℤ) → is_far z ≡ true → z ≡ unreachable
 mark-far z e = signed-order.same-eq z unreachable e
 
+no_far-mark : (z : ℤ) → (z ≡ unreachable → ⊥) → is_far z ≡ false
+no_far-mark z h = bool_cases (is_far z) (is_far z ≡ false) (λ e. absurd (h (mark-far z e))) (λ e. e)
+
 -- ---- the two cases of a step
 pub relaxed-new : (d w : ℕ) (S : Board) → is_far (get_or S.depth w (pos 0)) ≡ true → relaxed d w S ≡ entered d w S
 unfolding relaxed
@@ -72,6 +75,18 @@ relaxed-old d w S e = rw e
 pub room-more : (S : Board) (w : ℕ) → Queued S → w < length S.depth → is_far (get_or S.depth w (pos 0)) ≡ true
     → S.tail < length S.queue
 room-more S w r l e = omega (arith, seen-lt S.depth w l e, r.filled, r.room)
+
+-- ---- the same of areas, by the code's test of the depth
+module _ (D : List ℤ) (Q : List ℕ) (t w d : ℕ) where
+  -- the queue has a place for a vertex that has no depth
+  pub free_place : Queued (board D Q t) → w < length D → get_or D w (pos 0) ≡ unreachable → t < length Q
+  free_place q l e = room-more (board D Q t) w q l (far-mark (get_or D w (pos 0)) e)
+
+  pub step-new : get_or D w (pos 0) ≡ unreachable → board (set D w (pos d)) (set Q t w) (t + 1) ≡ relaxed d w (board D Q t)
+  step-new e = sym (relaxed-new d w (board D Q t) (far-mark (get_or D w (pos 0)) e))
+
+  pub step-old : (get_or D w (pos 0) ≡ unreachable → ⊥) → board D Q t ≡ relaxed d w (board D Q t)
+  step-old h = sym (relaxed-old d w (board D Q t) (no_far-mark (get_or D w (pos 0)) h))
 
 -- what a step keeps: the queue is filled as far as vertices are seen, and the areas keep their lengths
 record Kept (S R : Board) : Type 0 where

@@ -13,7 +13,7 @@ use lib.ListN.{length, replicate, length-replicate}
 use lib.Dec.{leb}
 use borrow.Author.Tests.{le-leb, lt-leb}
 use Rattle.basis.specs.Refusal.{no_room}
-use Rattle.basis.specs.Area.{column}
+use Rattle.basis.specs.Area.{infinity, unreachable, column}
 use Rattle.basis.specs.Scan.{mem}
 use Rattle.basis.proofs.Tests.{and-off}
 use Rattle.basis.proofs.Areas.{column-length, column-at}
@@ -26,7 +26,7 @@ use Rattle.graph.proofs.Sounds.{sound-of, names-length, outward-below}
 use Rattle.kernels.specs.Answer.{kernel_says}
 use Rattle.kernels.proofs.Results.{pad-value, pad-behind}
 use Rattle.bfs.specs.declared.Ring.{Ring}
-use Rattle.bfs.specs.Depth.{infinity, unreachable, ring, depth_of}
+use Rattle.bfs.specs.Depth.{ring, depth_of}
 use Rattle.bfs.specs.Call.{refusal, room_for, left_by, bfs_call}
 use Rattle.bfs.specs.Meaning.{Walk, stay, go, Shortest, IsDepth, HasName, Done, Called}
 use Rattle.bfs.specs.Steps.{Board}

@@ -20,7 +20,8 @@ use Rattle.basis.proofs.Tests.{clash, bool_cases}
 use Rattle.basis.proofs.Scans.{mem-none-of, mem-head, mem-tail, mem-cases, below-mem}
 use Rattle.basis.proofs.Areas.{column-is}
 use Rattle.bfs.specs.declared.Ring.{Ring}
-use Rattle.bfs.specs.Depth.{infinity, unreachable, depth_of, depths}
+use Rattle.basis.specs.Area.{infinity, unreachable}
+use Rattle.bfs.specs.Depth.{depth_of, depths}
 use Rattle.bfs.specs.Steps.{Board, board, is_far, entered, relaxed, relaxed_all, Queued, advanced}
 use Rattle.bfs.proofs.Boards.{seen-le, seen_none, far-mark, mark-far, relaxed-new, relaxed-old, room-more, queued-relaxed}
 use Rattle.bfs.proofs.Rings.{Reached, ring-root, ring-first, ring-next, ring-from, ring-below, FirstRing, depth-found, depth-none}

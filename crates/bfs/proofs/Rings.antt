@@ -13,7 +13,8 @@ use Rattle.basis.specs.Scan.{Inside, mem, first_from}
 use Rattle.basis.proofs.Firsts.{first-is, first-none}
 use Rattle.basis.proofs.Tests.{or-first, or-second, or_cases, false_of}
 use Rattle.basis.proofs.Scans.{mem-none-of, mem-head, mem-tail, mem-cases, mem-append, below-mem}
-use Rattle.bfs.specs.Depth.{unreachable, ends, ring, ring_depth, depth_of}
+use Rattle.basis.specs.Area.{unreachable}
+use Rattle.bfs.specs.Depth.{ends, ring, ring_depth, depth_of}
 
 -- ---- the depth that a ring stands for
 pub depth-cases : (P : ℤ → Type 0) (n k : ℕ) → (k < n → P (pos k)) → P unreachable → P (ring_depth n k)

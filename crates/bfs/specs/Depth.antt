@@ -1,15 +1,7 @@
 -- 01 "Kernels" and 000, 2.3.1: depths of breadth-first search, over the arcs that leave each vertex.
 use Rattle.std.specs.Prelude.{ℕ, zero, suc, cond, List, [], ◌∷◌, ◌++◌, ℤ, pos, ltb}
-use Rattle.basis.specs.Area.{column}
+use Rattle.basis.specs.Area.{unreachable, column}
 use Rattle.basis.specs.Scan.{mem, first_from}
-
--- "Unreachable is 9223372036854775807"
-abbrev pub infinity : ℕ
-infinity = 9223372036854775807
-
--- the same as a signed number, the form of a depth in the result area
-abbrev pub unreachable : ℤ
-unreachable = pos infinity
 
 module _ (out : ℕ → List ℕ) where
   -- where the arcs from a list of vertices lead

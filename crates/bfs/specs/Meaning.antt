@@ -1,11 +1,10 @@
 -- What a depth is, and what a call of the kernel means, apart from how it is computed: 01 "Kernels" and document 000, 2.3.1.
 use Rattle.std.specs.Prelude.{ℕ, zero, suc, ◌≤◌, ◌<◌, ◌≡◌, ◌⊎◌, ◌↔◌, true, false, List, ℤ, pos, length, get_or}
 use Rattle.basis.specs.Refusal.{gives, unsound, not_there, no_room}
-use Rattle.basis.specs.Area.{cleared}
+use Rattle.basis.specs.Area.{infinity, unreachable, cleared}
 use Rattle.basis.specs.Scan.{mem}
 use Rattle.graph.specs.Sound.{Graph, outward, names, sound_graph}
 use Rattle.kernels.specs.Result.{ZeroBehind}
-use Rattle.bfs.specs.Depth.{infinity, unreachable}
 use Rattle.bfs.specs.Call.{Outcome, refusal}
 
 -- "hops along outgoing arcs from the root": a walk of k arcs that ends at a vertex

@@ -3,7 +3,7 @@ use Rattle.std.specs.Prelude.{ℕ, zero, suc, ◌+◌, ◌<◌, ◌≡◌, Bool,
 use Rattle.basis.specs.Order.{same_z}
 use Rattle.graph.specs.Sound.{Graph, sound_graph}
 use Rattle.bfs.specs.declared.Ring.{Ring}
-use Rattle.bfs.specs.Depth.{unreachable}
+use Rattle.basis.specs.Area.{unreachable}
 use Rattle.bfs.specs.Call.{room_for}
 
 -- the areas can be filled: the graph is sound, the root is one of its vertices, and each area has room for them

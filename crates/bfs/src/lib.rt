@@ -1,42 +1,32 @@
 // Layer kernels. BFS: least hops along outgoing arcs from a root, by the queue of document 000, A.1, in which each vertex is served once.
 #![tactic(auto)]
 
-ghost use Rattle.std.specs.Prelude.{◌≡◌, true, ◌≤◌, ◌<◌, pos, length};
+ghost use Rattle.std.specs.Prelude.{◌≡◌, true, ◌<◌, length};
+ghost use Rattle.basis.specs.Area.{infinity};
 ghost use Rattle.basis.specs.Refusal.{gives};
 ghost use Rattle.basis.specs.Scan.{all_below, Inside};
 ghost use Rattle.graph.specs.declared.find.Found.TheVariants.{At};
 ghost use Rattle.graph.specs.Part.{part_of};
 ghost use Rattle.graph.specs.Sound.{lent};
 ghost use Rattle.kernels.specs.Answer.{says};
-ghost use Rattle.bfs.specs.Depth.{infinity, depths};
+ghost use Rattle.bfs.specs.Depth.{depths};
 ghost use Rattle.bfs.specs.Call.{outcome, refusal, room_for, left_by, bfs_call};
 ghost use Rattle.bfs.specs.Steps.{Ready, Queued, board, relaxed, relaxed_all, advanced};
 
-use basis::area::clear;
-use basis::order::{lesser, same};
+use basis::Refusal;
+use basis::area::{UNREACHABLE, clear};
 use basis::refusal::{NO_ROOM, NOT_THERE, UNSOUND};
 use graph::Size;
 use graph::find::{Found, find};
 use graph::walk::sound_over;
-use kernels::{Answer, refused};
+use kernels::refused;
 use view::neighbours;
 
-// `Depth.infinity`, as a result area holds it.
-const UNREACHABLE: i64 = 9223372036854775807;
-
 // The ring that is served: it ends at a place of the queue, and its vertices have one depth. So no depth is read back from the results.
-#[derive(Drop)]
+#[derive(Clone, Copy)]
 struct Ring {
     end: usize,
     level: usize,
-}
-
-// A depth, or infinity, as a result area holds it.
-fn signed(d: usize) -> i64
-    requires { d ≤ infinity }
-    ensures { result ≡ pos d }
-{
-    d as i64
 }
 
 // Vertex w is met at depth d: where it has no depth yet it gets this one, and goes to the end of the queue.
@@ -46,8 +36,8 @@ fn relax(depth: &mut [i64], queue: &mut [usize], tail: usize, w: usize, d: usize
     ensures { board depth.new queue.new result
         ≡ relaxed d w (board depth.old queue.old tail) }
 {
-    if same(depth[w], UNREACHABLE) {
-        depth[w] = signed(d);
+    if depth[w] == UNREACHABLE {
+        depth[w] = d as i64;
         queue[tail] = w;
         tail + 1
     } else {
@@ -63,21 +53,19 @@ fn walk(next: &[usize], depth: &mut [i64], queue: &mut [usize], tail: usize, d: 
         ≡ relaxed_all d next.now (board depth.old queue.old tail) }
 {
     let mut end = tail;
-    let mut i = 0;
-    while i < next.len() {
-        end = relax(depth, queue, end, next[i], d);
-        i += 1;
+    for &w in next {
+        end = relax(depth, queue, end, w, d);
     }
     end
 }
 
 // At the end of a ring, the next one: up to the tail, one level deeper.
+#[tactic(auto, unfolding(crate::specs::Steps::advanced))]
 fn advance(ring: Ring, head: usize, tail: usize) -> Ring
     requires { ring.level < infinity }
     ensures { result ≡ advanced ring head tail }
 {
-    let end = ring.end;
-    if head == end {
+    if head == ring.end {
         Ring {
             end: tail,
             level: ring.level + 1,
@@ -102,9 +90,8 @@ fn search(offsets: &[usize], targets: &[usize], root: usize, depth: &mut [i64], 
     let mut ring = Ring { end: 1, level: 0 };
     while head < tail {
         ring = advance(ring, head, tail);
-        let level = ring.level;
         let next = neighbours(targets, offsets, n, queue[head]);
-        tail = walk(next, depth, queue, tail, level + 1);
+        tail = walk(next, depth, queue, tail, ring.level + 1);
         head += 1;
     }
 }
@@ -113,11 +100,11 @@ fn search(offsets: &[usize], targets: &[usize], root: usize, depth: &mut [i64], 
 fn room(n: usize, depth: &[i64], queue: &[usize]) -> bool
     ensures { result ≡ room_for n depth.now queue.now }
 {
-    n <= lesser(depth.len(), queue.len())
+    n <= depth.len() && n <= queue.len()
 }
 
 // A refusal: all areas are zero.
-fn refuse(number: usize, depth: &mut [i64], queue: &mut [usize]) -> Answer
+fn refuse(number: usize, depth: &mut [i64], queue: &mut [usize]) -> Result<(), Refusal>
     ensures { outcome (says result) depth.new queue.new
         ≡ refusal number depth.old queue.old }
 {
@@ -137,7 +124,7 @@ fn fill(
     root: usize,
     depth: &mut [i64],
     queue: &mut [usize],
-) -> Answer
+) -> Result<(), Refusal>
     requires { Ready
         (lent size ids.now out_offsets.now out_targets.now in_offsets.now in_sources.now)
         root depth.old queue.old }
@@ -157,7 +144,7 @@ fn fill(
     );
     clear(&mut depth[n..]);
     clear(queue);
-    Answer::Done
+    Ok(())
 }
 
 // The depths of a sound graph's vertices from the one that has the identifier root; or a refusal: 9, 10 or 8. `queue` is a working area.
@@ -171,7 +158,7 @@ pub fn bfs(
     root: i64,
     depth: &mut [i64],
     queue: &mut [usize],
-) -> Answer
+) -> Result<(), Refusal>
     ensures { outcome (says result) depth.new queue.new
         ≡ bfs_call
         (lent size ids.now out_offsets.now out_targets.now
