@@ -7,8 +7,8 @@ use native.Mathlib.Omega.{arith}
 use native.Mathlib.Numerals.{add-one}
 use lib.ListN.{length, get_or, set, drop, replicate}
 use lib.Dec.{eqb, ltb}
-use Rattle.basis.specs.Area.{column, copied}
-use Rattle.basis.proofs.Areas.{column-none, column-more, column-end, column-length, copied_all}
+use Rattle.basis.specs.Area.{column}
+use Rattle.basis.proofs.Areas.{column-none, column-more, column-end}
 use Rattle.basis.specs.Scan.{all_below}
 use Rattle.basis.proofs.Scans.{below-append}
 use Rattle.graph.specs.Part.{part_of}
@@ -91,12 +91,10 @@ module _ {io is oo ot L N C : List ℕ} (s : Runnable io is oo ot L N C) where
 -- one round more: the labels are what was copied into them, the next labels
 module _ (io is oo ot L : List ℕ) where
   pub round-on : (L' M X : List ℕ) (k : ℕ) → L' ≡ numbers_after io is oo ot L k → length L' ≡ length L → M ≡ next_numbers io is oo ot L'
-      → X ≡ copied (length M) M L'
-      → X ≡ numbers_after io is oo ot L (k + 1)
+      → X ≡ M → X ≡ numbers_after io is oo ot L (k + 1)
   unfolding rounds one_round
   round-on L' M X k e l m q =
-      let f = next_at eqb ltb 0 (around_in (length L') io is oo ot) (length L') L' in
-      q ∙ copied_all M L' (sym (ap length m ∙ column-length f 0 (length L'))) ∙ m
+      q ∙ m
       ∙ ap₂ (λ n M. one_round eqb ltb 0 (around_in n io is oo ot) n M) l e ∙ rw (add-one k) refl
 
   pub round-none : L ≡ numbers_after io is oo ot L 0

@@ -5,60 +5,49 @@ ghost use Rattle.cdlp.specs.Rounds.{labels_at};
 ghost use Rattle.cdlp.specs.Steps.{best_with, Labelled, Heard, TwoParts, poll, polled_all, forgotten};
 
 // The label that leads, and how often it was heard.
-#[derive(Drop)]
+#[derive(Clone, Copy, Debug, PartialEq, Eq)]
 struct Best {
     label: usize,
     count: usize,
 }
 
 // A label is heard for the count-th time: does it lead now?
+#[tactic(auto, unfolding(crate::specs::Steps::best_with))]
 fn lead(b: Best, label: usize, count: usize) -> Best
     ensures { result ≡ best_with b label count }
 {
-    let top = b.count;
-    if top < count {
-        return Best { label, count };
+    if count > b.count || (count == b.count && label < b.label) {
+        Best { label, count }
+    } else {
+        b
     }
-    if count < top {
-        return b;
-    }
-    let low = b.label;
-    if label < low {
-        return Best { label, count };
-    }
-    b
 }
 
 // The labels of a part are heard, in order.
+#[tactic(auto, using(crate::proofs::Polls::vertex_low, crate::proofs::Polls::label_low))]
 fn hear(part: &[usize], labels: &[usize], counts: &mut [usize], start: Best) -> Best
     requires { Heard part.now labels.now counts.old }
     ensures { poll counts.new result
         ≡ polled_all (labels_at 0 labels.now part.now) (poll counts.old start) }
 {
     let mut best = start;
-    let mut i = 0;
-    while i < part.len() {
-        let u = part[i];
-        let l = labels[u];
+    for u in part {
+        let l = labels[*u];
         let c = counts[l] + 1;
         counts[l] = c;
         best = lead(best, l, c);
-        i += 1;
     }
     best
 }
 
 // The counts of a part's labels go back to zero.
+#[tactic(auto, using(crate::proofs::Polls::vertex_low, crate::proofs::Polls::label_low))]
 fn forget(part: &[usize], labels: &[usize], counts: &mut [usize])
     requires { Labelled part.now labels.now counts.old }
     ensures { counts.new ≡ forgotten (labels_at 0 labels.now part.now) counts.old }
 {
-    let mut i = 0;
-    while i < part.len() {
-        let u = part[i];
-        let l = labels[u];
-        counts[l] = 0;
-        i += 1;
+    for u in part {
+        counts[labels[*u]] = 0;
     }
 }
 

@@ -1,4 +1,4 @@
-// Layer kernels. CDLP: community detection by label propagation (document 000, 2.3.4).
+// Layer kernels. CDLP: community detection by label propagation.
 #![tactic(auto)]
 
 mod label;
@@ -12,36 +12,31 @@ ghost use Rattle.kernels.specs.Answer.{says};
 ghost use Rattle.cdlp.specs.Call.{outcome, refusal, good_rounds, room_for, left_by, cdlp_call};
 ghost use Rattle.cdlp.specs.Steps.{Ready, worked};
 
-use basis::area::{clear, clear_signed};
-use basis::order::lesser;
+use basis::Refusal;
+use basis::area::clear;
 use basis::refusal::{BAD_ROUNDS, NO_ROOM, UNSOUND};
 use graph::Size;
 use graph::walk::sound_over;
-use kernels::{Answer, refused};
+use kernels::refused;
 use rounds::propagate;
 
 // The limit of rounds, `Call.most_rounds`.
 const MOST_ROUNDS: i64 = 1000;
 
 // Is this a number of rounds within the limit?
+#[tactic(auto, unfolding(crate::specs::Call::good_rounds))]
 fn allowed(iterations: i64) -> bool
     ensures { result ≡ good_rounds iterations }
 {
-    if iterations < 0 {
-        return false;
-    }
-    if MOST_ROUNDS < iterations {
-        return false;
-    }
-    true
+    (0..=MOST_ROUNDS).contains(&iterations)
 }
 
 // Has each area n places?
+#[tactic(auto, unfolding(crate::specs::Call::room_for))]
 fn room(n: usize, res: &[i64], labels: &[usize], next: &[usize], counts: &[usize]) -> bool
     ensures { result ≡ room_for n res.now labels.now next.now counts.now }
 {
-    let first = lesser(res.len(), labels.len());
-    n <= lesser(lesser(first, next.len()), counts.len())
+    n <= res.len() && n <= labels.len() && n <= next.len() && n <= counts.len()
 }
 
 // The three working areas are zero.
@@ -61,11 +56,11 @@ fn refuse(
     labels: &mut [usize],
     next: &mut [usize],
     counts: &mut [usize],
-) -> Answer
+) -> Result<(), Refusal>
     ensures { outcome (says result) res.new labels.new next.new counts.new
         ≡ refusal number res.old labels.old next.old counts.old }
 {
-    clear_signed(res);
+    clear(res);
     clear_work(labels, next, counts);
     refused(number)
 }
@@ -83,7 +78,7 @@ fn fill(
     labels: &mut [usize],
     next: &mut [usize],
     counts: &mut [usize],
-) -> Answer
+) -> Result<(), Refusal>
     requires { Ready
         (lent size ids.now out_offsets.now out_targets.now in_offsets.now in_sources.now)
         res.old labels.old next.old counts.old }
@@ -93,7 +88,7 @@ fn fill(
         in_offsets.now in_sources.now)
         k res.old labels.old next.old counts.old }
 {
-    clear_signed(res);
+    clear(res);
     propagate(
         size,
         ids,
@@ -108,7 +103,7 @@ fn fill(
         &mut counts[..size.vertices],
     );
     clear_work(labels, next, counts);
-    Answer::Done
+    Ok(())
 }
 
 // The labels of a sound graph's vertices after so many rounds; or a refusal: 9, 11 or 8. `labels`, `next` and `counts` are working areas.
@@ -124,7 +119,7 @@ pub fn cdlp(
     labels: &mut [usize],
     next: &mut [usize],
     counts: &mut [usize],
-) -> Answer
+) -> Result<(), Refusal>
     ensures { outcome (says result) res.new labels.new next.new counts.new
         ≡ cdlp_call
         (lent size ids.now out_offsets.now out_targets.now

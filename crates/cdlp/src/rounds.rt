@@ -6,7 +6,7 @@ ghost use Rattle.cdlp.specs.Rounds.{labels_at, cdlp_of};
 ghost use Rattle.cdlp.specs.Steps.{Runnable, next_numbers, numbers_after, Fitting, Nameable};
 
 use crate::label::settle;
-use basis::area::{clear, copy};
+use basis::area::clear;
 use graph::Size;
 use view::neighbours;
 
@@ -14,23 +14,19 @@ use view::neighbours;
 fn number(labels: &mut [usize])
     ensures { labels.new ≡ own_numbers (length labels.old) }
 {
-    let mut v = 0;
-    while v < labels.len() {
-        labels[v] = v;
-        v += 1;
+    for (v, label) in labels.iter_mut().enumerate() {
+        *label = v;
     }
 }
 
 // The identifiers of the labels.
+#[tactic(auto, using(basis::proofs::Scans::below_at))]
 fn name(ids: &[i64], labels: &[usize], res: &mut [i64])
     requires { Nameable ids.now labels.now res.old }
     ensures { res.new ≡ labels_at (pos 0) ids.now labels.now }
 {
-    let mut v = 0;
-    while v < labels.len() {
-        let l = labels[v];
-        res[v] = ids[l];
-        v += 1;
+    for (v, label) in labels.iter().enumerate() {
+        res[v] = ids[*label];
     }
 }
 
@@ -52,13 +48,10 @@ fn round(
         labels.now }
     ensures counts { counts.new ≡ counts.old }
 {
-    let mut v = 0;
-    while v < labels.len() {
-        let own = labels[v];
+    for v in 0..labels.len() {
         let inward = neighbours(in_sources, in_offsets, labels.len(), v);
         let outward = neighbours(out_targets, out_offsets, labels.len(), v);
-        next[v] = settle(inward, outward, labels, counts, own);
-        v += 1;
+        next[v] = settle(inward, outward, labels, counts, labels[v]);
     }
 }
 
@@ -80,8 +73,7 @@ fn turns(
         in_offsets.now in_sources.now out_offsets.now out_targets.now
         labels.old k }
 {
-    let mut done = 0;
-    while done < k {
+    for _ in 0..k {
         round(
             in_offsets,
             in_sources,
@@ -91,8 +83,7 @@ fn turns(
             next,
             counts,
         );
-        copy(next, next.len(), labels);
-        done += 1;
+        labels.copy_from_slice(next);
     }
 }
 

@@ -1,13 +1,7 @@
-use Prim.Native.Nat.{◌-◌, ◌≤◌}
 use mathlib.Core.Path.{◌≡◌}
-use lib.ListN.{length}
 use Rattle.cdlp.proofs.Turns.{Filled}
 use Rattle.cdlp.proofs.rounds.round.Given as goal
 
 abbrev pub invariant-loop-v : goal.invariant-loop-v
 invariant-loop-v l =
-    (l.v ≤ length l.labels) × (length l.next ≡ length l.initial.next) × (l.counts ≡ l.initial.counts)
-    × Filled l.in_offsets l.in_sources l.out_offsets l.out_targets l.labels l.initial.next l.next l.v
-
-abbrev pub decreases-loop-v : goal.decreases-loop-v
-decreases-loop-v l = length l.labels - l.v
+    (l.counts ≡ l.initial.counts) × Filled l.in_offsets l.in_sources l.out_offsets l.out_targets l.labels l.initial.next l.next l.v
