@@ -4,10 +4,7 @@
 
 mod print;
 
-use print::{
-    area, compared, filled, headed, joined, joined_each, number, opened, reading, same, stayed,
-    words,
-};
+use print::{area, compared, headed, joined, joined_each, opened, reading, stayed};
 use std::io;
 
 // The least number, which has no negative.
@@ -15,67 +12,58 @@ const LEAST: i64 = -9223372036854775808;
 
 // A join in a book of four vertices, behind the words that say what it shows; the area comes by value, so that what the call leaves can be
 // compared.
-fn join(rt: &impl Print, shows: &[u8], before: [i64; 4], u: usize, v: usize) -> io::Result<()> {
+fn join(rt: &impl Print, shows: &str, before: [i64; 4], u: usize, v: usize) -> io::Result<()> {
     let mut entries = before;
-    words(rt, shows)?;
-    words(rt, b"join ")?;
-    number(rt, u)?;
-    words(rt, b" ")?;
-    number(rt, v)?;
-    words(rt, b": ")?;
+    print!(rt; "{shows}join {u} {v}: ")?;
     joined(rt, book::joining::join(&mut entries, u, v))?;
-    stayed(rt, same(entries, before))
+    stayed(rt, entries == before)
 }
 
 // Every call that reads, on one vertex.
 fn read(rt: &impl Print, entries: &[i64], v: usize) -> io::Result<()> {
-    words(rt, b"head ")?;
-    number(rt, v)?;
-    words(rt, b": ")?;
+    print!(rt; "head {v}: ")?;
     headed(rt, book::readings::head(entries, v))?;
-    words(rt, b"; with 3: ")?;
+    print!(rt; "; with 3: ")?;
     compared(rt, book::readings::same_group(entries, v, 3))?;
-    words(rt, b"; size: ")?;
+    print!(rt; "; size: ")?;
     reading(rt, book::readings::group_size(entries, v))?;
-    words(rt, b"; limit: ")?;
+    print!(rt; "; limit: ")?;
     reading(rt, book::readings::step_limit(entries, v))?;
-    words(rt, b"; count: ")?;
+    print!(rt; "; count: ")?;
     reading(rt, book::readings::group_count(entries))?;
-    words(rt, b"\n")
+    println!(rt; "")
 }
 
-// P12: four vertices, joins 0-1, 2-3, 1-3.
+// Four vertices, joins 0-1, 2-3, 1-3: the rules' own example P12.
 fn worked(rt: &impl Print) -> io::Result<()> {
     let mut entries = [7i64; 4];
-    words(rt, b"P12: ")?;
+    print!(rt; "P12: ")?;
     opened(rt, book::opening::open_book(&mut entries))?;
-    words(rt, b", ")?;
-    joined(rt, book::joining::join(&mut entries, 0, 1))?;
-    words(rt, b", ")?;
-    joined(rt, book::joining::join(&mut entries, 2, 3))?;
-    words(rt, b", ")?;
-    joined(rt, book::joining::join(&mut entries, 1, 3))?;
-    words(rt, b": entries")?;
-    area(rt, entries)?;
-    words(rt, b"\n")?;
+    for (u, v) in [(0, 1), (2, 3), (1, 3)] {
+        print!(rt; ", ")?;
+        joined(rt, book::joining::join(&mut entries, u, v))?;
+    }
+    print!(rt; ": entries")?;
+    area(rt, &entries)?;
+    println!(rt; "")?;
     read(rt, &entries, 1)
 }
 
 fn sound(rt: &impl Print) -> io::Result<()> {
-    join(rt, b"a vertex and itself: ", [-2, 0, -1, -1], 2, 2)?;
-    join(rt, b"two of one group: ", [-2, 0, -1, -1], 1, 0)?;
-    join(rt, b"vertex 4 of four: ", [-2, 0, -1, -1], 0, 4)?;
-    join(rt, b"the smaller under the larger: ", [-2, 0, -1, -1], 2, 1)
+    join(rt, "a vertex and itself: ", [-2, 0, -1, -1], 2, 2)?;
+    join(rt, "two of one group: ", [-2, 0, -1, -1], 1, 0)?;
+    join(rt, "vertex 4 of four: ", [-2, 0, -1, -1], 0, 4)?;
+    join(rt, "the smaller under the larger: ", [-2, 0, -1, -1], 2, 1)
 }
 
 fn damaged_walks(rt: &impl Print) -> io::Result<()> {
-    join(rt, b"a walk that leaves the area: ", [-1, 9, -1, -1], 1, 0)?;
+    join(rt, "a walk that leaves the area: ", [-1, 9, -1, -1], 1, 0)?;
     read(rt, &[-1, 9, -1, -1], 1)?;
-    join(rt, b"a cycle: ", [1, 0, -1, -1], 2, 0)?;
+    join(rt, "a cycle: ", [1, 0, -1, -1], 2, 0)?;
     read(rt, &[1, 0, -1, -1], 0)?;
     join(
         rt,
-        b"an entry that names its own place: ",
+        "an entry that names its own place: ",
         [0, -1, -1, -1],
         0,
         1,
@@ -84,32 +72,32 @@ fn damaged_walks(rt: &impl Print) -> io::Result<()> {
 }
 
 fn damaged_sizes(rt: &impl Print) -> io::Result<()> {
-    join(rt, b"a sum above the length: ", [-3, -2, -1, -1], 0, 1)?;
-    join(rt, b"below minus the length: ", [-5, -1, -1, -1], 0, 1)?;
-    join(rt, b"below minus the length: ", [-5, -1, -1, -1], 1, 0)?;
+    join(rt, "a sum above the length: ", [-3, -2, -1, -1], 0, 1)?;
+    join(rt, "below minus the length: ", [-5, -1, -1, -1], 0, 1)?;
+    join(rt, "below minus the length: ", [-5, -1, -1, -1], 1, 0)?;
     join(
         rt,
-        b"below minus the length, one group: ",
+        "below minus the length, one group: ",
         [-5, 0, -1, -1],
         0,
         1,
     )?;
     read(rt, &[-5, -1, -1, -1], 0)?;
-    words(rt, b"minus the length: ")?;
+    print!(rt; "minus the length: ")?;
     read(rt, &[-4, -1, -1, -1], 0)?;
-    join(rt, b"the least number: ", [LEAST, -1, -1, -1], 0, 1)?;
+    join(rt, "the least number: ", [LEAST, -1, -1, -1], 0, 1)?;
     join(
         rt,
-        b"the least number twice: ",
+        "the least number twice: ",
         [LEAST, LEAST, -1, -1],
         1,
         0,
     )?;
-    words(rt, b"the least number: ")?;
+    print!(rt; "the least number: ")?;
     read(rt, &[LEAST, -1, -1, -1], 0)?;
     join(
         rt,
-        b"a damaged walk and no such vertex: ",
+        "a damaged walk and no such vertex: ",
         [-1, 9, -1, -1],
         1,
         4,
@@ -121,67 +109,64 @@ fn path(rt: &impl Print) -> io::Result<()> {
     let entries = [
         -18, 0, 1, 2, 3, 4, 5, 6, 7, 8, 9, 10, 11, 12, 13, 14, 15, 16,
     ];
-    words(rt, b"sixteen moves: ")?;
+    print!(rt; "sixteen moves: ")?;
     read(rt, &entries, 16)?;
-    words(rt, b"seventeen moves: ")?;
+    print!(rt; "seventeen moves: ")?;
     read(rt, &entries, 17)
 }
 
 // Every call, an opening first.
 fn every(rt: &impl Print, entries: &mut [i64]) -> io::Result<()> {
-    words(rt, b"open: ")?;
+    print!(rt; "open: ")?;
     opened(rt, book::opening::open_book(&mut *entries))?;
-    words(rt, b"; join: ")?;
+    print!(rt; "; join: ")?;
     joined(rt, book::joining::join(&mut *entries, 0, 1))?;
-    words(rt, b"; with each: ")?;
+    print!(rt; "; with each: ")?;
     joined_each(rt, book::joining::join_each(&mut *entries, 0, &[1, 2]))?;
-    words(rt, b"; ")?;
+    print!(rt; "; ")?;
     read(rt, entries, 0)
 }
 
 // An area of one place more than 65,536.
 fn too_long(rt: &impl Print) -> io::Result<()> {
     let mut entries = [7i64; 65537];
-    words(rt, b"65,537 places: ")?;
+    print!(rt; "65,537 places: ")?;
     every(rt, &mut entries)?;
-    words(rt, b"65,537 places")?;
-    stayed(rt, filled(&entries, 7))
+    print!(rt; "65,537 places")?;
+    stayed(rt, entries.iter().all(|entry| *entry == 7))
 }
 
 // A vertex joined with each of a list, behind the words that say what it shows; then what the area holds.
 fn join_each(
     rt: &impl Print,
-    shows: &[u8],
+    shows: &str,
     before: [i64; 4],
     u: usize,
     others: &[usize],
 ) -> io::Result<()> {
     let mut entries = before;
-    words(rt, shows)?;
-    words(rt, b"join ")?;
-    number(rt, u)?;
-    words(rt, b" with each: ")?;
+    print!(rt; "{shows}join {u} with each: ")?;
     joined_each(rt, book::joining::join_each(&mut entries, u, others))?;
-    words(rt, b": entries")?;
+    print!(rt; ": entries")?;
     area(rt, entries)?;
-    words(rt, b"\n")
+    println!(rt; "")
 }
 
 fn lists(rt: &impl Print) -> io::Result<()> {
-    join_each(rt, b"with 1, 0, 3: ", [-1, -1, -1, -1], 0, &[1, 0, 3])?;
-    join_each(rt, b"with none: ", [9, 9, 9, 9], 7, &[])?;
-    join_each(rt, b"with 1, 4, 3: ", [-1, -1, -1, -1], 0, &[1, 4, 3])?;
-    join_each(rt, b"vertex 4 of four: ", [-1, -1, -1, -1], 4, &[0])?;
+    join_each(rt, "with 1, 0, 3: ", [-1, -1, -1, -1], 0, &[1, 0, 3])?;
+    join_each(rt, "with none: ", [9, 9, 9, 9], 7, &[])?;
+    join_each(rt, "with 1, 4, 3: ", [-1, -1, -1, -1], 0, &[1, 4, 3])?;
+    join_each(rt, "vertex 4 of four: ", [-1, -1, -1, -1], 4, &[0])?;
     join_each(
         rt,
-        b"the least number behind one group: ",
+        "the least number behind one group: ",
         [-2, LEAST, 0, -1],
         0,
         &[2, 1, 3],
     )?;
     join_each(
         rt,
-        b"its own place behind one merged: ",
+        "its own place behind one merged: ",
         [-1, -1, 2, -1],
         0,
         &[1, 2, 3],

@@ -15,48 +15,23 @@ use text::line::{CoefficientLine, EdgeLine, VertexLine};
 // How many bytes are read.
 const MOST: usize = 65536;
 
-// A refusal's number and column on a line of their own.
-fn print_two(rt: &impl Print, number: usize, column: usize) -> io::Result<()> {
-    println!(rt; "{number} {column}")
-}
-
-// No line is left.
-fn print_end(rt: &impl Print) -> io::Result<()> {
-    println!(rt; "end")
-}
-
-fn shown_vertex(rt: &impl Print, line: VertexLine) -> io::Result<()> {
+// What is answered of a line, on a line of its own.
+fn shown<T: Drop>(rt: &impl Print, line: Option<Result<T, Fault>>) -> io::Result<()> {
     match line {
-        VertexLine::End(_) => print_end(rt),
-        VertexLine::Fault(number, column, _) => print_two(rt, number, column),
-        VertexLine::Line(_, _) => print_two(rt, 0, 0),
-    }
-}
-
-fn shown_edge(rt: &impl Print, line: EdgeLine) -> io::Result<()> {
-    match line {
-        EdgeLine::End(_) => print_end(rt),
-        EdgeLine::Fault(number, column, _) => print_two(rt, number, column),
-        EdgeLine::Line(_, _, _) => print_two(rt, 0, 0),
-    }
-}
-
-fn shown_coefficient(rt: &impl Print, line: CoefficientLine) -> io::Result<()> {
-    match line {
-        CoefficientLine::End(_) => print_end(rt),
-        CoefficientLine::Fault(number, column, _) => print_two(rt, number, column),
-        CoefficientLine::Line(_, _, _) => print_two(rt, 0, 0),
+        None => println!(rt; "end"),
+        Some(Err(fault)) => println!(rt; "{} {}", fault.number, fault.column),
+        Some(Ok(_)) => println!(rt; "0 0"),
     }
 }
 
 // The line of a kind at a place.
 fn read_line(rt: &impl Print, s: &[u8], at: usize, kind: u8) -> io::Result<()> {
-    let place = Cursor { at };
+    let mut place = Cursor { at };
     match kind {
-        b'v' => shown_vertex(rt, place.vertex(s)),
-        b'e' => shown_edge(rt, place.edge(s)),
-        b'c' => shown_edge(rt, place.claim(s)),
-        _ => shown_coefficient(rt, place.coefficient_claim(s)),
+        b'v' => shown(rt, place.vertex(s)),
+        b'e' => shown(rt, place.edge(s)),
+        b'c' => shown(rt, place.claim(s)),
+        _ => shown(rt, place.coefficient_claim(s)),
     }
 }
 

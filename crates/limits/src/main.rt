@@ -3,7 +3,8 @@
 
 use basis::Refusal;
 use basis::limits::MOST_VERTICES;
-use load::{Limits, Loaded};
+use graph::Size;
+use load::Limits;
 use std::io;
 
 // One line fewer than a vertex file may have.
@@ -12,34 +13,12 @@ const ONE_FEWER: usize = MOST_VERTICES - 1;
 // One line more.
 const ONE_MORE: usize = MOST_VERTICES + 1;
 
-fn words(rt: &impl Print, text: &[u8]) -> io::Result<()> {
-    rt.write_all(text)
-}
-
-fn number(rt: &impl Print, n: usize) -> io::Result<()> {
-    rt.print(n)
-}
-
-fn shown(rt: &impl Print, answer: Loaded) -> io::Result<()> {
+// What a load answers, on a line of its own.
+fn shown(rt: &impl Print, answer: Result<Size, Refusal>) -> io::Result<()> {
     match answer {
-        Loaded::Graph(size) => {
-            words(rt, b"loaded ")?;
-            number(rt, size.vertices)?;
-            words(rt, b" ")?;
-            number(rt, size.arcs)?;
-        }
-        Loaded::Refused(r) => refused(rt, r)?,
+        Ok(size) => println!(rt; "loaded {} {}", size.vertices, size.arcs),
+        Err(r) => println!(rt; "{r}"),
     }
-    words(rt, b"\n")
-}
-
-fn refused(rt: &impl Print, r: Refusal) -> io::Result<()> {
-    words(rt, b"refused ")?;
-    number(rt, r.number)?;
-    words(rt, b" ")?;
-    number(rt, r.file)?;
-    words(rt, b" ")?;
-    number(rt, r.line)
 }
 
 // A load of a vertex file and no edges into areas of the library's size.
@@ -62,30 +41,6 @@ fn run(rt: &impl Print, vertices: &[u8]) -> io::Result<()> {
             &mut in_sources,
         ),
     )
-}
-
-// Vertex files of one line fewer than the limit, as many and one more, the numbers from 0 on, each loaded once it is written; the end of
-// the last.
-fn fill(rt: &impl Print, text: &mut [u8]) -> io::Result<usize> {
-    let mut at = 0;
-    let mut line = 0;
-    while line < ONE_MORE {
-        let past = write::numbers::put_number(text, at, line);
-        at = write::bytes::put(text, past, 10);
-        line += 1;
-        if ONE_FEWER <= line {
-            front(rt, text, at)?;
-        }
-    }
-    Ok(at)
-}
-
-// The load of a file's first bytes.
-fn front(rt: &impl Print, text: &[u8], end: usize) -> io::Result<()> {
-    if end <= text.len() {
-        run(rt, &text[..end])?;
-    }
-    Ok(())
 }
 
 // A load at limits above the library's, which count as the library's.
@@ -114,31 +69,39 @@ fn run_above(rt: &impl Print, vertices: &[u8]) -> io::Result<()> {
     )
 }
 
-// The same of a file's first bytes.
-fn front_above(rt: &impl Print, text: &[u8], end: usize) -> io::Result<()> {
-    if end <= text.len() {
-        run_above(rt, &text[..end])?;
+// The first bytes of a file, as many as it has.
+fn front(text: &[u8], end: usize) -> &[u8] {
+    &text[..end.min(text.len())]
+}
+
+// Vertex files of one line fewer than the limit, as many and one more, the numbers from 0 on, each loaded once it is written; the end of
+// the last.
+fn fill(rt: &impl Print, text: &mut [u8]) -> io::Result<usize> {
+    let mut at = 0;
+    for line in 0..ONE_MORE {
+        let past = write::numbers::put_number(text, at, line);
+        at = write::bytes::put(text, past, b'\n');
+        if ONE_FEWER <= line + 1 {
+            run(rt, front(text, at))?;
+        }
     }
-    Ok(())
+    Ok(at)
 }
 
 // Joining a vertex to itself merges nothing.
 fn joined_to_itself(rt: &impl Print) -> io::Result<()> {
     let mut entries = [0i64; 3];
-    book::opening::open_book(&mut entries);
+    if let Err(r) = book::opening::open_book(&mut entries) {
+        println!(rt; "{r}")?;
+    }
     match book::joining::join(&mut entries, 1, 1) {
-        book::Joined::Merged => words(rt, b"merged")?,
-        book::Joined::Already => words(rt, b"one group already")?,
-        book::Joined::Refused(r) => refused(rt, r)?,
+        Ok(joining) => print!(rt; "{joining}")?,
+        Err(r) => print!(rt; "{r}")?,
     }
     match book::readings::group_count(&entries) {
-        book::Reading::Value(n) => {
-            words(rt, b", groups: ")?;
-            number(rt, n)?;
-        }
-        book::Reading::Refused(r) => refused(rt, r)?,
+        Ok(n) => println!(rt; ", groups: {n}"),
+        Err(r) => println!(rt; "{r}"),
     }
-    words(rt, b"\n")
 }
 
 fn main(rt: HostRuntime) -> io::Result<()> {
@@ -146,5 +109,5 @@ fn main(rt: HostRuntime) -> io::Result<()> {
     run(&rt, b"")?;
     let end = fill(&rt, &mut text)?;
     joined_to_itself(&rt)?;
-    front_above(&rt, &text, end)
+    run_above(&rt, front(&text, end))
 }
