@@ -1,18 +1,22 @@
 -- What private functions say of their work: the lines of a claim one by one.
-use Rattle.std.specs.Prelude.{ℕ, zero, suc, ◌+◌, ◌<◌, min, ◌≡◌, Bool, not, cond, List, ℤ, pos, length, get_or, take, set, eqb}
+use Rattle.std.specs.Prelude.{ℕ, zero, suc, ◌+◌, ◌<◌, ◌≤◌, min, ◌≡◌, Bool, not, cond, List, ℤ, pos, length, get_or, take, set, eqb, ◌-◌, ◌^◌, ◌≢◌, Option, Some, None, Result, Ok, Err}
 use Rattle.basis.specs.Refusal.{Said, gives, refuses}
+use Rattle.basis.specs.declared.refusal.Refusal.{Refusal}
 use Rattle.basis.specs.Scan.{every, or_else}
 use Rattle.graph.specs.declared.find.Found.{Found}
 use Rattle.graph.specs.declared.find.Found.TheVariants.{At, Missing}
 use Rattle.graph.specs.Find.{bisected}
-use Rattle.matching.specs.declared.reading.Read.{Read}
-use Rattle.matching.specs.declared.reading.Read.TheVariants.{Lines, Fault}
 use Rattle.matching.specs.declared.numbers.Rule.{Rule}
 use Rattle.text.specs.declared.decimal.Decimal.{Decimal}
 use Rattle.matching.specs.Calls.{near_within, fraction_in, coefficients_judged}
 use Rattle.matching.specs.Claim.{number_lines, ids_of}
 use Rattle.matching.specs.Cover.{its_line, incomplete_line, in_order}
 use Rattle.matching.specs.Verdict.{Verdict, mismatch_vertex, verdict_of}
+
+-- a place that is counted from 0, or none, as the definitions count it: from 1, and 0 is none
+abbrev pub counted : Option ℕ → ℕ
+counted None = 0
+counted (Some i) = suc i
 
 -- what is found is a vertex that the record of claim lines has no line for, or is missing
 abbrev pub new_in : List ℕ → Found → Found
@@ -57,6 +61,22 @@ abbrev pub reported_in : List ℕ → ℕ → ℕ
 reported_in lines zero = 0
 reported_in lines (suc v) = get_or lines v 0
 
+-- the record has a line for each of n vertices
+abbrev pub NoneMissing : ℕ → List ℕ → Type 0
+NoneMissing n lines = (v : ℕ) → v < n → get_or lines v 0 ≢ 0
+
+-- the first incomplete line has a number; or, where none is incomplete, the vertex at fault has its line in the record
+abbrev pub Reportable : Option ℕ → Option ℕ → List ℕ → Type 0
+Reportable (Some k) fault lines = k < 2 ^ 64 - 1
+Reportable None (Some v) lines = (v < length lines) × (get_or lines v 0 ≢ 0)
+Reportable None None lines = Unit {0}
+
+-- the same of a claim on n vertices that was read, whichever vertex is at fault; nothing where it was not read whole
+abbrev pub ReadWell : Result (Option ℕ) Refusal → ℕ → List ℕ → Type 0
+ReadWell (Ok None) n lines = NoneMissing n lines
+ReadWell (Ok (Some k)) n lines = k < 2 ^ 64 - 1
+ReadWell (Err r) n lines = Unit {0}
+
 -- the first n places of the record hold the claim lines of n vertices, which identifiers name so
 abbrev pub Maps : (ℤ → Found) → ℕ → List ℤ → List ℕ → Type 0
 Maps place n named lines = (v : ℕ) → v < n → get_or lines v 0 ≡ its_line place named v
@@ -68,24 +88,27 @@ pub record WholeOf (most : ℕ) (ids : List ℤ) (s : List ℕ) (claimed : List 
   pub are : number_lines most s ≡ gives lines
   pub first : incomplete ≡ incomplete_line (bisected ids) (length ids) (ids_of lines)
   pub maps : Maps (bisected ids) (length ids) (ids_of lines) places
+  pub short : incomplete ≤ length s + 1
+  pub recorded : incomplete ≡ 0 → NoneMissing (length ids) places
   pub values : incomplete ≡ 0 → take (length ids) claimed ≡ in_order (bisected ids) (pos 0) (length ids) lines
 
--- what the code's answer tells of a claim: it was read whole, with its first incomplete line or 0, or its first fault is this refusal
-abbrev pub ReadAs : ℕ → List ℤ → List ℕ → List ℤ → List ℕ → Read → Type 0
-ReadAs most ids s claimed lines (Lines incomplete) = WholeOf most ids s claimed lines incomplete
-ReadAs most ids s claimed lines (Fault r) = number_lines most s ≡ refuses r
+-- what the code's answer tells of a claim: it was read whole, with its first incomplete line or none, or its first fault is this refusal
+abbrev pub ReadAs : ℕ → List ℤ → List ℕ → List ℤ → List ℕ → Result (Option ℕ) Refusal → Type 0
+ReadAs most ids s claimed lines (Ok incomplete) = WholeOf most ids s claimed lines (counted incomplete)
+ReadAs most ids s claimed lines (Err r) = number_lines most s ≡ refuses r
 
 -- what a reading tells, of working areas of the given sizes
-pub record ReadOf (most : ℕ) (ids : List ℤ) (s : List ℕ) (size width : ℕ) (claimed : List ℤ) (lines : List ℕ) (r : Read) : Type 0 where
+pub record ReadOf (most : ℕ) (ids : List ℤ) (s : List ℕ) (size width : ℕ) (claimed : List ℤ) (lines : List ℕ)
+    (r : Result (Option ℕ) Refusal) : Type 0 where
   pub tells : ReadAs most ids s claimed lines r
   pub kept : length claimed ≡ size
   pub wide : length lines ≡ width
 
 -- what is said of a claim that was read
-abbrev pub read_judged : Rule → List ℤ → List ℤ → List ℕ → Read → Said Verdict
-read_judged rule reference claimed lines (Lines incomplete) =
-    gives (verdict_of incomplete (reported_in lines (mismatch_vertex rule reference claimed)))
-read_judged rule reference claimed lines (Fault r) = refuses r
+abbrev pub read_judged : Rule → List ℤ → List ℤ → List ℕ → Result (Option ℕ) Refusal → Said Verdict
+read_judged rule reference claimed lines (Ok incomplete) =
+    gives (verdict_of (counted incomplete) (reported_in lines (mismatch_vertex rule reference claimed)))
+read_judged rule reference claimed lines (Err r) = refuses r
 
 -- what is said of a claim of coefficients that was read, and the size of the record
 pub record JudgedOf (most : ℕ) (ids : List ℤ) (nums dens s : List ℕ) (width : ℕ) (lines : List ℕ) (said : Said Verdict) : Type 0 where

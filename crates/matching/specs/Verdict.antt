@@ -1,12 +1,13 @@
 -- 01 "Claims and verdicts", 02 "Claims in any order" and 000, 2.4: what a claim's lines are worth beside a reference output.
-use Rattle.std.specs.Prelude.{ℕ, zero, suc, ◌+◌, Bool, cond, List, [], ◌∷◌, ℤ, pos, length, get_or}
+use Rattle.std.specs.Prelude.{ℕ, zero, suc, ◌+◌, Bool, cond, List, [], ◌∷◌, ℤ, pos, length, get_or, Result, Ok, Err}
 use Rattle.std.specs.Bool.{beq}
 use Rattle.basis.specs.Refusal.{Said, gives, refuses, claim_file}
+use Rattle.basis.specs.declared.refusal.Refusal.{Refusal}
 use Rattle.basis.specs.Order.{same_z}
 use Rattle.basis.specs.Scan.{every}
 use Rattle.text.specs.declared.decimal.Decimal.{Decimal}
-use Rattle.matching.specs.declared.judged.Judged.{Judged}
-use Rattle.matching.specs.declared.judged.Judged.TheVariants as J
+use Rattle.matching.specs.declared.judged.Verdict as judged
+use Rattle.matching.specs.declared.judged.Verdict.TheVariants as V
 use Rattle.matching.specs.declared.numbers.Rule.{Rule}
 use Rattle.matching.specs.declared.numbers.Rule.TheVariants.{Exact, Equivalence}
 use Rattle.matching.specs.Close.{is_close}
@@ -37,11 +38,11 @@ abbrev pub mismatch_at : ℕ → Verdict
 mismatch_at line = verdict 21 line
 
 -- "a definition that gives this paper's number and values for each of its cases"
-abbrev pub says : Judged → Said Verdict
-says J.Match = gives matched
-says (J.Incomplete line) = gives (incomplete_at line)
-says (J.Mismatch line) = gives (mismatch_at line)
-says (J.Refused r) = refuses r
+abbrev pub says : Result judged.Verdict Refusal → Said Verdict
+says (Ok V.Match) = gives matched
+says (Ok (V.Incomplete line)) = gives (incomplete_at line)
+says (Ok (V.Mismatch line)) = gives (mismatch_at line)
+says (Err r) = refuses r
 
 -- two lists side by side, the next place being k: the first place at which they aren't alike by a test,
 -- or at which one of them has ended; 0 where there is none

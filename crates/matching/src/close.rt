@@ -7,66 +7,33 @@ use text::decimal::Decimal;
 // Above every a * 10001, so that a larger number need not be told apart.
 const CAP: u64 = 1_000_000_000_000_000_000;
 
-fn capped(x: u64) -> u64
-    ensures { result ≡ min x (10 ^ 18) }
-{
-    if x < CAP { x } else { CAP }
-}
-
 // d * 10^k, or the cap where it is more.
-fn scaled_up(d: u64, k: u64) -> u64
+fn scaled_up(d: u64, k: u32) -> u64
     ensures { result ≡ min (d * 10 ^ k) (10 ^ 18) }
 {
-    let mut m = capped(d);
-    let mut j: u64 = 0;
-    while j < k {
-        m = capped(m * 10);
-        j += 1;
-    }
-    m
-}
-
-// Nothing but zeros is dropped still, once this digit is.
-fn still_exact(exact: bool, dropped: u64) -> bool
-    ensures { result ≡ (exact && eqb dropped 0) }
-{
-    if dropped != 0 {
-        return false;
-    }
-    exact
+    d.saturating_mul(10u64.saturating_pow(k)).min(CAP)
 }
 
 // Whether d * n is from low * 10^k to high * 10^k. Its last k digits are dropped one by one: (rest * n + part) * 10^j is d * n without what
 // was dropped.
-fn enclosed(low: u64, high: u64, n: u64, d: u64, k: u64) -> bool
+fn enclosed(low: u64, high: u64, n: u64, d: u64, k: u32) -> bool
     requires { (0 < n) × (n < 2 ^ 50) × (high < 2 ^ 50) }
     ensures { result ≡ (leb (low * 10 ^ k) (d * n) && leb (d * n) (high * 10 ^ k)) }
 {
     let mut rest = d;
     let mut part: u64 = 0;
     let mut exact = true;
-    let mut j: u64 = 0;
-    while j < k {
+    for _ in 0..k {
         let sum = part + rest % 10 * n;
-        exact = still_exact(exact, sum % 10);
+        exact = exact && sum % 10 == 0;
         part = sum / 10;
-        rest = rest / 10;
-        j += 1;
+        rest /= 10;
     }
     if high / n < rest {
         return false;
     }
     let product = rest * n + part;
-    if product < low {
-        return false;
-    }
-    if high < product {
-        return false;
-    }
-    if product < high {
-        return true;
-    }
-    exact
+    low <= product && (product < high || product == high && exact)
 }
 
 // Whether the decimal s is within a ten-thousandth of a / b. A coefficient's terms are below 65,536 squared, so they are u32.
@@ -76,15 +43,14 @@ pub fn close(a: u32, b: u32, s: Decimal) -> bool
     if b == 0 {
         return a == 0;
     }
-    let n = b as u64 * 10000;
-    let low = a as u64 * 9999;
-    let high = a as u64 * 10001;
-    let digits = s.digits;
-    let up = s.up as u64;
-    let down = s.down as u64;
+    let n = u64::from(b) * 10000;
+    let low = u64::from(a) * 9999;
+    let high = u64::from(a) * 10001;
+    let up = u32::from(s.up);
+    let down = u32::from(s.down);
     if up <= down {
-        enclosed(low, high, n, digits, down - up)
+        enclosed(low, high, n, s.digits, down - up)
     } else {
-        enclosed(low, high, n, scaled_up(digits, up - down), 0)
+        enclosed(low, high, n, scaled_up(s.digits, up - down), 0)
     }
 }

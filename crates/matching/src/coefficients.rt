@@ -3,15 +3,14 @@ ghost use Rattle.std.specs.Prelude.{◌≡◌, ◌≤◌, length};
 ghost use Rattle.matching.specs.Verdict.{says};
 ghost use Rattle.basis.specs.Area.{cleared};
 ghost use Rattle.matching.specs.Calls.{near_within, told, coefficients_call};
-ghost use Rattle.matching.specs.Steps.{FoundBelow, far_step, JudgedOf};
+ghost use Rattle.matching.specs.Steps.{counted, FoundBelow, far_step, JudgedOf};
 
 use crate::close::close;
-use crate::judged::Judged;
+use crate::judged::Verdict;
 use crate::numbers::{has_room, verdict_of};
-use crate::reading::{ended, recorded, reported, strayed};
+use crate::reading::{ended, recorded, strayed};
 use basis::Refusal;
 use basis::area::clear;
-use basis::order::lesser;
 use basis::refusal::{CLAIM_FILE, NO_ROOM, TOO_MANY};
 use graph::find::Found;
 use text::Cursor;
@@ -22,25 +21,22 @@ use text::line::CoefficientLine;
 fn near_within(a: usize, b: usize, s: Decimal) -> bool
     ensures { result ≡ near_within (a, b) s }
 {
-    if 4294967295 < a {
-        return false;
+    match (u32::try_from(a), u32::try_from(b)) {
+        (Ok(a), Ok(b)) => close(a, b, s),
+        _ => false,
     }
-    if 4294967295 < b {
-        return false;
-    }
-    close(a as u32, b as u32, s)
 }
 
-// The smallest vertex at fault, counted from 1, once a new vertex, or none, has claimed s; 0 where there is none.
+// The smallest vertex at fault once a new vertex, or none, has claimed s.
 fn measured(
     numerators: &[usize],
     denominators: &[usize],
     vertex: Found,
     s: Decimal,
-    far: usize,
-) -> usize
+    far: Option<usize>,
+) -> Option<usize>
     requires { (FoundBelow vertex (length numerators.now)) × (FoundBelow vertex (length denominators.now)) }
-    ensures { result ≡ far_step numerators.now denominators.now vertex s far }
+    ensures { counted result ≡ far_step numerators.now denominators.now vertex s (counted far) }
 {
     match vertex {
         Found::Missing => far,
@@ -48,11 +44,10 @@ fn measured(
             if near_within(numerators[v], denominators[v], s) {
                 return far;
             }
-            let here = v + 1;
-            if far == 0 {
-                return here;
+            match far {
+                None => Some(v),
+                Some(u) => Some(u.min(v)),
             }
-            lesser(far, here)
         }
     }
 }
@@ -65,7 +60,7 @@ fn read_coefficients(
     denominators: &[usize],
     claim: &[u8],
     lines: &mut [usize],
-) -> Judged
+) -> Result<Verdict, Refusal>
     requires ids_in_bounds { (length ids.now ≤ length numerators.now) × (length ids.now ≤ length denominators.now) }
     requires ids_in_bounds_2 { (length ids.now ≤ length lines.old) × (lines.old ≡ cleared lines.old) }
     ensures { JudgedOf most ids.now numerators.now denominators.now claim.now
@@ -73,32 +68,29 @@ fn read_coefficients(
 {
     let n = ids.len();
     let mut cursor = Cursor { at: 0 };
-    let mut k = 0;
-    let mut stray = 0;
-    let mut far = 0;
-    while k < most {
+    let mut stray = None;
+    let mut far = None;
+    for k in 0..most {
         let line = cursor.coefficient_claim(claim);
         match line {
             CoefficientLine::End(_) => {
-                return verdict_of(ended(lines, n, k, stray), reported(lines, far));
+                return Ok(verdict_of(ended(lines, n, k, stray), far, lines));
             }
             CoefficientLine::Fault(number, column, _) => {
-                return Judged::Refused(Refusal::at_column(number, CLAIM_FILE, k + 1, column));
+                return Err(Refusal::at_column(number, CLAIM_FILE, k + 1, column));
             }
             CoefficientLine::Line(id, s, next) => {
                 let vertex = recorded(ids, lines, k, id);
                 far = measured(numerators, denominators, vertex, s, far);
                 stray = strayed(vertex, k, stray);
                 cursor = next;
-                k += 1;
             }
         }
     }
-    let at = cursor.at;
-    if at < claim.len() {
-        return Judged::Refused(Refusal::at(TOO_MANY, CLAIM_FILE, k + 1));
+    if cursor.at < claim.len() {
+        return Err(Refusal::at(TOO_MANY, CLAIM_FILE, most + 1));
     }
-    verdict_of(ended(lines, n, k, stray), reported(lines, far))
+    Ok(verdict_of(ended(lines, n, most, stray), far, lines))
 }
 
 // A claim of at most so many lines, on vertices with these identifiers; `lines` is a working area.
@@ -109,14 +101,14 @@ pub fn judge_coefficients(
     denominators: &[usize],
     claim: &[u8],
     lines: &mut [usize],
-) -> Judged
+) -> Result<Verdict, Refusal>
     ensures { told (says result) lines.new
         ≡ coefficients_call most ids.now numerators.now denominators.now claim.now
         lines.old }
 {
     clear(lines);
     if !has_room(ids.len(), numerators.len(), denominators.len(), lines.len()) {
-        return Judged::Refused(Refusal::plain(NO_ROOM));
+        return Err(Refusal::plain(NO_ROOM));
     }
     let judged = read_coefficients(most, ids, numerators, denominators, claim, lines);
     clear(lines);

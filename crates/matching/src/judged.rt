@@ -1,11 +1,9 @@
-// What is said of a claim.
-use basis::Refusal;
+// What is said of a claim that was read whole.
 
-// It matches; it is incomplete, or a mismatch, at a line; or it was refused.
-#[derive(Clone, Copy)]
-pub enum Judged {
+// It matches; it is incomplete, or a mismatch, at a line, counted from 1.
+#[derive(Clone, Copy, Debug, PartialEq, Eq)]
+pub enum Verdict {
     Match,
     Incomplete(usize),
     Mismatch(usize),
-    Refused(Refusal),
 }

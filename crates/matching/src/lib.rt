@@ -1,4 +1,4 @@
-// Layer verdicts. A claim against a reference output: its lines, whether it covers the vertices, and 000's three methods of matching.
+// Layer verdicts. A claim against a reference output: its lines, whether it covers the vertices, and the three methods of matching.
 #![tactic(auto)]
 
 pub mod close;
@@ -8,4 +8,4 @@ pub mod kinds;
 pub mod numbers;
 pub mod reading;
 
-pub use judged::Judged;
+pub use judged::Verdict;

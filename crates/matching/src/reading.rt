@@ -2,20 +2,13 @@
 ghost use Rattle.std.specs.Prelude.{◌≡◌, ◌+◌, ◌-◌, ◌^◌, ◌<◌, ◌≤◌, length};
 ghost use Rattle.basis.specs.Area.{cleared};
 ghost use Rattle.graph.specs.Find.{bisected};
-ghost use Rattle.matching.specs.Steps.{new_in, set_at, FoundBelow, stray_step, end_line, reported_in, ReadOf};
+ghost use Rattle.matching.specs.Steps.{counted, new_in, set_at, FoundBelow, stray_step, end_line, ReadOf};
 
 use basis::Refusal;
 use basis::refusal::{CLAIM_FILE, TOO_MANY};
 use graph::find::{Found, find};
 use text::Cursor;
 use text::line::EdgeLine;
-
-// What the lines of a claim say of the vertices: the first incomplete line, or 0. Or the first fault.
-#[derive(Drop)]
-pub(crate) enum Read {
-    Lines(usize),
-    Fault(Refusal),
-}
 
 // The line after k others names id: its vertex, if it is one that no earlier line names, has this claim line from now on.
 pub(crate) fn recorded(ids: &[i64], lines: &mut [usize], k: usize, id: i64) -> Found
@@ -36,49 +29,26 @@ pub(crate) fn recorded(ids: &[i64], lines: &mut [usize], k: usize, id: i64) -> F
     }
 }
 
-// The first stray line, once the line after k others has named a new vertex or none.
-pub(crate) fn strayed(vertex: Found, k: usize, stray: usize) -> usize
-    requires { k < 2 ^ 64 - 1 }
-    ensures { result ≡ stray_step vertex k stray }
+// The place of the first stray line, once the line after k others has named a new vertex or none.
+pub(crate) fn strayed(vertex: Found, k: usize, stray: Option<usize>) -> Option<usize>
+    ensures { counted result ≡ stray_step vertex k (counted stray) }
 {
     match vertex {
         Found::At(_) => stray,
-        Found::Missing => {
-            if stray != 0 {
-                return stray;
-            }
-            k + 1
-        }
+        Found::Missing => stray.or(Some(k)),
     }
 }
 
-// The first incomplete line of a claim that ends after k lines: a stray one, or the line after the last where a vertex is missing.
-pub(crate) fn ended(lines: &[usize], n: usize, k: usize, stray: usize) -> usize
-    requires { (n ≤ length lines.now) × (k < 2 ^ 64 - 1) }
-    ensures { result ≡ end_line lines.now n k stray }
+// The place of the first incomplete line of a claim that ends after k lines: a stray one, or the line after the last where a vertex is
+// missing.
+pub(crate) fn ended(lines: &[usize], n: usize, k: usize, stray: Option<usize>) -> Option<usize>
+    requires { n ≤ length lines.now }
+    ensures { counted result ≡ end_line lines.now n k (counted stray) }
 {
-    if stray != 0 {
-        return stray;
+    if stray.is_none() && lines[..n].contains(&0) {
+        return Some(k);
     }
-    let mut v = 0;
-    while v < n {
-        if lines[v] == 0 {
-            return k + 1;
-        }
-        v += 1;
-    }
-    0
-}
-
-// The claim line of the smallest vertex at fault, which is counted from 1; 0 where there is none.
-pub(crate) fn reported(lines: &[usize], fault: usize) -> usize
-    requires { fault ≤ length lines.now }
-    ensures { result ≡ reported_in lines.now fault }
-{
-    if fault == 0 {
-        return 0;
-    }
-    lines[fault - 1]
+    stray
 }
 
 // A new vertex's value is kept.
@@ -101,7 +71,7 @@ pub(crate) fn read_numbers(
     claim: &[u8],
     claimed: &mut [i64],
     lines: &mut [usize],
-) -> Read
+) -> Result<Option<usize>, Refusal>
     requires ids_in_bounds { (length ids.now ≤ length claimed.old) × (length ids.now ≤ length lines.old) }
     requires lines_value { lines.old ≡ cleared lines.old }
     ensures { ReadOf most ids.now claim.now (length claimed.old) (length lines.old)
@@ -109,29 +79,24 @@ pub(crate) fn read_numbers(
 {
     let n = ids.len();
     let mut cursor = Cursor { at: 0 };
-    let mut k = 0;
-    let mut stray = 0;
-    while k < most {
+    let mut stray = None;
+    for k in 0..most {
         let line = cursor.claim(claim);
         match line {
-            EdgeLine::End(_) => {
-                return Read::Lines(ended(lines, n, k, stray));
-            }
+            EdgeLine::End(_) => return Ok(ended(lines, n, k, stray)),
             EdgeLine::Fault(number, column, _) => {
-                return Read::Fault(Refusal::at_column(number, CLAIM_FILE, k + 1, column));
+                return Err(Refusal::at_column(number, CLAIM_FILE, k + 1, column));
             }
             EdgeLine::Line(id, value, next) => {
                 let vertex = recorded(ids, lines, k, id);
                 keep(claimed, vertex, value);
                 stray = strayed(vertex, k, stray);
                 cursor = next;
-                k += 1;
             }
         }
     }
-    let at = cursor.at;
-    if at < claim.len() {
-        return Read::Fault(Refusal::at(TOO_MANY, CLAIM_FILE, k + 1));
+    if cursor.at < claim.len() {
+        return Err(Refusal::at(TOO_MANY, CLAIM_FILE, most + 1));
     }
-    Read::Lines(ended(lines, n, k, stray))
+    Ok(ended(lines, n, most, stray))
 }

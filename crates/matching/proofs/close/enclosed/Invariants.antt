@@ -1,10 +1,5 @@
-use Prim.Native.Nat.{◌-◌, ◌≤◌}
 use Rattle.matching.proofs.Closeness.{Dropped}
 use Rattle.matching.proofs.close.enclosed.Given as goal
 
-abbrev pub invariant-loop-j : goal.invariant-loop-j
-invariant-loop-j l =
-    (l.j ≤ l.k) × Dropped l.n l.d l.rest l.part l.exact l.j
-
-abbrev pub decreases-loop-j : goal.decreases-loop-j
-decreases-loop-j l = l.k - l.j
+abbrev pub invariant-loop : goal.invariant-loop
+invariant-loop l = ?
