@@ -1,4 +1,5 @@
 -- Laws of the areas after a file was read: values written from the front, as far as there is room. Assumes nothing.
+use Rattle.std.specs.Prelude.{Result, Ok, Err}
 use Prim.Native.Nat.{ℕ, suc, ◌+◌, ◌≤◌}
 use mathlib.Core.Path.{◌≡◌, refl, sym, ap, ap₂, ◌∙◌}
 use mathlib.Core.List.{List, [], ◌∷◌, ◌++◌}
@@ -16,8 +17,6 @@ use Rattle.basis.proofs.Areas.{pad-lent}
 use Rattle.basis.proofs.Saids.{mapped-gives, mapped-refuses}
 use Rattle.graph.specs.declared.find.Found.{Found}
 use Rattle.graph.specs.Arcs.{seconds, bumps}
-use Rattle.lists.specs.declared.Listed.{Listed}
-use Rattle.lists.specs.declared.Listed.TheVariants.{Lines, Refused}
 use Rattle.lists.specs.Files.{identifiers, edges_of, all_numbered}
 use Rattle.lists.specs.Calls.{vertex_outcome, vertex_call, edge_outcome, edge_call}
 use Rattle.lists.specs.Steps.{ids_into, ids_left, numbered_into, edges_left}
@@ -66,9 +65,9 @@ again : {A : Type 0} (z : A) (size : ℕ) (a b : List A) → a ≡ replicate siz
     → replicate (length b) z ≡ replicate size z
 again z size a b e k = ap (λ (j : ℕ). replicate j z) (k ∙ ap length e ∙ length-replicate size z)
 
-module _ (most : ℕ) (s : List ℕ) (size : ℕ) (a : List ℤ) (e : a ≡ replicate size (pos 0)) (x : Listed) (b : List ℤ)
+module _ (most : ℕ) (s : List ℕ) (size : ℕ) (a : List ℤ) (e : a ≡ replicate size (pos 0)) (x : Result ℕ Refusal) (b : List ℤ)
     (told : ids_left x b ≡ mapped (ids_into a 0) (identifiers most s)) where
-  pub vertices-lines : (n : ℕ) → x ≡ Lines n → vertex_outcome (gives n) b ≡ vertex_call most s size
+  pub vertices-lines : (n : ℕ) → x ≡ Ok n → vertex_outcome (gives n) b ≡ vertex_call most s size
   vertices-lines n q =
       let g = mapped-gives (ids_into a 0) (identifiers most s) (n, b) (ap (λ y. ids_left y b) (sym q) ∙ told) in
       let c : n ≡ length g.0 = ap (λ (y : ℕ × List ℤ). y.0) g.2 ∙ zero-add (length g.0) in
@@ -76,7 +75,7 @@ module _ (most : ℕ) (s : List ℕ) (size : ℕ) (a : List ℤ) (e : a ≡ repl
       ∙ put_front (pos 0) size g.0 in
       rw g.1 (ap₂ (λ (k : ℕ) (l : List ℤ). vertex_outcome (gives k) l) c d)
 
-  pub vertices-zero : (r : Refusal) → x ≡ Refused r → length b ≡ length a → (c : List ℤ) → c ≡ replicate (length b) (pos 0)
+  pub vertices-zero : (r : Refusal) → x ≡ Err r → length b ≡ length a → (c : List ℤ) → c ≡ replicate (length b) (pos 0)
       → vertex_outcome (refuses r) c ≡ vertex_call most s size
   vertices-zero r q k c f =
       rw (mapped-refuses (ids_into a 0) (identifiers most s) r (ap (λ y. ids_left y b) (sym q) ∙ told))
@@ -84,8 +83,8 @@ module _ (most : ℕ) (s : List ℕ) (size : ℕ) (a : List ℤ) (e : a ≡ repl
 
 module _ (undirected : Bool) (most : ℕ) (place : ℤ → Found) (s : List ℕ) (sc st : ℕ) (a b : List ℕ) (ea : a ≡ replicate sc 0)
     (eb : b ≡ replicate st 0)
-    (x : Listed) (c t : List ℕ) (told : edges_left x c t ≡ mapped (numbered_into place a b 0) (edges_of undirected most place s)) where
-  pub edges-lines : (n : ℕ) → x ≡ Lines n → edge_outcome (gives n) c t ≡ edge_call undirected most place s sc st
+    (x : Result ℕ Refusal) (c t : List ℕ) (told : edges_left x c t ≡ mapped (numbered_into place a b 0) (edges_of undirected most place s)) where
+  pub edges-lines : (n : ℕ) → x ≡ Ok n → edge_outcome (gives n) c t ≡ edge_call undirected most place s sc st
   edges-lines n q =
       let g = mapped-gives (numbered_into place a b 0) (edges_of undirected most place s) (n, c, t)
       (ap (λ y. edges_left y c t) (sym q) ∙ told) in
@@ -99,7 +98,7 @@ module _ (undirected : Bool) (most : ℕ) (place : ℤ → Found) (s : List ℕ)
       edges-of : {k m : ℕ} {c d t u : List ℕ} → k ≡ m → c ≡ d → t ≡ u → edge_outcome (gives k) c t ≡ edge_outcome (gives m) d u
       edges-of p q r = cc
 
-  pub edges-zero : (r : Refusal) → x ≡ Refused r → length c ≡ length a → length t ≡ length b → (d u : List ℕ)
+  pub edges-zero : (r : Refusal) → x ≡ Err r → length c ≡ length a → length t ≡ length b → (d u : List ℕ)
       → d ≡ replicate (length c) 0 → u ≡ replicate (length t) 0
       → edge_outcome (refuses r) d u ≡ edge_call undirected most place s sc st
   edges-zero r q kc kt d u ed eu =

@@ -1,4 +1,5 @@
 -- Laws of the loop over an edge file: what it keeps of its two areas. Assumes nothing.
+use Rattle.std.specs.Prelude.{Result, Ok, Err}
 use Prim.Native.Nat.{ℕ, suc, ◌+◌, ◌-◌, ◌≤◌, ◌<◌}
 use mathlib.Core.Path.{◌≡◌, refl, sym, ap, subst, ◌∙◌}
 use mathlib.Core.Bool.{Bool}
@@ -10,7 +11,8 @@ use native.Mathlib.Numerals.{add-one}
 use lib.ListN.{length, get_or, set, replicate, length-set}
 use lib.Seq.{sets, get_or-set_same, get_or-set_other, set_out}
 use lib.IntN.{ℤ, pos}
-use Rattle.basis.specs.Refusal.{Said, gives, refuses, edge_file, mapped}
+use Rattle.basis.specs.declared.refusal.Refusal.{Refusal}
+use Rattle.basis.specs.Refusal.{Said, said, gives, refuses, edge_file, mapped}
 use Rattle.basis.proofs.Tests.{no-case}
 use Rattle.basis.proofs.Areas.{replicate-at}
 use Rattle.text.specs.Line.{edge_form}
@@ -18,13 +20,10 @@ use Rattle.text.specs.File.{after}
 use Rattle.text.proofs.Files.{left, left-start}
 use Rattle.graph.specs.Arcs.{Arc, seconds, bump}
 use Rattle.graph.specs.declared.find.Found.{Found}
-use Rattle.lists.specs.declared.Listed.{Listed}
-use Rattle.lists.specs.declared.Listed.TheVariants.{Lines, Refused}
 use Rattle.lists.specs.declared.edges.Edges.{Edges}
 use Rattle.lists.specs.declared.edges.EdgeStep.{EdgeStep}
 use Rattle.lists.specs.declared.edges.EdgeStep.TheVariants as ES
 use Rattle.lists.specs.Files.{edge_test, edges_of, numbered, all_numbered}
-use Rattle.lists.specs.Calls.{listed_says}
 use Rattle.lists.specs.Steps.{LineStep, more, stop, before_by, pair_of, with_numbers, edge_step, edge_step_says, numbered_into, edges_left}
 use Rattle.lists.proofs.Runs.{left-lines, left-refused, left-more, Moved, before-next}
 
@@ -138,21 +137,21 @@ module _ (s : List ℕ) (most : ℕ) (undirected : Bool) (place : ℤ → Found)
                 ∙ ap (mapped (numbered_into place counts targets c.lines)) (sym m.same) ∙ g.same);
           }
 
-    pub gathering-stop : (out : Listed) → x ≡ ES.Stop out
+    pub gathering-stop : (out : Result ℕ Refusal) → x ≡ ES.Stop out
         → edges_left out counts targets ≡ mapped (numbered_into place counts₀ targets₀ 0) (edges_of undirected most place s)
     unfolding edge_step
     gathering-stop out e =
-        go out (numbers-stop place (edge_step undirected most place s c) (listed_says out) (ap edge_step_says (sym e) ∙ told))
+        go out (numbers-stop place (edge_step undirected most place s c) (said out) (ap edge_step_says (sym e) ∙ told))
       where
-        go : (out : Listed) → stop (listed_says out) ≡ edge_step undirected most place s c
+        go : (out : Result ℕ Refusal) → stop (said out) ≡ edge_step undirected most place s c
             → edges_left out counts targets ≡ mapped (numbered_into place counts₀ targets₀ 0) (edges_of undirected most place s)
-        go (Lines n) e =
+        go (Ok n) e =
             let l = left-lines edge_form edge_file most (edge_test undirected place) s c.lines
             (before_by c.lines (pair_of c))
             c.at.at n e in
             (let a = l.0 in let b = add-zero c.lines in cc) ∙ ap (mapped (numbered_into place counts targets c.lines)) (sym l.1)
             ∙ g.same
-        go (Refused o) e =
+        go (Err o) e =
             ap (mapped (numbered_into place counts targets c.lines))
             (sym (left-refused edge_form edge_file most (edge_test undirected place) s c.lines
             (before_by c.lines (pair_of c))

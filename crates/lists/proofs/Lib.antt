@@ -1,4 +1,5 @@
 -- Laws of reading the two lists, then what is accepted and what is refused.
+pub mod Handed
 pub mod Lookups
 pub mod Reading
 pub mod Runs

@@ -1,4 +1,5 @@
 -- Laws of a loop over the lines of a file: what is left of the file after a line, and what the loop keeps of its areas. Assumes nothing.
+use Rattle.std.specs.Prelude.{Result, Ok, Err}
 use Prim.Native.Nat.{ℕ, zero, suc, ◌+◌, ◌-◌, ◌≤◌, ◌<◌}
 use mathlib.Core.Path.{◌≡◌, refl, sym, ap, ◌∙◌}
 use mathlib.Core.List.{List, [], ◌∷◌}
@@ -16,8 +17,6 @@ use Rattle.text.specs.Line.{LineSaid, line, none, fault, Form, line_by, ident_fo
 use Rattle.text.specs.File.{Before, after, unless, fault_of}
 use Rattle.text.proofs.Places.{line-moves}
 use Rattle.text.proofs.Files.{left, left-start, left-none, left-bad, left-good}
-use Rattle.lists.specs.declared.Listed.{Listed}
-use Rattle.lists.specs.declared.Listed.TheVariants.{Lines, Refused}
 use Rattle.lists.specs.declared.vertices.Vertices.{Vertices}
 use Rattle.lists.specs.declared.vertices.VertexStep.{VertexStep}
 use Rattle.lists.specs.declared.vertices.VertexStep.TheVariants as VS
@@ -143,16 +142,16 @@ module _ (s : List ℕ) (most : ℕ) (ids₀ : List ℤ) where
     pub listing-less : (d : Vertices) → x ≡ VS.More d → length s - d.at.at < length s - c.at.at
     listing-less d e = let m = listing-moved d e in omega (arith, m.onward, m.within)
 
-    pub listing-stop : (out : Listed) → x ≡ VS.Stop out → ids_left out ids ≡ mapped (ids_into ids₀ 0) (identifiers most s)
+    pub listing-stop : (out : Result ℕ Refusal) → x ≡ VS.Stop out → ids_left out ids ≡ mapped (ids_into ids₀ 0) (identifiers most s)
     unfolding vertex_step
     listing-stop out e = go out (ap vertex_step_says (sym e) ∙ told)
       where
-        go : (out : Listed) → vertex_step_says (VS.Stop out) ≡ vertex_step s most c
+        go : (out : Result ℕ Refusal) → vertex_step_says (VS.Stop out) ≡ vertex_step s most c
             → ids_left out ids ≡ mapped (ids_into ids₀ 0) (identifiers most s)
-        go (Lines n) e =
+        go (Ok n) e =
             let l = left-lines ident_form vertex_file most vertex_test s c.lines (before_by c.lines c.last) c.at.at n e in
             (let a = l.0 in let b = add-zero c.lines in cc) ∙ ap (mapped (ids_into ids c.lines)) (sym l.1) ∙ r.same
-        go (Refused o) e =
+        go (Err o) e =
             ap (mapped (ids_into ids c.lines)) (sym
             (left-refused ident_form vertex_file most vertex_test s c.lines (before_by c.lines c.last) c.at.at o r.low e))
             ∙ r.same

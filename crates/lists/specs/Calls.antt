@@ -4,14 +4,7 @@ use Rattle.basis.specs.Refusal.{Said, gives, refuses, mapped}
 use Rattle.basis.specs.Area.{area_of}
 use Rattle.graph.specs.declared.find.Found.{Found}
 use Rattle.graph.specs.Arcs.{seconds, bumps}
-use Rattle.lists.specs.declared.Listed.{Listed}
-use Rattle.lists.specs.declared.Listed.TheVariants.{Lines, Refused}
 use Rattle.lists.specs.Files.{identifiers, edges_of, all_numbered}
-
--- how many lines a file has, or why it was refused
-abbrev pub listed_says : Listed → Said ℕ
-listed_says (Lines n) = gives n
-listed_says (Refused r) = refuses r
 
 -- what the reading of a vertex file answers, and what stands in the area of identifiers then
 pub record VerticesRead : Type 0 where

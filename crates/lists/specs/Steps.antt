@@ -1,16 +1,15 @@
 -- What the loops over a file's lines do with one line, and what they keep.
-use Rattle.std.specs.Prelude.{ℕ, zero, suc, ◌+◌, Bool, cond, ◌&&◌, List, ℤ, length, ltb}
+use Rattle.std.specs.Prelude.{ℕ, Result, Ok, Err, zero, suc, ◌+◌, Bool, cond, ◌&&◌, List, ℤ, length, ltb}
 use Rattle.std.proofs.lemmas.List.Edits.{sets}
 use Rattle.std.specs.Int.Signed.{lt_z}
-use Rattle.basis.specs.Refusal.{Said, gives, refuses, at, mapped, not_above, self_edge, larger_first, vertex_file, edge_file}
+use Rattle.basis.specs.declared.refusal.Refusal.{Refusal}
+use Rattle.basis.specs.Refusal.{Said, said, gives, refuses, at, mapped, not_above, self_edge, larger_first, vertex_file, edge_file}
 use Rattle.basis.specs.Order.{same_z}
 use Rattle.text.specs.Line.{LineSaid, line, none, fault, vertex_line, edge_line}
 use Rattle.text.specs.File.{Before, first, after, fault_of, bad_at}
 use Rattle.graph.specs.Arcs.{Arc, seconds, bumps}
 use Rattle.graph.specs.declared.find.Found.{Found}
 use Rattle.graph.specs.declared.find.Found.TheVariants.{At, Missing}
-use Rattle.lists.specs.declared.Listed.{Listed}
-use Rattle.lists.specs.declared.Listed.TheVariants.{Lines, Refused}
 use Rattle.lists.specs.declared.vertices.Vertices.{Vertices}
 use Rattle.lists.specs.declared.vertices.VertexStep.{VertexStep}
 use Rattle.lists.specs.declared.vertices.VertexStep.TheVariants as VS
@@ -19,7 +18,6 @@ use Rattle.lists.specs.declared.edges.Ends.{Ends}
 use Rattle.lists.specs.declared.edges.Ends.TheVariants as EN
 use Rattle.lists.specs.declared.edges.EdgeStep.{EdgeStep}
 use Rattle.lists.specs.declared.edges.EdgeStep.TheVariants as ES
-use Rattle.lists.specs.Calls.{listed_says}
 use Rattle.lists.specs.Files.{vertex_test, is_above, edge_test, edges_of, numbered, all_numbered}
 
 -- a line more: its values, the place past it and the lines so far; or the end of the reading
@@ -50,16 +48,16 @@ vertex_step s most c = step_by vertex_file most vertex_test c.lines (before_by c
 -- the code's answer as a step: the identifier, the place past its line and the lines so far, or the end of the reading
 abbrev pub vertex_step_says : VertexStep → LineStep ℤ
 vertex_step_says (VS.More d) = more d.last d.at.at d.lines
-vertex_step_says (VS.Stop r) = stop (listed_says r)
+vertex_step_says (VS.Stop r) = stop (said r)
 
 -- what the identifiers leave behind: their count, and an area with them at its front, as far as there is room
 abbrev pub ids_into : List ℤ → ℕ → List ℤ → ℕ × List ℤ
 ids_into area k ids = (k + length ids, sets area k ids)
 
 -- the code's answer and the area as it stands: the count with the area, or the refusal alone
-abbrev pub ids_left : Listed → List ℤ → Said (ℕ × List ℤ)
-ids_left (Lines n) area = gives (n, area)
-ids_left (Refused r) area = refuses r
+abbrev pub ids_left : Result ℕ Refusal → List ℤ → Said (ℕ × List ℤ)
+ids_left (Ok n) area = gives (n, area)
+ids_left (Err r) area = refuses r
 
 -- the edge that a reader passed last, by its two identifiers
 abbrev pub pair_of : Edges → ℤ × ℤ
@@ -104,7 +102,7 @@ numbered_step undirected most place s c = with_numbers place (edge_step undirect
 -- reading
 abbrev pub edge_step_says : EdgeStep → LineStep ((ℤ × ℤ) × Arc)
 edge_step_says (ES.More u v d) = more (pair_of d, (u, v)) d.at.at d.lines
-edge_step_says (ES.Stop r) = stop (listed_says r)
+edge_step_says (ES.Stop r) = stop (said r)
 
 -- what edges leave behind: their count, one more for each at its first end, and an area with their second ends at its front, as far as
 -- there is room
@@ -120,6 +118,6 @@ abbrev pub edges_scanned : Bool → ℕ → (ℤ → Found) → List ℕ → Lis
 edges_scanned undirected most place s counts targets = mapped (numbered_into place counts targets 0) (edges_of undirected most place s)
 
 -- the code's answer and the two areas as they stand: the count with the areas, or the refusal alone
-abbrev pub edges_left : Listed → List ℕ → List ℕ → Said (ℕ × List ℕ × List ℕ)
-edges_left (Lines n) counts targets = gives (n, counts, targets)
-edges_left (Refused r) counts targets = refuses r
+abbrev pub edges_left : Result ℕ Refusal → List ℕ → List ℕ → Said (ℕ × List ℕ × List ℕ)
+edges_left (Ok n) counts targets = gives (n, counts, targets)
+edges_left (Err r) counts targets = refuses r

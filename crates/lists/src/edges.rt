@@ -2,12 +2,13 @@
 ghost use Rattle.std.specs.Prelude.{◌≡◌, ◌&&◌, ◌+◌, ◌-◌, ◌<◌, ◌^◌, length, set};
 ghost use Rattle.std.specs.Int.Signed.{lt_z};
 ghost use Rattle.basis.specs.Area.{cleared};
+ghost use Rattle.basis.specs.Refusal.{said};
 ghost use Rattle.graph.specs.Find.{bisected};
 ghost use Rattle.lists.specs.Files.{is_above};
-ghost use Rattle.lists.specs.Calls.{listed_says, edge_outcome, edge_call};
+ghost use Rattle.lists.specs.Calls.{edge_outcome, edge_call};
 ghost use Rattle.lists.specs.Steps.{before_by, order_fault, looked_by, ends_says, numbered_step, edge_step_says, edges_scanned, edges_left};
 
-use crate::{Listed, bad_line, limited};
+use crate::{bad_line, limited};
 use basis::Refusal;
 use basis::area::{clear, number_at};
 use basis::order::{less, same};
@@ -35,7 +36,7 @@ enum Ends {
 #[derive(Drop)]
 enum EdgeStep {
     More(usize, usize, Edges),
-    Stop(Listed),
+    Stop(Result<usize, Refusal>),
 }
 
 // Undirected, and the first number is the larger.
@@ -106,18 +107,18 @@ fn edge_step(s: &[u8], most: usize, undirected: bool, ids: &[i64], c: Edges) -> 
     let k = c.lines;
     let line = place.edge(s);
     match line {
-        EdgeLine::End(_) => EdgeStep::Stop(Listed::Lines(k)),
+        EdgeLine::End(_) => EdgeStep::Stop(Ok(k)),
         EdgeLine::Fault(n, column, _) => {
-            EdgeStep::Stop(Listed::Refused(bad_line(EDGE_FILE, most, k, n, column)))
+            EdgeStep::Stop(Err(bad_line(EDGE_FILE, most, k, n, column)))
         }
         EdgeLine::Line(a, b, next) => {
             let fault = limited(most, k, order_fault(undirected, k, c.first, c.second, a, b));
             if fault != 0 {
-                return EdgeStep::Stop(Listed::Refused(Refusal::at(fault, EDGE_FILE, k + 1)));
+                return EdgeStep::Stop(Err(Refusal::at(fault, EDGE_FILE, k + 1)));
             }
             let joined = look_up(ids, a, b);
             match joined {
-                Ends::Unknown => EdgeStep::Stop(Listed::Refused(Refusal::at(
+                Ends::Unknown => EdgeStep::Stop(Err(Refusal::at(
                     UNKNOWN_VERTEX,
                     EDGE_FILE,
                     k + 1,
@@ -154,7 +155,7 @@ fn scan_edges(
     ids: &[i64],
     counts: &mut [usize],
     targets: &mut [usize],
-) -> Listed
+) -> Result<usize, Refusal>
     requires { counts.old ≡ cleared counts.old }
     ensures { edges_left result counts.new targets.new
         ≡ edges_scanned undirected most (bisected ids.now) s.now counts.old targets.old }
@@ -190,8 +191,8 @@ pub fn read_edges(
     ids: &[i64],
     counts: &mut [usize],
     targets: &mut [usize],
-) -> Listed
-    ensures { edge_outcome (listed_says result) counts.new targets.new
+) -> Result<usize, Refusal>
+    ensures { edge_outcome (said result) counts.new targets.new
         ≡ edge_call undirected most (bisected ids.now) s.now
         (length counts.old) (length targets.old) }
 {
@@ -199,11 +200,11 @@ pub fn read_edges(
     clear(targets);
     let listed = scan_edges(s, most, undirected, ids, counts, targets);
     match listed {
-        Listed::Lines(n) => Listed::Lines(n),
-        Listed::Refused(r) => {
+        Ok(n) => Ok(n),
+        Err(r) => {
             clear(counts);
             clear(targets);
-            Listed::Refused(r)
+            Err(r)
         }
     }
 }

@@ -11,13 +11,6 @@ ghost use Rattle.text.specs.File.{bad_at};
 use basis::Refusal;
 use basis::refusal::TOO_MANY;
 
-// How many lines a file has, or why it was refused.
-#[derive(Drop)]
-pub enum Listed {
-    Lines(usize),
-    Refused(Refusal),
-}
-
 // The refusal of a line after k others of a file, by the number and the column of its form or range: too many lines come before it.
 pub(crate) fn bad_line(file: usize, most: usize, k: usize, number: usize, column: usize) -> Refusal
     requires { k < 2 ^ 64 - 1 }

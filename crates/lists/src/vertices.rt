@@ -1,14 +1,14 @@
 // The vertex file, line by line.
 ghost use Rattle.std.specs.Prelude.{◌≡◌, ◌+◌, ◌-◌, ◌<◌, ◌^◌, length, set};
-ghost use Rattle.basis.specs.Refusal.{vertex_file, mapped};
+ghost use Rattle.basis.specs.Refusal.{said, vertex_file, mapped};
 ghost use Rattle.text.specs.File.{fault_of};
 ghost use Rattle.lists.specs.Files.{vertex_test, identifiers};
-ghost use Rattle.lists.specs.Calls.{listed_says, vertex_outcome, vertex_call};
+ghost use Rattle.lists.specs.Calls.{vertex_outcome, vertex_call};
 ghost use Rattle.lists.specs.Steps.{before_by, vertex_step, vertex_step_says, ids_into, ids_left};
 
-use crate::{Listed, bad_line};
+use crate::bad_line;
 use basis::Refusal;
-use basis::area::clear_signed;
+use basis::area::clear;
 use basis::order::less;
 use basis::refusal::{NOT_ABOVE, TOO_MANY, VERTEX_FILE};
 use text::line::{Cursor, VertexLine};
@@ -25,7 +25,7 @@ struct Vertices {
 #[derive(Drop)]
 enum VertexStep {
     More(Vertices),
-    Stop(Listed),
+    Stop(Result<usize, Refusal>),
 }
 
 // The fault of a vertex line z after k lines, or 0.
@@ -54,14 +54,14 @@ fn vertex_step(s: &[u8], most: usize, c: Vertices) -> VertexStep
     let last = c.last;
     let line = place.vertex(s);
     match line {
-        VertexLine::End(_) => VertexStep::Stop(Listed::Lines(k)),
+        VertexLine::End(_) => VertexStep::Stop(Ok(k)),
         VertexLine::Fault(n, column, _) => {
-            VertexStep::Stop(Listed::Refused(bad_line(VERTEX_FILE, most, k, n, column)))
+            VertexStep::Stop(Err(bad_line(VERTEX_FILE, most, k, n, column)))
         }
         VertexLine::Line(z, next) => {
             let fault = vertex_fault(most, k, last, z);
             if fault != 0 {
-                return VertexStep::Stop(Listed::Refused(Refusal::at(fault, VERTEX_FILE, k + 1)));
+                return VertexStep::Stop(Err(Refusal::at(fault, VERTEX_FILE, k + 1)));
             }
             VertexStep::More(Vertices {
                 at: next,
@@ -82,7 +82,7 @@ fn put_id(ids: &mut [i64], i: usize, z: i64)
 }
 
 // The identifiers of a vertex file, stored from the front of an area.
-fn scan_vertices(s: &[u8], most: usize, ids: &mut [i64]) -> Listed
+fn scan_vertices(s: &[u8], most: usize, ids: &mut [i64]) -> Result<usize, Refusal>
     ensures { ids_left result ids.new ≡ mapped (ids_into ids.old 0) (identifiers most s.now) }
 {
     let mut c = Vertices {
@@ -106,16 +106,16 @@ fn scan_vertices(s: &[u8], most: usize, ids: &mut [i64]) -> Listed
 
 // The identifiers of a vertex file of at most so many lines, as far as there is room for them; zeros behind them, and throughout where
 // the file is refused.
-pub fn read_vertices(s: &[u8], most: usize, ids: &mut [i64]) -> Listed
-    ensures { vertex_outcome (listed_says result) ids.new ≡ vertex_call most s.now (length ids.old) }
+pub fn read_vertices(s: &[u8], most: usize, ids: &mut [i64]) -> Result<usize, Refusal>
+    ensures { vertex_outcome (said result) ids.new ≡ vertex_call most s.now (length ids.old) }
 {
-    clear_signed(ids);
+    clear(ids);
     let listed = scan_vertices(s, most, ids);
     match listed {
-        Listed::Lines(n) => Listed::Lines(n),
-        Listed::Refused(r) => {
-            clear_signed(ids);
-            Listed::Refused(r)
+        Ok(n) => Ok(n),
+        Err(r) => {
+            clear(ids);
+            Err(r)
         }
     }
 }

@@ -1,4 +1,5 @@
 -- Laws of storing the edges of a file: both pairs of areas as the edges say. Assumes nothing.
+use Rattle.std.specs.Prelude.{Result, Ok, Err}
 use Prim.Native.Nat.{ℕ, ◌+◌, ◌-◌, ◌≤◌, ◌<◌}
 use mathlib.Core.Path.{◌≡◌, refl, sym, ap, ap₂, ◌∙◌}
 use mathlib.Core.Bool.{Bool, true, false}
@@ -10,7 +11,7 @@ use lib.ListN.{length, take, drop, replicate}
 use lib.Seq.{take_all}
 use lib.Dec.{leb, ltb}
 use lib.IntN.{ℤ}
-use Rattle.basis.specs.Refusal.{Said, gives, refuses, plain, no_room, mapped}
+use Rattle.basis.specs.Refusal.{Said, said, gives, refuses, plain, no_room, mapped}
 use Rattle.basis.specs.declared.refusal.Refusal.{Refusal}
 use Rattle.basis.specs.Area.{pad}
 use Rattle.basis.specs.Scan.{each}
@@ -27,10 +28,8 @@ use Rattle.store.proofs.Passes.{length-backward}
 use Rattle.store.proofs.Fits.{arc-count}
 use Rattle.store.proofs.Order.{Valid, valid-ends}
 use Rattle.store.proofs.Built.{offsets-length, parts-seconds, held-built}
-use Rattle.lists.specs.declared.Listed.{Listed}
-use Rattle.lists.specs.declared.Listed.TheVariants.{Lines, Refused}
 use Rattle.lists.specs.Files.{edges_of, all_numbered}
-use Rattle.lists.specs.Calls.{listed_says, EdgesRead, edge_outcome, counts_area, targets_area, edge_call}
+use Rattle.lists.specs.Calls.{EdgesRead, edge_outcome, counts_area, targets_area, edge_call}
 use Rattle.lists.proofs.Lookups.{same_edges, same-numbered, length-numbered}
 use Rattle.load.specs.Load.{arc_room, listed_arcs}
 use Rattle.load.specs.Steps.{edges_read, Arranged, arranged, arranged_by, Storing}
@@ -70,7 +69,7 @@ sums-offsets l n size h b f =
 
 -- ---- the edges of a file, read into the areas fo and ft, which hold c and t then
 module _ (undirected : Bool) (most : ℕ) (ids : List ℤ) (s : List ℕ) (fo ft to tt : List ℕ) (storing : Storing ids fo to)
-    (x : Listed) (c t : List ℕ) (told : edge_outcome (listed_says x) c t
+    (x : Result ℕ Refusal) (c t : List ℕ) (told : edge_outcome (said x) c t
     ≡ edge_call undirected most (bisected ids) s (length fo) (length ft)) where
   abbrev n : ℕ
   n = length ids
@@ -79,16 +78,16 @@ module _ (undirected : Bool) (most : ℕ) (ids : List ℤ) (s : List ℕ) (fo ft
   result = mapped (arranged_by undirected n (length fo) (length ft) (length to) (length tt))
       (edges_read undirected most ids s (length ft) (length tt))
 
-  answered : (r : Said ℕ) → listed_says x ≡ r → r ≡ mapped length (edges_of undirected most (place_in ids) s)
+  answered : (r : Said ℕ) → said x ≡ r → r ≡ mapped length (edges_of undirected most (place_in ids) s)
   answered r q = sym q ∙ ap (λ (y : EdgesRead). y.answer) told ∙ ap (mapped length) (same_edges ids storing.rise undirected most s)
 
-  pub arrange-refused : (r : Refusal) → x ≡ Refused r → refuses r ≡ result
+  pub arrange-refused : (r : Refusal) → x ≡ Err r → refuses r ≡ result
   unfolding edges_read
-  arrange-refused r q = rw (mapped-refuses length (edges_of undirected most (place_in ids) s) r (answered (refuses r) (ap listed_says q)))
+  arrange-refused r q = rw (mapped-refuses length (edges_of undirected most (place_in ids) s) r (answered (refuses r) (ap said q)))
 
-  module _ (m : ℕ) (q : x ≡ Lines m) where
+  module _ (m : ℕ) (q : x ≡ Ok m) where
     taken : (es : List (ℤ × ℤ)) × (edges_of undirected most (place_in ids) s ≡ gives es) × (m ≡ length es)
-    taken = mapped-gives length (edges_of undirected most (place_in ids) s) m (answered (gives m) (ap listed_says q))
+    taken = mapped-gives length (edges_of undirected most (place_in ids) s) m (answered (gives m) (ap said q))
 
     abbrev es : List Arc
     es = all_numbered (place_in ids) taken.0

@@ -1,5 +1,6 @@
 -- Laws of the four areas of a graph: a directed file's edges as they were arranged, an undirected file's arcs the same both ways.
 -- Assumes nothing.
+use Rattle.std.specs.Prelude.{Result, Ok, Err}
 use Prim.Native.Nat.{ℕ, suc, ◌+◌, ◌-◌, ◌≤◌, ◌<◌}
 use mathlib.Core.Path.{◌≡◌, refl, sym, ap, ap₂, subst, ◌∙◌}
 use mathlib.Core.Bool.{Bool, true, false}
@@ -26,8 +27,6 @@ use Rattle.store.proofs.Arcs.{start-length}
 use Rattle.store.proofs.Passes.{below_in, length-backward}
 use Rattle.store.proofs.Order.{Valid, valid-ends}
 use Rattle.store.proofs.Built.{offsets-length, both-parts, parts-seconds}
-use Rattle.lists.specs.declared.Listed.{Listed}
-use Rattle.lists.specs.declared.Listed.TheVariants.{Lines, Refused}
 use Rattle.lists.specs.Files.{edges_of, all_numbered}
 use Rattle.load.specs.Load.{arc_room, with_room, listed_arcs, arcs_read}
 use Rattle.load.specs.Steps.{edges_read, Arranged, arranged, arranged_by, arranged_left, Filled, filled, filled_by}
@@ -111,9 +110,9 @@ arcs-one : (es : List Arc) → arcs false es ≡ es
 arcs-one [] = refl
 arcs-one (e ∷ es) = ap (λ (l : List Arc). e ∷ l) (arcs-one es)
 
-module _ (most : ℕ) (ids : List ℤ) (s : List ℕ) (lo lt li ls : ℕ) (x : Listed) (o t b u : List ℕ)
+module _ (most : ℕ) (ids : List ℤ) (s : List ℕ) (lo lt li ls : ℕ) (x : Result ℕ Refusal) (o t b u : List ℕ)
     (told : arranged_left x o t b u ≡ mapped (arranged_by false (length ids) lo lt li ls) (edges_read false most ids s lt ls)) where
-  pub directed-refused : (r : Refusal) → x ≡ Refused r
+  pub directed-refused : (r : Refusal) → x ≡ Err r
       → refuses r ≡ mapped (filled_by (length ids) lo lt li ls) (arcs_read false most ids s lt ls)
   directed-refused r q =
       rw (
@@ -122,7 +121,7 @@ module _ (most : ℕ) (ids : List ℤ) (s : List ℕ) (lo lt li ls : ℕ) (x : L
             (ap (λ y. arranged_left y o t b u) (sym q) ∙ told),
       )
 
-  pub directed-lines : (m : ℕ) → x ≡ Lines m → gives (filled (record { vertices = length ids; arcs = m }) o t b u)
+  pub directed-lines : (m : ℕ) → x ≡ Ok m → gives (filled (record { vertices = length ids; arcs = m }) o t b u)
       ≡ mapped (filled_by (length ids) lo lt li ls) (arcs_read false most ids s lt ls)
   directed-lines m q =
       let g = mapped-gives (arranged_by false (length ids) lo lt li ls) (edges_read false most ids s lt ls) (arranged m o t b u)
@@ -155,7 +154,7 @@ copy-pad xs ys a b k e h room =
     copied-first k (pad a xs) (pad b ys) p q ∙ pad-front xs ys a b k e h
 
 -- ---- an undirected file, arranged in the inward areas i, j and the outward areas o, t
-module _ (most : ℕ) (ids : List ℤ) (s : List ℕ) (lo lt li ls : ℕ) (rise : rising_z ids ≡ true) (x : Listed) (i j o t : List ℕ)
+module _ (most : ℕ) (ids : List ℤ) (s : List ℕ) (lo lt li ls : ℕ) (rise : rising_z ids ≡ true) (x : Result ℕ Refusal) (i j o t : List ℕ)
     (told : arranged_left x i j o t ≡ mapped (arranged_by true (length ids) li ls lo lt) (edges_read true most ids s ls lt)) where
   abbrev n : ℕ
   n = length ids
@@ -163,7 +162,7 @@ module _ (most : ℕ) (ids : List ℤ) (s : List ℕ) (lo lt li ls : ℕ) (rise 
   swapped : arcs_read true most ids s lt ls ≡ mapped (arcs true) (edges_read true most ids s ls lt)
   swapped = arcs-edges true most ids s lt ls ∙ ap (mapped (arcs true)) (edges-swap true most ids s lt ls)
 
-  pub undirected-refused : (r : Refusal) → x ≡ Refused r → refuses r ≡ mapped (filled_by n lo lt li ls) (arcs_read true most ids s lt ls)
+  pub undirected-refused : (r : Refusal) → x ≡ Err r → refuses r ≡ mapped (filled_by n lo lt li ls) (arcs_read true most ids s lt ls)
   undirected-refused r q =
       rw (
         swapped,
@@ -171,7 +170,7 @@ module _ (most : ℕ) (ids : List ℤ) (s : List ℕ) (lo lt li ls : ℕ) (rise 
             (ap (λ y. arranged_left y i j o t) (sym q) ∙ told),
       )
 
-  module _ (m : ℕ) (q : x ≡ Lines m) where
+  module _ (m : ℕ) (q : x ≡ Ok m) where
     given : (es : List Arc) × (edges_read true most ids s ls lt ≡ gives es) × (arranged m i j o t ≡ arranged_by true n li ls lo lt es)
     given = mapped-gives (arranged_by true n li ls lo lt) (edges_read true most ids s ls lt) (arranged m i j o t)
         (ap (λ y. arranged_left y i j o t) (sym q) ∙ told)

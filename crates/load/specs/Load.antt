@@ -1,20 +1,13 @@
 -- 01 "Lists", "The loaded graph": what a load answers, and what stands in the five areas then.
 use Rattle.std.specs.Prelude.{ℕ, ◌+◌, min, Bool, ◌&&◌, List, ℤ, pos, length, eqb, leb, ltb}
-use Rattle.basis.specs.Refusal.{Said, gives, refuses, no_room, unknown_number, onward, mapped, check}
+use Rattle.basis.specs.Refusal.{Said, gives, no_room, unknown_number, onward, mapped, check}
 use Rattle.basis.specs.Area.{area_of}
 use Rattle.basis.specs.Limits.{most_vertices, most_edges, desk_vertices, desk_edges}
 use Rattle.graph.specs.declared.Size.{Size}
 use Rattle.graph.specs.Find.{place_in}
 use Rattle.graph.specs.Arcs.{Arc, arcs, backward, parts, offsets}
 use Rattle.load.specs.declared.Limits.{Limits}
-use Rattle.load.specs.declared.Loaded.{Loaded}
-use Rattle.load.specs.declared.Loaded.TheVariants as L
 use Rattle.lists.specs.Files.{identifiers, edges_of, all_numbered}
-
--- "a definition that gives this paper's number and values for each of its cases"
-abbrev pub says : Loaded → Said Size
-says (L.Graph size) = gives size
-says (L.Refused r) = refuses r
 
 -- what two files say: the identifiers, and the arcs between vertex numbers
 pub record Lists : Type 0 where

@@ -1,5 +1,6 @@
 -- What the functions of a load leave behind.
-use Rattle.std.specs.Prelude.{ℕ, ◌<◌, ◌≡◌, Bool, true, List, ℤ, length}
+use Rattle.std.specs.Prelude.{ℕ, Result, Ok, Err, ◌<◌, ◌≡◌, Bool, true, List, ℤ, length}
+use Rattle.basis.specs.declared.refusal.Refusal.{Refusal}
 use Rattle.basis.specs.Refusal.{Said, gives, refuses, onward, mapped}
 use Rattle.basis.specs.Order.{rising_z}
 use Rattle.basis.specs.Area.{cleared, cleared_z, pad}
@@ -7,12 +8,8 @@ use Rattle.graph.specs.declared.Size.{Size}
 use Rattle.graph.specs.Find.{place_in}
 use Rattle.graph.specs.Arcs.{Arc, backward, parts, offsets}
 use Rattle.store.specs.Held.{in_arcs}
-use Rattle.lists.specs.declared.Listed.{Listed}
-use Rattle.lists.specs.declared.Listed.TheVariants.{Lines, Refused}
 use Rattle.lists.specs.Files.{edges_of, all_numbered}
 use Rattle.load.specs.declared.Limits.{Limits}
-use Rattle.load.specs.declared.Loaded.{Loaded}
-use Rattle.load.specs.declared.Loaded.TheVariants as L
 use Rattle.load.specs.Load.{Lists, Room, arc_room, with_room, listed_arcs, arcs_read, loaded, Outcome, outcome, outcome_of}
 
 -- ---- edges stored by their first ends, and their arcs the other way
@@ -47,9 +44,9 @@ arranged_call undirected most ids s o t b u =
     (edges_read undirected most ids s (length t) (length u))
 
 -- the answer of the storing and the four areas as they stand: the count of edges with the areas, or the refusal alone
-abbrev pub arranged_left : Listed → List ℕ → List ℕ → List ℕ → List ℕ → Said Arranged
-arranged_left (Lines m) o t b u = gives (arranged m o t b u)
-arranged_left (Refused r) o t b u = refuses r
+abbrev pub arranged_left : Result ℕ Refusal → List ℕ → List ℕ → List ℕ → List ℕ → Said Arranged
+arranged_left (Ok m) o t b u = gives (arranged m o t b u)
+arranged_left (Err r) o t b u = refuses r
 
 -- what the storing of edges asks for: identifiers that rise, and places for their offsets
 pub record Storing (ids : List ℤ) (o b : List ℕ) : Type 0 where
@@ -82,9 +79,9 @@ filled_call undirected most ids s oo ot io is =
     (arcs_read undirected most ids s (length ot) (length is))
 
 -- the answer of the filling and the four areas as they stand: the size with the areas, or the refusal alone
-abbrev pub filled_left : Loaded → List ℕ → List ℕ → List ℕ → List ℕ → Said Filled
-filled_left (L.Graph size) oo ot io is = gives (filled size oo ot io is)
-filled_left (L.Refused r) oo ot io is = refuses r
+abbrev pub filled_left : Result Size Refusal → List ℕ → List ℕ → List ℕ → List ℕ → Said Filled
+filled_left (Ok size) oo ot io is = gives (filled size oo ot io is)
+filled_left (Err r) oo ot io is = refuses r
 
 -- a load's outcome where it gives a graph, in areas of these lengths
 abbrev pub outcome_by : Room → Lists → Outcome
@@ -95,9 +92,9 @@ abbrev pub filled_load : Limits → ℕ → Room → List ℕ → List ℕ → S
 filled_load limits mode room vertices edges = mapped (outcome_by room) (loaded limits mode room vertices edges)
 
 -- a load's answer and the five areas as they stand: the outcome of a graph of that size, or the refusal alone
-abbrev pub outcome_left : Loaded → List ℤ → List ℕ → List ℕ → List ℕ → List ℕ → Said Outcome
-outcome_left (L.Graph size) ids oo ot io is = gives (outcome (gives size) ids oo ot io is)
-outcome_left (L.Refused r) ids oo ot io is = refuses r
+abbrev pub outcome_left : Result Size Refusal → List ℤ → List ℕ → List ℕ → List ℕ → List ℕ → Said Outcome
+outcome_left (Ok size) ids oo ot io is = gives (outcome (gives size) ids oo ot io is)
+outcome_left (Err r) ids oo ot io is = refuses r
 
 -- five areas that were cleared
 pub record Emptied (ids : List ℤ) (oo ot io is : List ℕ) (ids' : List ℤ) (oo' ot' io' is' : List ℕ) : Type 0 where

@@ -1,14 +1,14 @@
 // The graph of two files in five areas: the identifiers as they are read, then the edges, outward and inward.
-ghost use Rattle.std.specs.Prelude.{◌≡◌, true, false};
-ghost use Rattle.load.specs.Load.{vertex_room, room_in};
+ghost use Rattle.std.specs.Prelude.{◌≡◌, true, false, leb};
+ghost use Rattle.basis.specs.Refusal.{said, unknown_number, check, gives};
+ghost use Rattle.load.specs.Load.{is_undirected, vertex_room, room_in};
 ghost use Rattle.load.specs.Steps.{Storing, arranged_call, arranged_left, filled_call, filled_left, filled_load, outcome_left};
 
-use crate::{Limits, Loaded};
+use crate::Limits;
 use basis::Refusal;
 use basis::area::copy;
 use basis::refusal::{NO_ROOM, UNKNOWN_NUMBER};
 use graph::Size;
-use lists::Listed;
 use lists::edges::read_edges;
 use lists::vertices::read_vertices;
 use store::spread::{lacks, spread};
@@ -24,28 +24,20 @@ fn arrange(
     targets: &mut [usize],
     back: &mut [usize],
     sources: &mut [usize],
-) -> Listed
+) -> Result<usize, Refusal>
     requires { Storing ids.now offsets.old back.old }
     ensures { arranged_left result offsets.new targets.new back.new sources.new
         ≡ arranged_call undirected most ids.now s.now
         offsets.old targets.old back.old sources.old }
 {
     let n = ids.len();
-    let listed = read_edges(s, most, undirected, ids, offsets, targets);
-    match listed {
-        Listed::Refused(r) => Listed::Refused(r),
-        Listed::Lines(m) => {
-            if lacks(targets.len(), m, undirected) {
-                return Listed::Refused(Refusal::plain(NO_ROOM));
-            }
-            if lacks(sources.len(), m, undirected) {
-                return Listed::Refused(Refusal::plain(NO_ROOM));
-            }
-            sum_up(offsets, n + 1);
-            spread(back, sources, offsets, targets, undirected, n);
-            Listed::Lines(m)
-        }
+    let m = read_edges(s, most, undirected, ids, offsets, targets)?;
+    if lacks(targets.len(), m, undirected) || lacks(sources.len(), m, undirected) {
+        return Err(Refusal::plain(NO_ROOM));
     }
+    sum_up(offsets, n + 1);
+    spread(back, sources, offsets, targets, undirected, n);
+    Ok(m)
 }
 
 // The arcs of a directed edge file: outward as they are read, inward the other way round.
@@ -57,14 +49,14 @@ fn fill_directed(
     out_targets: &mut [usize],
     in_offsets: &mut [usize],
     in_sources: &mut [usize],
-) -> Loaded
+) -> Result<Size, Refusal>
     requires { Storing ids.now out_offsets.old in_offsets.old }
     ensures { filled_left result out_offsets.new out_targets.new in_offsets.new in_sources.new
         ≡ filled_call false most ids.now s.now
         out_offsets.old out_targets.old in_offsets.old in_sources.old }
 {
-    let n = ids.len();
-    let listed = arrange(
+    let vertices = ids.len();
+    let arcs = arrange(
         s,
         most,
         false,
@@ -73,14 +65,8 @@ fn fill_directed(
         out_targets,
         in_offsets,
         in_sources,
-    );
-    match listed {
-        Listed::Refused(r) => Loaded::Refused(r),
-        Listed::Lines(m) => Loaded::Graph(Size {
-            vertices: n,
-            arcs: m,
-        }),
-    }
+    )?;
+    Ok(Size { vertices, arcs })
 }
 
 // The arcs of an undirected edge file: read into the inward areas, both arcs of every edge stored outward, and the same inward.
@@ -92,14 +78,14 @@ fn fill_undirected(
     out_targets: &mut [usize],
     in_offsets: &mut [usize],
     in_sources: &mut [usize],
-) -> Loaded
+) -> Result<Size, Refusal>
     requires { Storing ids.now out_offsets.old in_offsets.old }
     ensures { filled_left result out_offsets.new out_targets.new in_offsets.new in_sources.new
         ≡ filled_call true most ids.now s.now
         out_offsets.old out_targets.old in_offsets.old in_sources.old }
 {
-    let n = ids.len();
-    let listed = arrange(
+    let vertices = ids.len();
+    let m = arrange(
         s,
         most,
         true,
@@ -108,16 +94,11 @@ fn fill_undirected(
         in_sources,
         out_offsets,
         out_targets,
-    );
-    match listed {
-        Listed::Refused(r) => Loaded::Refused(r),
-        Listed::Lines(m) => {
-            let arcs = m + m;
-            copy(out_offsets, n + 1, in_offsets);
-            copy(out_targets, arcs, in_sources);
-            Loaded::Graph(Size { vertices: n, arcs })
-        }
-    }
+    )?;
+    let arcs = m + m;
+    copy(out_offsets, vertices + 1, in_offsets);
+    copy(out_targets, arcs, in_sources);
+    Ok(Size { vertices, arcs })
 }
 
 // The arcs of an edge file.
@@ -130,7 +111,7 @@ fn store_edges(
     out_targets: &mut [usize],
     in_offsets: &mut [usize],
     in_sources: &mut [usize],
-) -> Loaded
+) -> Result<Size, Refusal>
     requires { Storing ids.now out_offsets.old in_offsets.old }
     ensures { filled_left result out_offsets.new out_targets.new in_offsets.new in_sources.new
         ≡ filled_call undirected most ids.now s.now
@@ -162,19 +143,22 @@ fn store_edges(
 fn has_places(n: usize, ids: usize, out_offsets: usize, in_offsets: usize) -> bool
     ensures { result ≡ vertex_room ids out_offsets in_offsets n }
 {
-    if ids < n {
-        return false;
+    n <= ids && n < out_offsets && n < in_offsets
+}
+
+// Whether a load of that mode is undirected.
+fn is_undirected(mode: usize) -> Result<bool, Refusal>
+    ensures { said result ≡ check (leb mode 1) unknown_number (gives (is_undirected mode)) }
+{
+    match mode {
+        0 => Ok(true),
+        1 => Ok(false),
+        _ => Err(Refusal::plain(UNKNOWN_NUMBER)),
     }
-    if out_offsets <= n {
-        return false;
-    }
-    if in_offsets <= n {
-        return false;
-    }
-    true
 }
 
 // The graph of two files in five areas; where it is refused, what stands in them is of no use.
+// Stays: the five lent areas apart. A struct of five `&mut` slices needs a ghost name for each in every function that it is passed to.
 pub(crate) fn fill(
     limits: Limits,
     mode: usize,
@@ -185,7 +169,7 @@ pub(crate) fn fill(
     out_targets: &mut [usize],
     in_offsets: &mut [usize],
     in_sources: &mut [usize],
-) -> Loaded
+) -> Result<Size, Refusal>
     ensures { outcome_left result ids.new out_offsets.new out_targets.new in_offsets.new
         in_sources.new
         ≡ filled_load limits mode
@@ -193,26 +177,19 @@ pub(crate) fn fill(
         in_sources.old)
         vertices.now edges.now }
 {
-    if 1 < mode {
-        return Loaded::Refused(Refusal::plain(UNKNOWN_NUMBER));
+    let undirected = is_undirected(mode)?;
+    let n = read_vertices(vertices, limits.vertices, ids)?;
+    if !has_places(n, ids.len(), out_offsets.len(), in_offsets.len()) {
+        return Err(Refusal::plain(NO_ROOM));
     }
-    let listed = read_vertices(vertices, limits.vertices, ids);
-    match listed {
-        Listed::Refused(r) => Loaded::Refused(r),
-        Listed::Lines(n) => {
-            if has_places(n, ids.len(), out_offsets.len(), in_offsets.len()) {
-                return store_edges(
-                    edges,
-                    limits.edges,
-                    mode == 0,
-                    &ids[..n],
-                    out_offsets,
-                    out_targets,
-                    in_offsets,
-                    in_sources,
-                );
-            }
-            Loaded::Refused(Refusal::plain(NO_ROOM))
-        }
-    }
+    store_edges(
+        edges,
+        limits.edges,
+        undirected,
+        &ids[..n],
+        out_offsets,
+        out_targets,
+        in_offsets,
+        in_sources,
+    )
 }

@@ -5,28 +5,21 @@
 mod fill;
 
 ghost use Rattle.std.specs.Prelude.{◌≡◌};
-ghost use Rattle.load.specs.Load.{says, room_in, outcome, load_call, library, capped};
+ghost use Rattle.basis.specs.Refusal.{said};
+ghost use Rattle.load.specs.Load.{room_in, outcome, load_call, library, capped};
 ghost use Rattle.load.specs.Steps.{Emptied};
 
 use crate::fill::fill;
 use basis::Refusal;
-use basis::area::{clear, clear_signed};
+use basis::area::clear;
 use basis::limits::{MOST_EDGES, MOST_VERTICES};
-use basis::order::lesser;
 use graph::Size;
 
 // How many lines a vertex file and an edge file may have.
-#[derive(Drop)]
+#[derive(Clone, Copy, Debug, PartialEq, Eq)]
 pub struct Limits {
     pub vertices: usize,
     pub edges: usize,
-}
-
-// A load answers how large the graph is that stands in the areas, or why it was refused.
-#[derive(Drop)]
-pub enum Loaded {
-    Graph(Size),
-    Refused(Refusal),
 }
 
 // Five areas are cleared.
@@ -42,7 +35,7 @@ fn clear_all(
         ids.new out_offsets.new out_targets.new in_offsets.new
         in_sources.new }
 {
-    clear_signed(ids);
+    clear(ids);
     clear(out_offsets);
     clear(out_targets);
     clear(in_offsets);
@@ -54,8 +47,8 @@ fn capped(limits: Limits) -> Limits
     ensures { result ≡ capped limits }
 {
     Limits {
-        vertices: lesser(limits.vertices, MOST_VERTICES),
-        edges: lesser(limits.edges, MOST_EDGES),
+        vertices: limits.vertices.min(MOST_VERTICES),
+        edges: limits.edges.min(MOST_EDGES),
     }
 }
 
@@ -71,8 +64,8 @@ pub fn load_within(
     out_targets: &mut [usize],
     in_offsets: &mut [usize],
     in_sources: &mut [usize],
-) -> Loaded
-    ensures { outcome (says result) ids.new out_offsets.new out_targets.new in_offsets.new
+) -> Result<Size, Refusal>
+    ensures { outcome (said result) ids.new out_offsets.new out_targets.new in_offsets.new
         in_sources.new
         ≡ load_call (capped limits) mode
         (room_in ids.old out_offsets.old out_targets.old in_offsets.old
@@ -90,13 +83,10 @@ pub fn load_within(
         in_offsets,
         in_sources,
     );
-    match filled {
-        Loaded::Graph(size) => Loaded::Graph(size),
-        Loaded::Refused(r) => {
-            clear_all(ids, out_offsets, out_targets, in_offsets, in_sources);
-            Loaded::Refused(r)
-        }
+    if filled.is_err() {
+        clear_all(ids, out_offsets, out_targets, in_offsets, in_sources);
     }
+    filled
 }
 
 // The same with the library's limits.
@@ -109,8 +99,8 @@ pub fn load(
     out_targets: &mut [usize],
     in_offsets: &mut [usize],
     in_sources: &mut [usize],
-) -> Loaded
-    ensures { outcome (says result) ids.new out_offsets.new out_targets.new in_offsets.new
+) -> Result<Size, Refusal>
+    ensures { outcome (said result) ids.new out_offsets.new out_targets.new in_offsets.new
         in_sources.new
         ≡ load_call library mode
         (room_in ids.old out_offsets.old out_targets.old in_offsets.old

@@ -1,64 +1,40 @@
-use Rattle.load.proofs.Loads.{fill-mode, fill-refused, fill-places, fill-short, fill-storing, fill_end}
-use mathlib.Core.Path.{refl, sym}
-use lib.Seq.{length-take-le}
+use Rattle.lists.proofs.Handed.{handed_on}
+use Rattle.load.proofs.Loads.{fill-mode, fill-refused, fill-short, fill-storing, fill_end}
+use mathlib.Core.Path.{refl}
 use Rattle.load.proofs.fill.fill.Goals as goal
 
-pub returns-then-mode-gt1 : goal.returns-then-mode-gt1
-returns-then-mode-gt1 c = search fill-mode
-
-pub slice_bounds-store_edges-end : goal.slice_bounds-store_edges-end
-slice_bounds-store_edges-end c =
+pub returns-in_err-undirected : goal.returns-in_err-undirected
+returns-in_err-undirected c =
     let a = c.args in
-    fill-places a.limits a.mode a.vertices.now a.edges.now a.ids.now a.out_offsets.now a.out_targets.now
-    a.in_offsets.now a.in_sources.now c.if-mode-gt1.false _ _
-    c.in-Lines.ensures _ refl _
-    c.read_vertices-listed.auto.ids _ c.has_places.ensures c.if-has_places.true
+    rw (handed_on _ c.from_residual.ensures.1)
+    (fill-mode a.limits a.mode a.vertices.now a.edges.now a.ids.now a.out_offsets.now a.out_targets.now a.in_offsets.now
+    a.in_sources.now _ c.in_err-undirected.ensures)
 
-pub slice_bounds-store_edges-end-then-has_places : goal.slice_bounds-store_edges-end-then-has_places
-slice_bounds-store_edges-end-then-has_places c =
+pub returns-in_err-n : goal.returns-in_err-n
+returns-in_err-n c =
     let a = c.args in
-    sym (length-take-le _ _ (fill-places a.limits a.mode a.vertices.now a.edges.now a.ids.now a.out_offsets.now
-    a.out_targets.now a.in_offsets.now a.in_sources.now
-    c.if-mode-gt1.false _ _
-    c.in-Lines.ensures _
-    refl _
-    c.read_vertices-listed.auto.ids _ c.has_places.ensures
-    c.if-has_places.true))
+    rw (handed_on _ c.from_residual-in_err-n.ensures.1)
+    (fill-refused a.limits a.mode a.vertices.now a.edges.now a.ids.now a.out_offsets.now a.out_targets.now a.in_offsets.now
+    a.in_sources.now _ c.in_ok-undirected.ensures _ _ c.in_err-n.ensures _ refl)
+
+pub returns-then-not-has_places : goal.returns-then-not-has_places
+returns-then-not-has_places c =
+    let a = c.args in
+    fill-short a.limits a.mode a.vertices.now a.edges.now a.ids.now a.out_offsets.now a.out_targets.now a.in_offsets.now
+    a.in_sources.now _ c.in_ok-undirected.ensures _ _ c.in_ok-n.ensures _ refl _ c.read_vertices.auto.ids _ c.has_places.ensures
+    c.if-not-has_places.true _ c.plain.ensures
 
 pub store_edges-requires : goal.store_edges-requires
 store_edges-requires c =
     let a = c.args in
-    fill-storing a.limits a.mode a.vertices.now a.edges.now a.ids.now a.out_offsets.now a.out_targets.now
-    a.in_offsets.now a.in_sources.now
-    c.if-mode-gt1.false _ _
-    c.in-Lines.ensures _
-    refl _
-    c.read_vertices-listed.auto.ids _
-    c.has_places.ensures c.if-has_places.true _
-    refl
+    fill-storing a.limits a.mode a.vertices.now a.edges.now a.ids.now a.out_offsets.now a.out_targets.now a.in_offsets.now
+    a.in_sources.now _ c.in_ok-undirected.ensures _ _ c.in_ok-n.ensures _ refl _ c.read_vertices.auto.ids _ c.has_places.ensures
+    c.if-not-has_places.false _ refl
 
-pub returns-then-has_places : goal.returns-then-has_places
-returns-then-has_places c =
+pub returns : goal.returns
+returns c =
     let a = c.args in
     let l = c.store_edges.new in
-    fill_end a.limits a.mode a.vertices.now a.edges.now a.ids.now a.out_offsets.now a.out_targets.now
-    a.in_offsets.now a.in_sources.now
-    c.if-mode-gt1.false _ _
-    c.in-Lines.ensures _
-    refl _ c.read_vertices-listed.auto.ids _
-    c.has_places.ensures c.if-has_places.true _ refl c.store_edges.result
-    l.out_offsets l.out_targets l.in_offsets l.in_sources
-    c.store_edges.ensures
-
-pub returns-in-Refused : goal.returns-in-Refused
-returns-in-Refused c = search fill-refused
-
-pub returns-else-has_places : goal.returns-else-has_places
-returns-else-has_places c =
-    let a = c.args in
-    fill-short a.limits a.mode a.vertices.now a.edges.now a.ids.now a.out_offsets.now a.out_targets.now
-    a.in_offsets.now a.in_sources.now c.if-mode-gt1.false _
-    _ c.in-Lines.ensures _
-    refl _
-    c.read_vertices-listed.auto.ids _ c.has_places.ensures
-    c.if-has_places.false _ c.plain-in-Lines.ensures
+    fill_end a.limits a.mode a.vertices.now a.edges.now a.ids.now a.out_offsets.now a.out_targets.now a.in_offsets.now
+    a.in_sources.now _ c.in_ok-undirected.ensures _ _ c.in_ok-n.ensures _ refl _ c.read_vertices.auto.ids _ c.has_places.ensures
+    c.if-not-has_places.false _ refl c.store_edges.result l.out_offsets l.out_targets l.in_offsets l.in_sources c.store_edges.ensures
