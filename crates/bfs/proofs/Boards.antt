@@ -6,6 +6,9 @@ use mathlib.Core.List.{List, [], ◌∷◌}
 use native.Mathlib.Nat.{not-suc-le-zero, le_of_suc-le-suc}
 use native.Mathlib.Numerals.{add-one}
 use native.Mathlib.Omega.{arith}
+use mir.Syntax.{w64}
+use mir.Val.{to_z, of_z, SFits}
+use mir.Facts.{to_z-of_z, to_z_pos}
 use lib.IntN.{ℤ, pos}
 use lib.ListN.{length, get_or, set, drop, replicate, length-set, drop_of_length-le}
 use lib.Seq.{drop-cons}
@@ -76,17 +79,24 @@ pub room-more : (S : Board) (w : ℕ) → Queued S → w < length S.depth → is
     → S.tail < length S.queue
 room-more S w r l e = omega (arith, seen-lt S.depth w l e, r.filled, r.room)
 
--- ---- the same of areas, by the code's test of the depth
-module _ (D : List ℤ) (Q : List ℕ) (t w d : ℕ) where
+-- ---- the same of areas, by the code's test: z is a depth, as the bits of a signed number
+marked : {z : ℤ} → SFits w64 z → of_z w64 z ≡ infinity → z ≡ unreachable
+marked f e = sym (to_z-of_z f) ∙ ap (to_z w64) e
+
+module _ (D : List ℤ) (Q : List ℕ) (t w : ℕ) where
   -- the queue has a place for a vertex that has no depth
-  pub free_place : Queued (board D Q t) → w < length D → get_or D w (pos 0) ≡ unreachable → t < length Q
-  free_place q l e = room-more (board D Q t) w q l (far-mark (get_or D w (pos 0)) e)
+  pub free_place : Queued (board D Q t) → w < length D → SFits w64 (get_or D w (pos 0)) → of_z w64 (get_or D w (pos 0)) ≡ infinity
+      → t < length Q
+  free_place q l f e = room-more (board D Q t) w q l (far-mark (get_or D w (pos 0)) (marked f e))
 
-  pub step-new : get_or D w (pos 0) ≡ unreachable → board (set D w (pos d)) (set Q t w) (t + 1) ≡ relaxed d w (board D Q t)
-  step-new e = sym (relaxed-new d w (board D Q t) (far-mark (get_or D w (pos 0)) e))
+  pub step-new : (d : ℕ) → d < infinity → SFits w64 (get_or D w (pos 0)) → of_z w64 (get_or D w (pos 0)) ≡ infinity
+      → board (set D w (to_z w64 d)) (set Q t w) (t + 1) ≡ relaxed d w (board D Q t)
+  step-new d h f e =
+      ap (λ (z : ℤ). board (set D w z) (set Q t w) (t + 1)) (to_z_pos w64 (omega arith))
+      ∙ sym (relaxed-new d w (board D Q t) (far-mark (get_or D w (pos 0)) (marked f e)))
 
-  pub step-old : (get_or D w (pos 0) ≡ unreachable → ⊥) → board D Q t ≡ relaxed d w (board D Q t)
-  step-old h = sym (relaxed-old d w (board D Q t) (no_far-mark (get_or D w (pos 0)) h))
+  pub step-old : (d : ℕ) → (of_z w64 (get_or D w (pos 0)) ≡ infinity → ⊥) → board D Q t ≡ relaxed d w (board D Q t)
+  step-old d h = sym (relaxed-old d w (board D Q t) (no_far-mark (get_or D w (pos 0)) (λ e. h (ap (of_z w64) e))))
 
 -- what a step keeps: the queue is filled as far as vertices are seen, and the areas keep their lengths
 record Kept (S R : Board) : Type 0 where

@@ -12,13 +12,12 @@ use lib.IntN.{ℤ, pos}
 use lib.ListN.{length, replicate, length-replicate}
 use lib.Dec.{leb}
 use borrow.Author.Tests.{le-leb, lt-leb}
+use Rattle.std.specs.Prelude.{Option, Some, None}
 use Rattle.basis.specs.Refusal.{no_room}
 use Rattle.basis.specs.Area.{infinity, unreachable, column}
 use Rattle.basis.specs.Scan.{mem}
 use Rattle.basis.proofs.Tests.{and-off}
 use Rattle.basis.proofs.Areas.{column-length, column-at}
-use Rattle.graph.specs.declared.find.Found.{Found}
-use Rattle.graph.specs.declared.find.Found.TheVariants.{At, Missing}
 use Rattle.graph.specs.Find.{place_in}
 use Rattle.graph.specs.Sound.{Graph, outward, names, sound_graph}
 use Rattle.graph.proofs.Finds.{place_at}
@@ -117,20 +116,20 @@ sound-depth g sound root low =
 -- ---- the call
 module _ (g : Graph) (root : ℤ) (sound : sound_graph g ≡ true) where
   -- where the root stands
-  place : (v : ℕ) → HasName g v root → place_in (names g) root ≡ At v
+  place : (v : ℕ) → HasName g v root → place_in (names g) root ≡ Some v
   place v h =
       let s = sound-of g sound in
       (place_at (names g) root s.ids_rise v).1 (let e = names-length g s in let l = h.0 in omega arith, h.1)
 
-  nowhere : ((v : ℕ) → HasName g v root → ⊥) → place_in (names g) root ≡ Missing
+  nowhere : ((v : ℕ) → HasName g v root → ⊥) → place_in (names g) root ≡ None
   nowhere none = by (place_in (names g) root) refl
     where
-      by : (f : Found) → place_in (names g) root ≡ f → f ≡ Missing
-      by (At v) e =
+      by : (f : Option ℕ) → place_in (names g) root ≡ f → f ≡ None
+      by (Some v) e =
           let s = sound-of g sound in
           let p = (place_at (names g) root s.ids_rise v).0 e in
           absurd (none v (let q = names-length g s in let l = p.0 in omega arith, p.1))
-      by Missing e = refl
+      by None e = refl
 
   module _ (depth : List ℤ) (queue : List ℕ) (v : ℕ) (h : HasName g v root) where
     call-done : g.vertices ≤ length depth → g.vertices ≤ length queue → Done g v depth queue (bfs_call g root depth queue)

@@ -1,9 +1,7 @@
 -- 01 "The loaded graph" and "Kernels": what the BFS call answers, and what it leaves in the areas lent for writing.
-use Rattle.std.specs.Prelude.{ℕ, Bool, ◌&&◌, List, [], ℤ, pos, length, leb}
+use Rattle.std.specs.Prelude.{ℕ, Bool, ◌&&◌, Option, Some, None, List, [], ℤ, pos, length, leb}
 use Rattle.basis.specs.Refusal.{Said, refuses, plain, not_there}
 use Rattle.basis.specs.Area.{leaves, cleared, cleared_z}
-use Rattle.graph.specs.declared.find.Found.{Found}
-use Rattle.graph.specs.declared.find.Found.TheVariants.{At, Missing}
 use Rattle.graph.specs.Find.{place_in, is_there}
 use Rattle.graph.specs.Sound.{Graph, outward, names, sound_graph}
 use Rattle.kernels.specs.Answer.{kernel_says}
@@ -24,9 +22,9 @@ abbrev pub refusal : ℕ → List ℤ → List ℕ → Outcome
 refusal number depth queue = outcome (refuses (plain number)) (cleared_z depth) (cleared queue)
 
 -- the depths from a root that is there
-abbrev pub depths_from : Graph → Found → List ℤ
-depths_from g (At root) = depths g.vertices (outward g) root
-depths_from g Missing = []
+abbrev pub depths_from : Graph → Option ℕ → List ℤ
+depths_from g (Some root) = depths g.vertices (outward g) root
+depths_from g None = []
 
 -- "each result or working area needs n places"
 unfoldable pub room_for : ℕ → List ℤ → List ℕ → Bool
@@ -34,7 +32,7 @@ room_for n depth queue = leb n (length depth) && leb n (length queue)
 
 -- with an answer: the depths from the root's place in the result area with zeros behind them, or zeros where refused;
 -- "working areas are zero throughout"
-unfoldable pub left_by : Said (Unit {0}) → Graph → Found → List ℤ → List ℕ → Outcome
+unfoldable pub left_by : Said (Unit {0}) → Graph → Option ℕ → List ℤ → List ℕ → Outcome
 left_by said g place depth queue = outcome said (leaves said (pos 0) (length depth) (depths_from g place)) (cleared queue)
 
 -- "Kernels check 9, then 10 or 11, then 8", of which BFS has 10; the root is "given by identifier"

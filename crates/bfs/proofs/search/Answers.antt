@@ -6,23 +6,20 @@ use Rattle.bfs.proofs.Queue.{Base, serving-queued, serving-begin, serving-level,
 use Rattle.bfs.proofs.Queue.{serving-tail, serving-deeper, serving-part, serving-more, serving-end}
 use Rattle.bfs.proofs.search.Goals as goal
 
-pub fill-requires : goal.fill-requires
-fill-requires c = tt
-
 pub relax-tail-requires : goal.relax-tail-requires
 relax-tail-requires c =
-    let base : Base (length c.args.depth.now) (part_of (length c.args.depth.now) c.args.offsets.now c.args.targets.now) c.args.root =
+    let base : Base (length c.args.depth.now) (part_of (length c.args.depth.now) c.args.out.offsets.now c.args.out.targets.now) c.args.root =
     record { inside = c.requires.inside; root = c.requires.root_in_bounds.0; few = omega arith } in
     record {
-      queued = serving-queued _ _ _ base _ _ c.fill.ensures c.requires.root_in_bounds.1;
+      queued = serving-queued _ _ _ base _ _ (c.fill.ensures.after (λ y e. e)) c.requires.root_in_bounds.1;
       w_in_bounds = (omega arith, omega arith);
     }
 
 pub loop-head-init : goal.loop-head-init
 loop-head-init c =
-    let base : Base (length c.args.depth.now) (part_of (length c.args.depth.now) c.args.offsets.now c.args.targets.now) c.args.root =
+    let base : Base (length c.args.depth.now) (part_of (length c.args.depth.now) c.args.out.offsets.now c.args.out.targets.now) c.args.root =
     record { inside = c.requires.inside; root = c.requires.root_in_bounds.0; few = omega arith } in
-    serving-begin _ _ _ base _ _ c.fill.ensures c.requires.root_in_bounds.1 c.relax-tail.ensures
+    serving-begin _ _ _ base _ _ (c.fill.ensures.after (λ y e. e)) c.requires.root_in_bounds.1 c.relax-tail.ensures
 
 pub advance-ring-requires : goal.advance-ring-requires
 advance-ring-requires c = omega (arith, serving-level _ _ _ c.loop-head.invariant)
@@ -33,11 +30,8 @@ offset_bounds-queue-head c = omega (arith, serving-tail _ _ _ c.loop-head.invari
 pub bounds-queue-head : goal.bounds-queue-head
 bounds-queue-head c = let k = c.loop-head.invariant in omega (arith, serving-tail _ _ _ k, serving-room _ _ _ k)
 
-pub neighbours-next-requires : goal.neighbours-next-requires
-neighbours-next-requires c = tt
-
-pub overflow_add-level : goal.overflow_add-level
-overflow_add-level c = omega (arith, serving-deeper _ _ _ c.loop-head.invariant c.loop-head-test.true c.advance-ring.ensures)
+pub overflow_add-ring : goal.overflow_add-ring
+overflow_add-ring c = omega (arith, serving-deeper _ _ _ c.loop-head.invariant c.loop-head-test.true c.advance-ring.ensures)
 
 pub walk-tail-requires : goal.walk-tail-requires
 walk-tail-requires c =
