@@ -3,7 +3,6 @@ ghost use Rattle.std.specs.Prelude.{◌≡◌, length, get_or, replicate, pos};
 ghost use Rattle.basis.specs.Area.{cleared, cleared_z, copied};
 
 use crate::order::lesser;
-use num_traits::Zero;
 
 // `Area.infinity`, as a result area holds it.
 pub const UNREACHABLE: i64 = 9223372036854775807;
@@ -24,11 +23,30 @@ pub fn fill<T: Copy>(area: &mut [T], value: T)
     }
 }
 
-// Every place is zero, of whole numbers and of signed ones.
-pub fn clear<T: Copy + Zero>(area: &mut [T])
-    ensures { area.new ≡ replicate (length area.old) T.zero }
+// A number whose areas are cleared, with its zero.
+pub trait Zero: Copy {
+    ghost ZERO: { Self };
+
+    const ZERO: Self;
+}
+
+impl Zero for usize {
+    ghost ZERO = { 0 };
+
+    const ZERO: usize = 0;
+}
+
+impl Zero for i64 {
+    ghost ZERO = { pos 0 };
+
+    const ZERO: i64 = 0;
+}
+
+// Every place is zero.
+pub fn clear<T: Zero>(area: &mut [T])
+    ensures { area.new ≡ replicate (length area.old) T.ZERO }
 {
-    fill(area, T::zero());
+    fill(area, T::ZERO);
 }
 
 // The first n numbers of an area to the front of another, as many as both have.
