@@ -1,4 +1,5 @@
 // The order of signed numbers, in functions of values: whoever compares identifiers calls these. And the lesser of two lengths.
+// Stays: public functions beside `<`, `==` and `min`, since `less`, `same` and `lesser` promise the definitions that the laws speak of.
 ghost use Rattle.std.specs.Prelude.{◌≡◌, min};
 ghost use Rattle.std.specs.Int.Signed.{lt_z};
 ghost use Rattle.basis.specs.Order.{same_z};

@@ -1,4 +1,4 @@
-// Why a call was refused, and where: `number` as 01 numbers the refusals, `file` 1 vertex, 2 edge, 3 claim, 4 sheet, 0 none,
+// Why a call was refused, and where: `number` as the rules number the refusals, `file` 1 vertex, 2 edge, 3 claim, 4 sheet, 0 none,
 // `line` counted from 1, or 0 where no line applies, `column` counted from 1 in the line, or 0: only refusal 2 of a vertex, edge or claim
 // line has one.
 ghost use Rattle.std.specs.Prelude.{◌≡◌};
@@ -6,6 +6,8 @@ ghost use Rattle.basis.specs.Refusal.{at_column, at, plain};
 
 use std::fmt;
 
+// Stays: numbers and no enum. The host's calls and the desk's lines give them as numbers, and `Refusal::plain`, `at`, `at_column` and
+// `listing::put_refused` answer on every number.
 pub const TOO_MANY: usize = 1;
 
 pub const BAD_FORM: usize = 2;
