@@ -1,5 +1,5 @@
 -- Laws of the areas after a file was read: values written from the front, as far as there is room. Assumes nothing.
-use Rattle.std.specs.Prelude.{Result, Ok, Err}
+use Rattle.std.specs.Prelude.{Result, Ok, Err, Option}
 use Prim.Native.Nat.{ℕ, suc, ◌+◌, ◌≤◌}
 use mathlib.Core.Path.{◌≡◌, refl, sym, ap, ap₂, ◌∙◌}
 use mathlib.Core.List.{List, [], ◌∷◌, ◌++◌}
@@ -15,7 +15,6 @@ use Rattle.basis.specs.declared.refusal.Refusal.{Refusal}
 use Rattle.basis.specs.Area.{pad, pad_z, pad_with}
 use Rattle.basis.proofs.Areas.{pad-lent}
 use Rattle.basis.proofs.Saids.{mapped-gives, mapped-refuses}
-use Rattle.graph.specs.declared.find.Found.{Found}
 use Rattle.graph.specs.Arcs.{seconds, bumps}
 use Rattle.lists.specs.Files.{identifiers, edges_of, all_numbered}
 use Rattle.lists.specs.Calls.{vertex_outcome, vertex_call, edge_outcome, edge_call}
@@ -81,7 +80,7 @@ module _ (most : ℕ) (s : List ℕ) (size : ℕ) (a : List ℤ) (e : a ≡ repl
       rw (mapped-refuses (ids_into a 0) (identifiers most s) r (ap (λ y. ids_left y b) (sym q) ∙ told))
       (ap (vertex_outcome (refuses r)) (f ∙ again (pos 0) size a b e k))
 
-module _ (undirected : Bool) (most : ℕ) (place : ℤ → Found) (s : List ℕ) (sc st : ℕ) (a b : List ℕ) (ea : a ≡ replicate sc 0)
+module _ (undirected : Bool) (most : ℕ) (place : ℤ → Option ℕ) (s : List ℕ) (sc st : ℕ) (a b : List ℕ) (ea : a ≡ replicate sc 0)
     (eb : b ≡ replicate st 0)
     (x : Result ℕ Refusal) (c t : List ℕ) (told : edges_left x c t ≡ mapped (numbered_into place a b 0) (edges_of undirected most place s)) where
   pub edges-lines : (n : ℕ) → x ≡ Ok n → edge_outcome (gives n) c t ≡ edge_call undirected most place s sc st

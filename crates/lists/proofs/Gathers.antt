@@ -1,5 +1,5 @@
 -- Laws of the loop over an edge file: what it keeps of its two areas. Assumes nothing.
-use Rattle.std.specs.Prelude.{Result, Ok, Err}
+use Rattle.std.specs.Prelude.{Result, Ok, Err, Option}
 use Prim.Native.Nat.{ℕ, suc, ◌+◌, ◌-◌, ◌≤◌, ◌<◌}
 use mathlib.Core.Path.{◌≡◌, refl, sym, ap, subst, ◌∙◌}
 use mathlib.Core.Bool.{Bool}
@@ -19,7 +19,6 @@ use Rattle.text.specs.Line.{edge_form}
 use Rattle.text.specs.File.{after}
 use Rattle.text.proofs.Files.{left, left-start}
 use Rattle.graph.specs.Arcs.{Arc, seconds, bump}
-use Rattle.graph.specs.declared.find.Found.{Found}
 use Rattle.lists.specs.declared.edges.Edges.{Edges}
 use Rattle.lists.specs.declared.edges.EdgeStep.{EdgeStep}
 use Rattle.lists.specs.declared.edges.EdgeStep.TheVariants as ES
@@ -39,7 +38,7 @@ bump-few counts u k h i =
           ]
     ]
 
-into_more : (place : ℤ → Found) (counts targets : List ℕ) (k : ℕ) (e : ℤ × ℤ) (x : Said (List (ℤ × ℤ)))
+into_more : (place : ℤ → Option ℕ) (counts targets : List ℕ) (k : ℕ) (e : ℤ × ℤ) (x : Said (List (ℤ × ℤ)))
     → mapped (numbered_into place (bump counts (numbered place e).0) (set targets k (numbered place e).1) (k + 1)) x
     ≡ mapped (numbered_into place counts targets k) (mapped (λ es. e ∷ es) x)
 into_more place counts targets k e (refuses r) = refl
@@ -49,7 +48,7 @@ into_more place counts targets k e (gives es) =
     ≡ sets (set targets k (numbered place e).1) (suc k) (seconds (all_numbered place es)) = rw add-one in
     cc
 
-numbers_more : (place : ℤ → Found) (x : LineStep (ℤ × ℤ)) (e : ℤ × ℤ) (a : Arc) (next k : ℕ) → more (e, a) next k ≡ with_numbers place x
+numbers_more : (place : ℤ → Option ℕ) (x : LineStep (ℤ × ℤ)) (e : ℤ × ℤ) (a : Arc) (next k : ℕ) → more (e, a) next k ≡ with_numbers place x
     → (more e next k ≡ x) × (a ≡ numbered place e)
 numbers_more place (stop r) e a next k h = no-case cc
 numbers_more place (more d n m) e a next k h =
@@ -57,11 +56,11 @@ numbers_more place (more d n m) e a next k h =
     let p : e ≡ d = ap (λ (x : (ℤ × ℤ) × Arc). x.0) q in
     (cc, ap (λ (x : (ℤ × ℤ) × Arc). x.1) q ∙ ap (numbered place) (sym p))
 
-numbers-stop : (place : ℤ → Found) (x : LineStep (ℤ × ℤ)) (r : Said ℕ) → stop r ≡ with_numbers place x → stop r ≡ x
+numbers-stop : (place : ℤ → Option ℕ) (x : LineStep (ℤ × ℤ)) (r : Said ℕ) → stop r ≡ with_numbers place x → stop r ≡ x
 numbers-stop place (stop q) r h = cc
 numbers-stop place (more d n m) r h = no-case cc
 
-module _ (s : List ℕ) (most : ℕ) (undirected : Bool) (place : ℤ → Found) (counts₀ targets₀ : List ℕ) where
+module _ (s : List ℕ) (most : ℕ) (undirected : Bool) (place : ℤ → Option ℕ) (counts₀ targets₀ : List ℕ) where
   abbrev edge_left : Edges → Said (List (ℤ × ℤ))
   edge_left c =
       left edge_form edge_file most (edge_test undirected place) s c.lines (before_by c.lines (pair_of c)) c.at.at

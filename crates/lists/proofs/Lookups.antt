@@ -1,6 +1,7 @@
 -- Identifiers that rise: a bisection finds each where it stands, so an edge file says the same by either;
 -- and the numbers of the vertices that
 -- are there are ordered as their identifiers. Assumes nothing.
+use Rattle.std.specs.Prelude.{Option, Some, None}
 use Prim.Native.Nat.{ℕ, suc, ◌<◌}
 use mathlib.Core.Path.{◌≡◌, refl, ap}
 use mathlib.Core.Bool.{Bool, true}
@@ -17,12 +18,10 @@ use Rattle.text.specs.Line.{edge_line}
 use Rattle.text.specs.File.{lines_of, Before, first}
 use Rattle.text.proofs.Files.{values_same}
 use Rattle.graph.specs.Find.{place_in, bisected, is_there}
-use Rattle.graph.specs.declared.find.Found.{Found}
-use Rattle.graph.specs.declared.find.Found.TheVariants.{At, Missing}
 use Rattle.graph.proofs.Finds.{find-rising, place_at}
 use Rattle.lists.specs.Files.{vertex_number, edge_test, edges_of, all_numbered}
 
-pub length-numbered : (place : ℤ → Found) (es : List (ℤ × ℤ)) → length (all_numbered place es) ≡ length es
+pub length-numbered : (place : ℤ → Option ℕ) (es : List (ℤ × ℤ)) → length (all_numbered place es) ≡ length es
 length-numbered place [] = refl
 length-numbered place (e ∷ es) = ap suc (length-numbered place es)
 
@@ -52,10 +51,10 @@ module _ (ids : List ℤ) (rise : rising_z ids ≡ true) where
       → (vertex_number (place_in ids id) < length ids) × (get_or ids (vertex_number (place_in ids id)) (pos 0) ≡ id)
   there id h = go (place_in ids id) refl h
     where
-      go : (x : Found) → place_in ids id ≡ x → is_there x ≡ true → (vertex_number x < length ids)
+      go : (x : Option ℕ) → place_in ids id ≡ x → is_there x ≡ true → (vertex_number x < length ids)
           × (get_or ids (vertex_number x) (pos 0) ≡ id)
-      go (At i) q h = (place_at ids id rise i).0 q
-      go Missing q h = clash h refl
+      go (Some i) q h = (place_at ids id rise i).0 q
+      go None q h = clash h refl
 
   module _ (a b : ℤ) (ha : is_there (place_in ids a) ≡ true) (hb : is_there (place_in ids b) ≡ true) where
     pub less-numbers : lt_z a b ≡ ltb (vertex_number (place_in ids a)) (vertex_number (place_in ids b))

@@ -1,6 +1,7 @@
 -- Laws of reading a file line by line. Assumes nothing.
+use Rattle.std.specs.Prelude.{Option, Some, None}
 use Prim.Native.Nat.{ℕ, zero, suc, ◌+◌, ◌≤◌, ◌<◌}
-use mathlib.Core.Path.{◌≡◌, refl, sym, ap, ap₂, ◌∙◌}
+use mathlib.Core.Path.{◌≡◌, refl, sym, ap, ◌∙◌}
 use mathlib.Core.Bool.{Bool, true, false, cond, ◌&&◌, ◌||◌}
 use mathlib.Core.List.{List}
 use native.Mathlib.Omega.{arith}
@@ -20,17 +21,13 @@ use Rattle.text.specs.declared.line.VertexLine.{VertexLine}
 use Rattle.text.specs.declared.line.VertexLine.TheVariants as VL
 use Rattle.text.specs.declared.line.EdgeLine.{EdgeLine}
 use Rattle.text.specs.declared.line.EdgeLine.TheVariants as EL
-use Rattle.graph.specs.Find.{bisected, is_there, Searched}
-use Rattle.graph.specs.declared.find.Found.{Found}
-use Rattle.graph.specs.declared.find.Found.TheVariants.{At, Missing}
-use Rattle.graph.proofs.Finds.{searched-is}
+use Rattle.graph.specs.Arcs.{Arc}
+use Rattle.graph.specs.Find.{is_there}
 use Rattle.lists.specs.declared.vertices.Vertices.{Vertices}
 use Rattle.lists.specs.declared.edges.Edges.{Edges}
-use Rattle.lists.specs.declared.edges.Ends.{Ends}
-use Rattle.lists.specs.declared.edges.Ends.TheVariants as EN
 use Rattle.lists.specs.Files.{vertex_test, is_above, vertex_number, edge_test, numbered}
 use Rattle.lists.specs.Steps.{LineStep, more, stop, by_fault, step_by, before_by, vertex_step, order_fault}
-use Rattle.lists.specs.Steps.{Looked, found, unknown, looked_by, ends_says, pair_of, with_numbers, edge_step}
+use Rattle.lists.specs.Steps.{looked_by, pair_of, with_numbers, edge_step}
 
 -- ---- too many lines come before any other fault
 module _ (most k n : ℕ) where
@@ -122,27 +119,6 @@ module _ (undirected : Bool) (k : ℕ) (p q a b a' b' : ℤ) (ha : a' ≡ a) (hb
       unfolding order_fault
       order-falls j = rw (self, f, way, h, ordered, j)
 
--- ---- the vertices of an edge
-module _ (ids : List ℤ) (a b a' : ℤ) (ha : a' ≡ a) (x : Found) (e : Searched ids a' x) where
-  from : bisected ids a ≡ x
-  from = ap (bisected ids) (sym ha) ∙ sym (searched-is e)
-
-  pub look-from : x ≡ Missing → unknown ≡ looked_by (bisected ids a) (bisected ids b)
-  look-from f = sym (ap (λ (y : Found). looked_by y (bisected ids b)) (from ∙ f))
-
-  module _ (u : ℕ) (f : x ≡ At u) (b' : ℤ) (hb : b' ≡ b) (y : Found) (g : Searched ids b' y) where
-    to : bisected ids b ≡ y
-    to = ap (bisected ids) (sym hb) ∙ sym (searched-is g)
-
-    both-looked : (z : Found) → y ≡ z → looked_by (bisected ids a) (bisected ids b) ≡ looked_by (At u) z
-    both-looked z h = ap₂ looked_by (from ∙ f) (to ∙ h)
-
-    pub look-to : y ≡ Missing → unknown ≡ looked_by (bisected ids a) (bisected ids b)
-    look-to h = sym (both-looked Missing h)
-
-    pub look-both : (v : ℕ) → y ≡ At v → found (u, v) ≡ looked_by (bisected ids a) (bisected ids b)
-    look-both v h = sym (both-looked (At v) h)
-
 -- ---- one line more, by what it says
 module _ {A : Type 0} (file most : ℕ) (test : Before A → A → ℕ) (k : ℕ) (before : Before A) where
   by-bad : (n c p : ℕ) (r : Refusal) → r ≡ bad_at file most k n c → stop (refuses r) ≡ step_by file most test k before (fault n c p)
@@ -188,25 +164,25 @@ module _ (s : List ℕ) (most : ℕ) (c : Vertices) (x : VertexLine) (e : vertex
         rw a (by-more vertex_file most vertex_test c.lines (before_by c.lines c.last) z p.at f faulted o ∙ by (VL.Line z p) q)
 
 -- ---- the test of an edge: its order, then its vertices
-abbrev look_fault : Looked → ℕ
-look_fault (found e) = 0
-look_fault unknown = 7
+abbrev look_fault : Option Arc → ℕ
+look_fault (Some e) = 0
+look_fault None = 7
 
-test_by : (undirected : Bool) (place : ℤ → Found) (before : Before (ℤ × ℤ)) (e : ℤ × ℤ)
+test_by : (undirected : Bool) (place : ℤ → Option ℕ) (before : Before (ℤ × ℤ)) (e : ℤ × ℤ)
     → edge_test undirected place before e ≡ or_else (order_fault undirected before e) (look_fault (looked_by (place e.0) (place e.1)))
 unfolding edge_test order_fault
 test_by undirected place before e =
     go (same_z e.0 e.1) (undirected && lt_z e.1 e.0) (is_above before e) (place e.0) (place e.1)
   where
-    go : (p q r : Bool) (x y : Found)
+    go : (p q r : Bool) (x y : Option ℕ)
         → cond p 5 (cond q 6 (cond r (cond (is_there x && is_there y) 0 7) 4))
         ≡ or_else (cond p 5 (cond q 6 (cond r 0 4))) (look_fault (looked_by x y))
     go true q r x y = refl
     go false true r x y = refl
     go false false false x y = refl
-    go false false true Missing y = refl
-    go false false true (At u) Missing = refl
-    go false false true (At u) (At v) = refl
+    go false false true None y = refl
+    go false false true (Some u) None = refl
+    go false false true (Some u) (Some v) = refl
 
 -- a limit that is not passed, and no fault of order
 pub limit-none : (most k o : ℕ) → cond (leb most k) too_many o ≡ 0 → (leb most k ≡ false) × (o ≡ 0)
@@ -216,7 +192,7 @@ limit-none most k o e = go (leb most k) refl e
     go true q h = absurd (let z : ⊥ = omega arith in z)
     go false q h = (q, h)
 
-module _ (undirected : Bool) (most : ℕ) (place : ℤ → Found) (s : List ℕ) (c : Edges) (x : EdgeLine)
+module _ (undirected : Bool) (most : ℕ) (place : ℤ → Option ℕ) (s : List ℕ) (c : Edges) (x : EdgeLine)
     (e : edge_says x ≡ edge_line s c.at.at) where
   abbrev step : LineSaid (ℤ × ℤ) → LineStep (ℤ × ℤ)
   step = step_by edge_file most (edge_test undirected place) c.lines (before_by c.lines (pair_of c))
@@ -270,31 +246,31 @@ module _ (undirected : Bool) (most : ℕ) (place : ℤ → Found) (s : List ℕ)
         same : f ≡ line_fault
         same = g ∙ rw tested (go (leb most c.lines) (look_fault (looked_by (place a) (place b))) (λ z. d (g ∙ z)))
 
-    module _ (z : f ≡ 0) (y : Ends) (w : ends_says y ≡ looked_by (place a') (place b')) where
-      looked : looked_by (place a) (place b) ≡ ends_says y
+    module _ (z : f ≡ 0) (y : Option Arc) (w : y ≡ looked_by (place a') (place b')) where
+      looked : looked_by (place a) (place b) ≡ y
       looked = rw (← ha, ← hb) (sym w)
 
-      by-look : look_fault (ends_says y) ≡ line_fault
+      by-look : look_fault (y) ≡ line_fault
       by-look = let n = limit-none most c.lines o (sym g ∙ z) in rw (tested, n.0, n.1, looked)
 
-      pub edge-unknown : y ≡ EN.Unknown → (r : Refusal) → r ≡ at 7 edge_file (c.lines + 1)
+      pub edge-unknown : y ≡ None → (r : Refusal) → r ≡ at 7 edge_file (c.lines + 1)
           → stop (refuses r) ≡ with_numbers place (edge_step undirected most place s c)
       edge-unknown u r j =
-          let l : 7 ≡ line_fault = ap (λ t. look_fault (ends_says t)) (sym u) ∙ by-look in
+          let l : 7 ≡ line_fault = ap look_fault (sym u) ∙ by-look in
           ap (with_numbers place) (by-fault edge_file most (edge_test undirected place) c.lines before (a, b) p.at 7 l (λ i. omega arith)
           r j)
           ∙ by-edge (EL.Line a b p) q
 
-      pub edge_more : (u v : ℕ) → y ≡ EN.Known u v
+      pub edge_more : (u v : ℕ) → y ≡ Some (u, v)
           → more ((a', b'), (u, v)) p.at (c.lines + 1) ≡ with_numbers place (edge_step undirected most place s c)
       edge_more u v k =
-          let l : 0 ≡ line_fault = ap (λ t. look_fault (ends_says t)) (sym k) ∙ by-look in
-          let n : numbered place (a, b) ≡ (u, v) = numbers (place a) (place b) (looked ∙ ap ends_says k) in
+          let l : 0 ≡ line_fault = ap look_fault (sym k) ∙ by-look in
+          let n : numbered place (a, b) ≡ (u, v) = numbers (place a) (place b) (looked ∙ k) in
           rw (ha, hb, ← n) (ap (with_numbers place)
           (by-more edge_file most (edge_test undirected place) c.lines before (a, b) p.at 0 l refl)
           ∙ by-edge (EL.Line a b p) q)
         where
-          numbers : (x y : Found) → looked_by x y ≡ found (u, v) → ◌≡◌ {A = ℕ × ℕ} (vertex_number x, vertex_number y) (u, v)
-          numbers (At i) (At j) h = cc
-          numbers (At i) Missing h = no-case cc
-          numbers Missing y h = no-case cc
+          numbers : (x y : Option ℕ) → looked_by x y ≡ Some (u, v) → ◌≡◌ {A = ℕ × ℕ} (vertex_number x, vertex_number y) (u, v)
+          numbers (Some i) (Some j) h = cc
+          numbers (Some i) None h = no-case cc
+          numbers None y h = no-case cc

@@ -1,5 +1,6 @@
 -- The refusal of either file: its number is from 1 to 7, its file the file's own, and its line at most the one after the limit.
 -- Assumes nothing.
+use Rattle.std.specs.Prelude.{Option}
 use Prim.Native.Nat.{ℕ, ◌≤◌}
 use mathlib.Core.Bool.{Bool, true, false, cond, ◌&&◌}
 use mathlib.Core.List.{List}
@@ -10,7 +11,6 @@ use lib.Signed.{lt_z}
 use Rattle.basis.specs.Refusal.{vertex_file, edge_file}
 use Rattle.basis.specs.Order.{same_z}
 use Rattle.basis.proofs.Saids.{Either, Any}
-use Rattle.graph.specs.declared.find.Found.{Found}
 use Rattle.graph.specs.Find.{is_there}
 use Rattle.text.specs.Line.{ident_form, edge_form}
 use Rattle.text.specs.File.{Before, first, after}
@@ -26,7 +26,7 @@ vertex-low (after y) z = go (lt_z y z)
     go true = omega arith
     go false = omega arith
 
-edge-low : (undirected : Bool) (place : ℤ → Found) (before : Before (ℤ × ℤ)) (e : ℤ × ℤ) → edge_test undirected place before e ≤ 7
+edge-low : (undirected : Bool) (place : ℤ → Option ℕ) (before : Before (ℤ × ℤ)) (e : ℤ × ℤ) → edge_test undirected place before e ≤ 7
 unfolding edge_test
 edge-low undirected place before e =
     go (same_z e.0 e.1) (undirected && lt_z e.1 e.0) (is_above before e) (is_there (place e.0) && is_there (place e.1))
@@ -41,7 +41,7 @@ edge-low undirected place before e =
 pub vertices-refusal : (most : ℕ) (s : List ℕ) → Either Any (FileRefusal vertex_file most (length s)) (identifiers most s)
 vertices-refusal most s = file-refusal ident_form ident-right vertex_file most vertex_test vertex-low s
 
-pub edges-refusal : (undirected : Bool) (most : ℕ) (place : ℤ → Found) (s : List ℕ)
+pub edges-refusal : (undirected : Bool) (most : ℕ) (place : ℤ → Option ℕ) (s : List ℕ)
     → Either Any (FileRefusal edge_file most (length s)) (edges_of undirected most place s)
 edges-refusal undirected most place s =
     file-refusal edge_form edge-right edge_file most (edge_test undirected place) (edge-low undirected place) s

@@ -1,8 +1,7 @@
 -- What the reading of a file answers, and what it leaves in the areas.
-use Rattle.std.specs.Prelude.{ℕ, Bool, List, ℤ, pos, length, take, replicate}
+use Rattle.std.specs.Prelude.{Option, ℕ, Bool, List, ℤ, pos, length, take, replicate}
 use Rattle.basis.specs.Refusal.{Said, gives, refuses, mapped}
 use Rattle.basis.specs.Area.{area_of}
-use Rattle.graph.specs.declared.find.Found.{Found}
 use Rattle.graph.specs.Arcs.{seconds, bumps}
 use Rattle.lists.specs.Files.{identifiers, edges_of, all_numbered}
 
@@ -34,19 +33,19 @@ abbrev pub edge_outcome : Said ℕ → List ℕ → List ℕ → EdgesRead
 edge_outcome answer counts targets = record { answer = answer; counts = counts; targets = targets }
 
 -- how many edges begin at each vertex, in an area of the given length
-abbrev pub counts_area : (ℤ → Found) → ℕ → Said (List (ℤ × ℤ)) → List ℕ
+abbrev pub counts_area : (ℤ → Option ℕ) → ℕ → Said (List (ℤ × ℤ)) → List ℕ
 counts_area place size (gives es) = bumps (replicate size 0) (all_numbered place es)
 counts_area place size (refuses r) = replicate size 0
 
 -- their second ends in file order, as far as there is room, and zeros behind them
-abbrev pub targets_area : (ℤ → Found) → ℕ → Said (List (ℤ × ℤ)) → List ℕ
+abbrev pub targets_area : (ℤ → Option ℕ) → ℕ → Said (List (ℤ × ℤ)) → List ℕ
 targets_area place size s = area_of 0 size (λ es. take size (seconds (all_numbered place es))) s
 
 -- the answer and the areas of an edge file by the edges that it lists, or by its refusal
-abbrev pub edge_call_by : (ℤ → Found) → ℕ → ℕ → Said (List (ℤ × ℤ)) → EdgesRead
+abbrev pub edge_call_by : (ℤ → Option ℕ) → ℕ → ℕ → Said (List (ℤ × ℤ)) → EdgesRead
 edge_call_by place c t es = edge_outcome (mapped length es) (counts_area place c es) (targets_area place t es)
 
 -- the reading of an edge file of at most so many lines between the vertices that `place` finds, into areas of the given lengths
-abbrev pub edge_call : Bool → ℕ → (ℤ → Found) → List ℕ → ℕ → ℕ → EdgesRead
+abbrev pub edge_call : Bool → ℕ → (ℤ → Option ℕ) → List ℕ → ℕ → ℕ → EdgesRead
 edge_call undirected most place s c t =
     edge_call_by place c t (edges_of undirected most place s)

@@ -1,5 +1,5 @@
 -- What the loops over a file's lines do with one line, and what they keep.
-use Rattle.std.specs.Prelude.{ℕ, Result, Ok, Err, zero, suc, ◌+◌, Bool, cond, ◌&&◌, List, ℤ, length, ltb}
+use Rattle.std.specs.Prelude.{Option, Some, None, ℕ, Result, Ok, Err, zero, suc, ◌+◌, Bool, cond, ◌&&◌, List, ℤ, length, ltb}
 use Rattle.std.proofs.lemmas.List.Edits.{sets}
 use Rattle.std.specs.Int.Signed.{lt_z}
 use Rattle.basis.specs.declared.refusal.Refusal.{Refusal}
@@ -8,14 +8,10 @@ use Rattle.basis.specs.Order.{same_z}
 use Rattle.text.specs.Line.{LineSaid, line, none, fault, vertex_line, edge_line}
 use Rattle.text.specs.File.{Before, first, after, fault_of, bad_at}
 use Rattle.graph.specs.Arcs.{Arc, seconds, bumps}
-use Rattle.graph.specs.declared.find.Found.{Found}
-use Rattle.graph.specs.declared.find.Found.TheVariants.{At, Missing}
 use Rattle.lists.specs.declared.vertices.Vertices.{Vertices}
 use Rattle.lists.specs.declared.vertices.VertexStep.{VertexStep}
 use Rattle.lists.specs.declared.vertices.VertexStep.TheVariants as VS
 use Rattle.lists.specs.declared.edges.Edges.{Edges}
-use Rattle.lists.specs.declared.edges.Ends.{Ends}
-use Rattle.lists.specs.declared.edges.Ends.TheVariants as EN
 use Rattle.lists.specs.declared.edges.EdgeStep.{EdgeStep}
 use Rattle.lists.specs.declared.edges.EdgeStep.TheVariants as ES
 use Rattle.lists.specs.Files.{vertex_test, is_above, edge_test, edges_of, numbered, all_numbered}
@@ -68,34 +64,24 @@ unfoldable pub order_fault : Bool → Before (ℤ × ℤ) → ℤ × ℤ → ℕ
 order_fault undirected before e =
     cond (same_z e.0 e.1) self_edge (cond (undirected && lt_z e.1 e.0) larger_first (cond (is_above before e) 0 not_above))
 
--- the vertices of an edge, where both are there
-pub data Looked : Type 0 where
-  found : Arc → Looked
-  unknown : Looked
-
--- an edge's vertices, by what was found of its first end and of its second
-abbrev pub looked_by : Found → Found → Looked
-looked_by (At u) (At v) = found (u, v)
-looked_by (At u) Missing = unknown
-looked_by Missing y = unknown
-
--- an edge's vertices, by the code's answer
-abbrev pub ends_says : Ends → Looked
-ends_says (EN.Known u v) = found (u, v)
-ends_says EN.Unknown = unknown
+-- an edge's vertices where both are there, by what was found of its first end and of its second
+abbrev pub looked_by : Option ℕ → Option ℕ → Option Arc
+looked_by (Some u) (Some v) = Some (u, v)
+looked_by (Some u) None = None
+looked_by None y = None
 
 -- an edge's step with the numbers of its vertices beside its identifiers
-abbrev pub with_numbers : (ℤ → Found) → LineStep (ℤ × ℤ) → LineStep ((ℤ × ℤ) × Arc)
+abbrev pub with_numbers : (ℤ → Option ℕ) → LineStep (ℤ × ℤ) → LineStep ((ℤ × ℤ) × Arc)
 with_numbers place (more e next k) = more (e, numbered place e) next k
 with_numbers place (stop r) = stop r
 
 -- one edge line more, read at the reader's place and tested after the edge that it passed last
-unfoldable pub edge_step : Bool → ℕ → (ℤ → Found) → List ℕ → Edges → LineStep (ℤ × ℤ)
+unfoldable pub edge_step : Bool → ℕ → (ℤ → Option ℕ) → List ℕ → Edges → LineStep (ℤ × ℤ)
 edge_step undirected most place s c =
     step_by edge_file most (edge_test undirected place) c.lines (before_by c.lines (pair_of c)) (edge_line s c.at.at)
 
 -- the same with the numbers of its vertices, which `place` finds
-abbrev pub numbered_step : Bool → ℕ → (ℤ → Found) → List ℕ → Edges → LineStep ((ℤ × ℤ) × Arc)
+abbrev pub numbered_step : Bool → ℕ → (ℤ → Option ℕ) → List ℕ → Edges → LineStep ((ℤ × ℤ) × Arc)
 numbered_step undirected most place s c = with_numbers place (edge_step undirected most place s c)
 
 -- the code's answer as a step: the edge by identifiers and by numbers, the place past its line and the lines so far, or the end of the
@@ -110,11 +96,11 @@ abbrev pub edges_into : List ℕ → List ℕ → ℕ → List Arc → ℕ × Li
 edges_into counts targets k es = (k + length es, bumps counts es, sets targets k (seconds es))
 
 -- the same of edges by identifiers, whose vertices `place` finds
-abbrev pub numbered_into : (ℤ → Found) → List ℕ → List ℕ → ℕ → List (ℤ × ℤ) → ℕ × List ℕ × List ℕ
+abbrev pub numbered_into : (ℤ → Option ℕ) → List ℕ → List ℕ → ℕ → List (ℤ × ℤ) → ℕ × List ℕ × List ℕ
 numbered_into place counts targets k es = edges_into counts targets k (all_numbered place es)
 
 -- the same of an edge file of at most so many lines, from the first place on: its edges in the two areas, or its refusal
-abbrev pub edges_scanned : Bool → ℕ → (ℤ → Found) → List ℕ → List ℕ → List ℕ → Said (ℕ × List ℕ × List ℕ)
+abbrev pub edges_scanned : Bool → ℕ → (ℤ → Option ℕ) → List ℕ → List ℕ → List ℕ → Said (ℕ × List ℕ × List ℕ)
 edges_scanned undirected most place s counts targets = mapped (numbered_into place counts targets 0) (edges_of undirected most place s)
 
 -- the code's answer and the two areas as they stand: the count with the areas, or the refusal alone

@@ -6,14 +6,14 @@ ghost use Rattle.basis.specs.Refusal.{said};
 ghost use Rattle.graph.specs.Find.{bisected};
 ghost use Rattle.lists.specs.Files.{is_above};
 ghost use Rattle.lists.specs.Calls.{edge_outcome, edge_call};
-ghost use Rattle.lists.specs.Steps.{before_by, order_fault, looked_by, ends_says, numbered_step, edge_step_says, edges_scanned, edges_left};
+ghost use Rattle.lists.specs.Steps.{before_by, order_fault, looked_by, numbered_step, edge_step_says, edges_scanned, edges_left};
 
 use crate::{bad_line, limited};
 use basis::Refusal;
 use basis::area::{clear, number_at};
 use basis::order::{less, same};
 use basis::refusal::{EDGE_FILE, LARGER_FIRST, NOT_ABOVE, SELF_EDGE, UNKNOWN_VERTEX};
-use graph::find::{Found, find};
+use graph::find::find;
 use text::line::{Cursor, EdgeLine};
 
 // A reader of edge lines: its place, the lines passed, and the ends of the last edge.
@@ -23,13 +23,6 @@ struct Edges {
     lines: usize,
     first: i64,
     second: i64,
-}
-
-// The numbers of an edge's vertices, or that one of them isn't there.
-#[derive(Drop)]
-enum Ends {
-    Known(usize, usize),
-    Unknown,
 }
 
 // The numbers of an edge's vertices and the reader past its line, or how the reading ended.
@@ -81,21 +74,11 @@ fn order_fault(undirected: bool, k: usize, p: i64, q: i64, a: i64, b: i64) -> us
     NOT_ABOVE
 }
 
-// The vertices of the edge from a to b.
-fn look_up(ids: &[i64], a: i64, b: i64) -> Ends
-    ensures { ends_says result ≡ looked_by (bisected ids.now a) (bisected ids.now b) }
+// The numbers of the vertices of the edge from a to b, if both are there.
+fn look_up(ids: &[i64], a: i64, b: i64) -> Option<(usize, usize)>
+    ensures { result ≡ looked_by (bisected ids.now a) (bisected ids.now b) }
 {
-    let from = find(ids, a);
-    match from {
-        Found::Missing => Ends::Unknown,
-        Found::At(u) => {
-            let to = find(ids, b);
-            match to {
-                Found::Missing => Ends::Unknown,
-                Found::At(v) => Ends::Known(u, v),
-            }
-        }
-    }
+    Some((find(ids, a)?, find(ids, b)?))
 }
 
 // One edge line more.
@@ -118,12 +101,8 @@ fn edge_step(s: &[u8], most: usize, undirected: bool, ids: &[i64], c: Edges) -> 
             }
             let joined = look_up(ids, a, b);
             match joined {
-                Ends::Unknown => EdgeStep::Stop(Err(Refusal::at(
-                    UNKNOWN_VERTEX,
-                    EDGE_FILE,
-                    k + 1,
-                ))),
-                Ends::Known(u, v) => EdgeStep::More(
+                None => EdgeStep::Stop(Err(Refusal::at(UNKNOWN_VERTEX, EDGE_FILE, k + 1))),
+                Some((u, v)) => EdgeStep::More(
                     u,
                     v,
                     Edges {

@@ -11,8 +11,8 @@ returns-in-End c = search edge-end
 pub returns-in-Fault : goal.returns-in-Fault
 returns-in-Fault c = search edge-bad
 
-pub returns-in-Unknown : goal.returns-in-Unknown
-returns-in-Unknown c = search (edge-unknown, rules)
+pub returns-in-None : goal.returns-in-None
+returns-in-None c = search (edge-unknown, rules)
 
-pub returns-in-Known : goal.returns-in-Known
-returns-in-Known c = search (edge_more, rules)
+pub returns-in-Some : goal.returns-in-Some
+returns-in-Some c = search (edge_more, rules)
