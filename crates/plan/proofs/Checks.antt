@@ -1,18 +1,18 @@
--- Laws of the mode, of count lines, of sections and of the whole check, one for each answer of the code. Assumes nothing.
-use Prim.Native.Nat.{ℕ, zero, suc, ◌+◌, ◌-◌, ◌≤◌, ◌<◌}
+-- Laws of the mode, of count lines and of the lines of a section, one for each answer of the code. Assumes nothing.
+use Prim.Native.Nat.{ℕ, suc, ◌+◌, ◌-◌, ◌≤◌, ◌<◌}
 use mathlib.Core.Path.{◌≡◌, refl, sym, ap, ◌∙◌}
 use mathlib.Core.Bool.{Bool, true, false, cond}
 use mathlib.Core.List.{List, [], ◌∷◌, ◌++◌}
 use native.Mathlib.Omega.{arith}
-use borrow.Author.Tests.{le-leb, lt-leb, leb-true, leb-false, lt-ltb, le-ltb}
+use borrow.Author.Tests.{le-leb, lt-leb, leb-true, leb-false}
 use lib.Dec.{leb, eqb}
 use lib.ListN.{length, drop}
 use lib.Seq.{get_or-append_seam}
-use Rattle.basis.specs.Refusal.{Said, gives, refuses, at, too_many, bad_form, sheet_file, onward}
+use Rattle.basis.specs.Refusal.{Said, gives, refuses, too_many, bad_form, onward}
 use Rattle.basis.specs.declared.refusal.Refusal.{Refusal}
 use Rattle.basis.specs.Scan.{mem}
 use Rattle.basis.proofs.Tests.{clash, bool_cases, failed, held, no-case}
-use Rattle.basis.specs.Limits.{desk_vertices, desk_edges}
+use Rattle.basis.specs.Limits.{desk_edges}
 use Rattle.text.specs.Word.{Word, malformed, outside, value, within, count_of}
 use Rattle.text.specs.Bytes.{lf}
 use Rattle.text.specs.Line.{up_to}
@@ -22,25 +22,8 @@ use Rattle.text.specs.declared.count.Counted.TheVariants as T
 use Rattle.text.proofs.Bytes.{up_to-cut}
 use Rattle.text.proofs.Words.{word-has, no_end, count-reads}
 use Rattle.plan.specs.Lines.{sheet_fault, in_sheet, begins}
-use Rattle.plan.specs.Jobs.{job_line, job_says}
-use Rattle.plan.specs.Sheet.{most_jobs, most_bytes, directed_word, undirected_word, mode_of, mode_line, limited}
-use Rattle.plan.specs.Sheet.{count_line, any_of, next_of, line_past, lines_past, block, block_of, section, plan}
-use Rattle.plan.specs.Sheet.{sections, sheet_check, checked_says, mode_says, count_line_says, past_says, section_says}
-use Rattle.plan.specs.declared.job.Job.{Job}
-use Rattle.plan.specs.declared.job.JobLine.{JobLine}
-use Rattle.plan.specs.declared.job.JobLine.TheVariants as JL
-use Rattle.plan.specs.declared.sections.Block.{Block}
-use Rattle.plan.specs.declared.sections.Plan.{Plan}
-use Rattle.plan.specs.declared.sections.Checked.{Checked}
-use Rattle.plan.specs.declared.sections.Checked.TheVariants as Ch
-use Rattle.plan.specs.declared.sections.Mode.{Mode}
-use Rattle.plan.specs.declared.sections.Mode.TheVariants as M
-use Rattle.plan.specs.declared.sections.CountLine.{CountLine}
-use Rattle.plan.specs.declared.sections.CountLine.TheVariants as C
-use Rattle.plan.specs.declared.sections.Past.{Past}
-use Rattle.plan.specs.declared.sections.Past.TheVariants as P
-use Rattle.plan.specs.declared.sections.Section.{Section}
-use Rattle.plan.specs.declared.sections.Section.TheVariants as S
+use Rattle.plan.specs.Sheet.{directed_word, undirected_word, mode_of, mode_line, limited}
+use Rattle.plan.specs.Sheet.{count_line, any_of, next_of, line_past, lines_past}
 use Rattle.plan.proofs.Words.{begins-word}
 use Rattle.plan.proofs.Lines.{Line, line-said, word-reads, none_reads}
 
@@ -130,127 +113,44 @@ module _ (s : List ℕ) (limit at : ℕ) where
       pub count-good : t ≡ true → n ≤ limit → gives (n, p + 1) ≡ count_line limit s at
       count-good g l = rw (held t _ f g, le-leb n limit l) at (count-value n p e)
 
--- ---- past a line
-module _ (s : List ℕ) (jobs : Bool) (at : ℕ) where
-  module _ (x : JobLine) (h : jobs ≡ true) (u : job_says x ≡ job_line s at) where
-    pub past-refused : (r : Refusal) → x ≡ JL.Refused r → refuses r ≡ line_past jobs s at
-    past-refused r e = ap next_of (sym (ap job_says e) ∙ u) ∙ rw h
+-- ---- past a line that is ended
+module _ (s : List ℕ) (at end : ℕ) (t : Bool) (e : end ≡ at + length (up_to lf (drop at s))) (f : t ≡ has_at s end lf) where
+  pub past-line : t ≡ true → gives (end + 1) ≡ line_past false s at
+  past-line g =
+      ap next_of
+      (line-said any_of s at (scanned (value tt) (end + 1))
+      (record {
+        ended = λ bs r d k. record { said = refl; next = λ _. omega (arith, e, ap length (ap (up_to lf) d ∙ up_to-cut lf bs r k)) };
+        unended = λ k. clash (sym f ∙ g) (no_end s at lf end (omega (arith, e)) k);
+      }))
 
-    pub past-job : (j : Job) (next : ℕ) → x ≡ JL.Line j next → gives next ≡ line_past jobs s at
-    past-job j next e = ap next_of (sym (ap job_says e) ∙ u) ∙ rw h
-
-  module _ (end : ℕ) (t : Bool) (h : jobs ≡ false) (e : end ≡ at + length (up_to lf (drop at s))) (f : t ≡ has_at s end lf) where
-    pub past-line : t ≡ true → gives (end + 1) ≡ line_past jobs s at
-    past-line g =
-        ap next_of
-        (line-said any_of s at (scanned (value tt) (end + 1))
-        (record {
-          ended = λ bs r d k. record { said = refl; next = λ _. omega (arith, e, ap length (ap (up_to lf) d ∙ up_to-cut lf bs r k)) };
-          unended = λ k. clash (sym f ∙ g) (no_end s at lf end (omega (arith, e)) k);
-        }))
-        ∙ rw h
-
-    pub past_open : t ≡ false → (r : Refusal) → r ≡ sheet_fault s at bad_form → refuses r ≡ line_past jobs s at
-    past_open g r k =
-        ap refuses k
-        ∙ ap next_of
-        (line-said any_of s at (scanned malformed at)
-        (record {
-          ended = λ bs r d k.
-              let q : end ≡ at + length bs = e ∙ ap (λ l. at + length l) (ap (up_to lf) d ∙ up_to-cut lf bs r k) in
-              let i : has_at s (at + length bs) lf ≡ true = word-has s bs r at lf d (length bs) lf (omega arith)
-              ∙ ap (λ (k : ℕ). eqb k lf) (get_or-append_seam bs lf r 0) in
-              clash (ap (λ k. has_at s k lf) q ∙ i) (sym f ∙ g);
-          unended = λ k. refl;
-        }))
-        ∙ rw h
+  pub past_open : t ≡ false → (r : Refusal) → r ≡ sheet_fault s at bad_form → refuses r ≡ line_past false s at
+  past_open g r k =
+      ap refuses k
+      ∙ ap next_of
+      (line-said any_of s at (scanned malformed at)
+      (record {
+        ended = λ bs r d k.
+            let q : end ≡ at + length bs = e ∙ ap (λ l. at + length l) (ap (up_to lf) d ∙ up_to-cut lf bs r k) in
+            let i : has_at s (at + length bs) lf ≡ true = word-has s bs r at lf d (length bs) lf (omega arith)
+            ∙ ap (λ (k : ℕ). eqb k lf) (get_or-append_seam bs lf r 0) in
+            clash (ap (λ k. has_at s k lf) q ∙ i) (sym f ∙ g);
+        unended = λ k. refl;
+      }))
 
 -- ---- past so many lines
-module _ {y : Said ℕ} (s : List ℕ) (jobs : Bool) where
-  pub lines_end : (left at : ℕ) → left ≤ 0 → lines_past jobs left s at ≡ y → gives at ≡ y
+module _ {y : Said ℕ} (s : List ℕ) (jobs : Bool) (count i at : ℕ) (f : lines_past jobs (count - i) s at ≡ y) where
+  pub lines_end : count ≤ i → gives at ≡ y
   unfolding lines_past
-  lines_end zero at h e = e
-  lines_end (suc k) at h e = absurd (omega arith)
+  lines_end h = let z : count - i ≡ 0 = omega arith in rw z at f
 
-  pub lines_more : (left at next : ℕ) (x : Past) → 0 < left → past_says x ≡ line_past jobs s at → x ≡ P.Next next
-      → lines_past jobs left s at ≡ y
-      → lines_past jobs (left - 1) s next ≡ y
+  lines_at : i < count → lines_past jobs (suc (count - (i + 1))) s at ≡ y
+  lines_at h = let z : count - i ≡ suc (count - (i + 1)) = omega arith in rw z at f
+
+  pub lines_more : i < count → (next : ℕ) → gives next ≡ line_past jobs s at → lines_past jobs (count - (i + 1)) s next ≡ y
   unfolding lines_past
-  lines_more zero at next x h u e f = absurd (omega arith)
-  lines_more (suc k) at next x h u e f =
-      let q : line_past jobs s at ≡ gives next = sym u ∙ ap past_says e in
-      let z : suc k - 1 ≡ k = omega arith in
-      rw z (rw (lines_past, q) at f)
+  lines_more h next u = rw (lines_past, sym u) at (lines_at h)
 
-  pub lines-refused : (left at : ℕ) (x : Past) (r : Refusal) → 0 < left → past_says x ≡ line_past jobs s at → x ≡ P.Refused r
-      → lines_past jobs left s at ≡ y
-      → refuses r ≡ y
+  pub lines-refused : i < count → (r : Refusal) → refuses r ≡ line_past jobs s at → refuses r ≡ y
   unfolding lines_past
-  lines-refused zero at x r h u e f = absurd (omega arith)
-  lines-refused (suc k) at x r h u e f =
-      let q : line_past jobs s at ≡ refuses r = sym u ∙ ap past_says e in
-      rw (lines_past, q) at f
-
--- ---- a section
-module _ (s : List ℕ) (jobs : Bool) (limit at : ℕ) (x : CountLine) (u : count_line_says x ≡ count_line limit s at) where
-  section-by : (y : CountLine) → x ≡ y → onward (count_line_says y) (block_of jobs s) ≡ section jobs limit s at
-  unfolding section
-  section-by y e = ap (λ z. onward z (block_of jobs s)) (sym (ap count_line_says e) ∙ u)
-
-  pub section-refused : (r : Refusal) → x ≡ C.Refused r → refuses r ≡ section jobs limit s at
-  section-refused r e = section-by (C.Refused r) e
-
-  module _ (n from : ℕ) (y : Past) (e : x ≡ C.Count n from) (v : past_says y ≡ lines_past jobs n s from) where
-    lines-by : (z : Past) → y ≡ z → onward (past_says z) (λ to. gives (block n from to)) ≡ section jobs limit s at
-    lines-by z f = ap (λ k. onward k (λ to. gives (block n from to))) (sym (ap past_says f) ∙ v) ∙ section-by (C.Count n from) e
-
-    pub section-short : (r : Refusal) → y ≡ P.Refused r → refuses r ≡ section jobs limit s at
-    section-short r f = lines-by (P.Refused r) f
-
-    pub section-good : (to : ℕ) → y ≡ P.Next to → gives (block n from to) ≡ section jobs limit s at
-    section-good to f = lines-by (P.Next to) f
-
--- ---- the sections, one after another
-module _ (s : List ℕ) (x : Mode) (u : mode_says x ≡ mode_line s) where
-  pub mode-refused : (r : Refusal) → x ≡ M.Refused r → refuses r ≡ sections s
-  unfolding sections
-  mode-refused r e = rw (sym u ∙ ap mode_says e)
-
-  module _ (d : Bool) (p : ℕ) (e : x ≡ M.Directed d p) (y : Section) (v : section_says y ≡ section false desk_vertices s p) where
-    pub vertices-refused : (r : Refusal) → y ≡ S.Refused r → refuses r ≡ sections s
-    unfolding sections
-    vertices-refused r f = rw (sym u ∙ ap mode_says e, sym v ∙ ap section_says f)
-
-    module _ (b : Block) (f : y ≡ S.Lines b) (z : Section) (w : section_says z ≡ section false desk_edges s b.to) where
-      pub edges-refused : (r : Refusal) → z ≡ S.Refused r → refuses r ≡ sections s
-      unfolding sections
-      edges-refused r g = rw (sym u ∙ ap mode_says e, sym v ∙ ap section_says f, sym w ∙ ap section_says g)
-
-      module _ (a : Block) (g : z ≡ S.Lines a) (k : Section) (i : section_says k ≡ section true most_jobs s a.to) where
-        pub jobs-refused : (r : Refusal) → k ≡ S.Refused r → refuses r ≡ sections s
-        unfolding sections
-        jobs-refused r h = rw (sym u ∙ ap mode_says e, sym v ∙ ap section_says f, sym w ∙ ap section_says g, sym i ∙ ap section_says h)
-
-        pub all-good : (j : Block) → k ≡ S.Lines j → gives (plan d b a j) ≡ sections s
-        unfolding sections
-        all-good j h = rw (sym u ∙ ap mode_says e, sym v ∙ ap section_says f, sym w ∙ ap section_says g, sym i ∙ ap section_says h)
-
--- ---- the check of the whole
-module _ (s : List ℕ) where
-  pub too_long : most_bytes < length s → (r : Refusal) → r ≡ at too_many sheet_file 0 → refuses r ≡ sheet_check s
-  unfolding sheet_check
-  too_long h r e = ap refuses e ∙ rw (lt-ltb most_bytes (length s) h)
-
-  module _ (h : length s ≤ most_bytes) (x : Checked) (u : checked_says x ≡ sections s) where
-    pub check-refused : (r : Refusal) → x ≡ Ch.Refused r → refuses r ≡ sheet_check s
-    unfolding sheet_check
-    check-refused r e = rw (le-ltb most_bytes (length s) h, ← u, e)
-
-    pub check-more : (p : Plan) → x ≡ Ch.Good p → p.jobs.to < length s → (r : Refusal) → r ≡ sheet_fault s p.jobs.to bad_form
-        → refuses r ≡ sheet_check s
-    unfolding sheet_check
-    check-more p e k r f = ap refuses f ∙ rw (le-ltb most_bytes (length s) h, ← u, e, lt-ltb p.jobs.to (length s) k)
-
-    pub check-good : (p : Plan) → x ≡ Ch.Good p → length s ≤ p.jobs.to → gives p ≡ sheet_check s
-    unfolding sheet_check
-    check-good p e k = rw (le-ltb most_bytes (length s) h, ← u, e, le-ltb p.jobs.to (length s) k)
+  lines-refused h r u = rw (lines_past, sym u) at (lines_at h)

@@ -1,4 +1,5 @@
 -- Laws of job lines, one for each answer of the code. Assumes nothing.
+use Rattle.std.proofs.Common.{Result}
 use Prim.Native.Nat.{ℕ, ◌+◌, ◌≤◌}
 use mathlib.Core.Path.{◌≡◌, refl, sym, ap, ◌∙◌}
 use mathlib.Core.Bool.{Bool, true, false, cond}
@@ -7,7 +8,7 @@ use native.Mathlib.Omega.{arith}
 use lib.IntN.{ℤ}
 use lib.ListN.{length, drop, length-drop}
 use lib.Seq.{drop-drop, drop-append-le}
-use Rattle.basis.specs.Refusal.{gives, refuses, bad_form, out_of_range}
+use Rattle.basis.specs.Refusal.{gives, refuses, said, bad_form, out_of_range}
 use Rattle.basis.specs.declared.refusal.Refusal.{Refusal}
 use Rattle.basis.specs.Scan.{mem}
 use Rattle.text.specs.Word.{Word, malformed, outside, value, well_formed, within, ident_of}
@@ -18,11 +19,10 @@ use Rattle.text.specs.declared.ident.Scan.TheVariants as S
 use Rattle.text.proofs.Words.{Ends, Reads, field-reads}
 use Rattle.text.proofs.Bytes.{mem-right}
 use Rattle.plan.specs.Lines.{sheet_fault, in_sheet, begins}
-use Rattle.plan.specs.Jobs.{bfs_word, cdlp_word, wcc_word, lcc_word, made, job_of, job_line, job_says}
+use Rattle.plan.specs.Jobs.{bfs_word, cdlp_word, wcc_word, lcc_word, made, job_of, job_line}
 use Rattle.plan.specs.Steps.{job_by, with_number, numbered_at}
 use Rattle.plan.specs.declared.job.Job.{Job}
 use Rattle.plan.specs.declared.job.Job.TheVariants.{Bfs, Wcc, Cdlp, Lcc}
-use Rattle.plan.specs.declared.job.JobLine.{JobLine}
 use Rattle.plan.proofs.Words.{begins-split, begins-long, begins-cut, begins-word}
 use Rattle.plan.proofs.Lines.{Line, line-said, word-reads, none_reads}
 
@@ -38,11 +38,8 @@ module _ (s : List ℕ) (at from : ℕ) (bfs : Bool) (x : Scan) (u : scan_says x
   pub numbered-outside : (p : ℕ) (r : Refusal) → x ≡ S.Outside p → r ≡ sheet_fault s at out_of_range → refuses r ≡ numbered_at s at from bfs
   numbered-outside p r e f = ap refuses f ∙ numbered-by (S.Outside p) e
 
-  pub numbered-bfs : (z y : ℤ) (p : ℕ) → x ≡ S.Value z p → y ≡ z → bfs ≡ true → gives (Bfs y, p) ≡ numbered_at s at from bfs
-  numbered-bfs z y p e f t = rw (f, ← numbered-by (S.Value z p) e, t)
-
-  pub numbered-cdlp : (z y : ℤ) (p : ℕ) → x ≡ S.Value z p → y ≡ z → bfs ≡ false → gives (Cdlp y, p) ≡ numbered_at s at from bfs
-  numbered-cdlp z y p e f t = rw (f, ← numbered-by (S.Value z p) e, t)
+  pub numbered-value : (z : ℤ) (p : ℕ) (j : Job) → x ≡ S.Value z p → j ≡ job_by bfs z → gives (j, p) ≡ numbered_at s at from bfs
+  numbered-value z p j e f = rw (f, ← numbered-by (S.Value z p) e)
 
 -- ---- a job by the four tests of the bytes at its place
 abbrev job_from : Bool → Bool → Bool → Bool → List ℕ → Word Job
@@ -103,13 +100,13 @@ module _ (s : List ℕ) (at : ℕ) where
           }
 
   module _ (p : Bool) (a : p ≡ begins bfs_word (drop at s)) where
-    pub job-bfs : p ≡ true → (x : JobLine) → job_says x ≡ numbered_at s at (at + 4) true → job_says x ≡ job_line s at
+    pub job-bfs : p ≡ true → (x : Result (Job × ℕ) Refusal) → said x ≡ numbered_at s at (at + 4) true → said x ≡ job_line s at
     unfolding numbered_at mem
     job-bfs h x e =
         e ∙ line-said job_of s at _ (number-reads true bfs_word refl (sym a ∙ h) (λ bs r l. sym (job-by bs r l) ∙ rw (sym a ∙ h)))
 
-    pub job-cdlp : p ≡ false → (q : Bool) → q ≡ begins cdlp_word (drop at s) → q ≡ true → (x : JobLine)
-        → job_says x ≡ numbered_at s at (at + 5) false → job_says x ≡ job_line s at
+    pub job-cdlp : p ≡ false → (q : Bool) → q ≡ begins cdlp_word (drop at s) → q ≡ true → (x : Result (Job × ℕ) Refusal)
+        → said x ≡ numbered_at s at (at + 5) false → said x ≡ job_line s at
     unfolding numbered_at mem
     job-cdlp h q b g x e =
         e ∙ line-said job_of s at _ (number-reads false cdlp_word refl (sym b ∙ g)

@@ -5,5 +5,4 @@ pub mod Jobs
 pub mod Checks
 pub mod Places
 pub mod Meaning
-pub mod Saids
 pub mod Examples

@@ -1,14 +1,15 @@
 -- Laws of a sheet's lines: their numbers, and a line by what is scanned of it. Assumes nothing.
-use Prim.Native.Nat.{ℕ, ◌+◌, ◌≤◌, ◌<◌}
+use Rattle.std.proofs.Common.{count_by, min}
+use Rattle.std.proofs.lemmas.List.Recursion.{is_count_by}
+use Rattle.std.proofs.lemmas.List.{take_min}
+use Prim.Native.Nat.{ℕ, ◌+◌, ◌≤◌}
 use mathlib.Core.Path.{◌≡◌, refl, sym, ap, ◌∙◌}
 use mathlib.Core.Bool.{true, false}
 use mathlib.Core.List.{List, [], ◌∷◌, ◌++◌}
 use native.Mathlib.Omega.{arith}
-use native.Mathlib.Numerals.{add-one}
-use borrow.Author.Tests.{eq-eqb, ne_eqb, leb-true, leb-false}
-use lib.Dec.{leb}
-use lib.ListN.{length, get_or, take, drop, length-take, drop_of_length-le}
-use lib.Seq.{drop-cons, get_or-take}
+use borrow.Author.Tests.{leb-true, leb-false}
+use lib.Dec.{leb, eqb}
+use lib.ListN.{length, take, drop, drop_of_length-le}
 use Rattle.basis.specs.Scan.{mem}
 use Rattle.basis.proofs.Tests.{bool_cases, clash}
 use Rattle.text.specs.Word.{Word, malformed, outside, value}
@@ -17,32 +18,20 @@ use Rattle.text.specs.Line.{column_in, line_says}
 use Rattle.text.specs.Scan.{Scanned, scanned, column_at, line_of}
 use Rattle.text.proofs.Words.{Reads}
 use Rattle.text.proofs.Lines.{line-end, line_reads}
-use Rattle.plan.specs.Lines.{lfs, in_sheet, word_alone, sheet_line, begins}
+use Rattle.plan.specs.Lines.{lfs, line_number, in_sheet, word_alone, sheet_line, begins}
 use Rattle.plan.proofs.Words.{begins-word, begins-ended, is_word_lem}
 
--- ---- the loop that counts LFs
-module _ (s : List ℕ) (at number i x : ℕ) (inv : number + lfs (drop i (take at s)) ≡ x) where
-  front : i < at → i < length s → drop i (take at s) ≡ get_or s i 0 ∷ drop (i + 1) (take at s)
-  front h k =
-      rw (add-one, ← get_or-take at s i 0 h) (drop-cons (take at s) i 0 (simp length-take (omega arith)))
+-- ---- the LFs of a sheet's bytes, counted
+lfs-counted : (l : List ℕ) → lfs l ≡ count_by (λ b. eqb b lf) l
+unfolding lfs
+lfs-counted = is_count_by lfs (λ b. eqb b lf) refl (λ b l. bool_cases (eqb b lf) _ (λ e. rw (lfs, e) (omega arith)) (λ e. rw (lfs, e)))
 
-  pub number_more : i < at → i < length s → get_or s i 0 ≡ 10 → number + 1 + lfs (drop (i + 1) (take at s)) ≡ x
-  unfolding lfs
-  number_more h k e = omega (arith, rw (front h k, lfs, eq-eqb (get_or s i 0) 10 e) at inv)
-
-  pub number-on : i < at → i < length s → (get_or s i 0 ≡ 10 → ⊥) → number + lfs (drop (i + 1) (take at s)) ≡ x
-  unfolding lfs
-  number-on h k e = rw (front h k, lfs, ne_eqb (get_or s i 0) 10 e) at inv
-
-  past_all : length (take at s) ≤ i → number ≡ x
-  unfolding lfs
-  past_all h = omega (arith, rw (drop_of_length-le (take at s) h) at inv)
-
-  pub number_short : length s ≤ i → number ≡ x
-  number_short h = past_all (simp length-take (omega arith))
-
-  pub number-end : at ≤ i → number ≡ x
-  number-end h = past_all (simp length-take (omega arith))
+pub number-counted : (s : List ℕ) (at k n : ℕ) → k ≡ min at (length s) → n ≡ count_by (λ b. eqb b 10) (take k s)
+    → 1 + n ≡ line_number s at
+number-counted s at k n e u =
+    ap (λ n. 1 + n)
+    (u ∙ ap (λ k. count_by (λ b. eqb b 10) (take k s)) e ∙ ap (count_by (λ b. eqb b 10)) (take_min at s)
+    ∙ sym (lfs-counted (take at s)))
 
 -- ---- a line by what is scanned of it, whatever its column; a missing line is as one that is malformed
 no-column : {A : Type 0} (s : List ℕ) (at next c d : ℕ) (w : Word A) → in_sheet s (line_says at next c w)

@@ -1,44 +1,34 @@
 -- Laws of words: the loop that compares, and a word before the LF that ends its line. Assumes nothing.
-use Prim.Native.Nat.{ℕ, ◌+◌, ◌≤◌, ◌<◌}
+use Rattle.std.proofs.Common.{min}
+use Rattle.std.proofs.lemmas.List.{drop_min}
+use Rattle.std.specs.List.{starts_with}
+use Prim.Native.Nat.{ℕ, ◌+◌, ◌-◌, ◌≤◌, ◌<◌}
 use mathlib.Core.Path.{◌≡◌, refl, sym, ap, ◌∙◌}
 use mathlib.Core.Bool.{Bool, true, false, ◌&&◌}
 use mathlib.Core.List.{List, [], ◌∷◌, ◌++◌}
 use native.Mathlib.Omega.{arith}
-use native.Mathlib.Numerals.{add-one}
-use borrow.Author.Tests.{eq-eqb, eqb-true, ltb-true, ltb-false}
-use lib.Dec.{ltb, eqb}
-use lib.ListN.{length, get_or, drop, length-append, length-drop, drop_of_length-le}
-use lib.Seq.{drop-cons, append_snoc}
+use borrow.Author.Tests.{eq-eqb, eqb-true}
+use lib.Dec.{eqb}
+use lib.ListN.{length, take, drop, length-append, length-drop}
+use lib.Seq.{append_snoc, take-length}
 use Rattle.basis.specs.Scan.{mem}
-use Rattle.basis.proofs.Tests.{clash, bool_cases, failed, held, and_first, and_second, eqb_swap}
+use Rattle.basis.proofs.Tests.{clash, held, and_first, and_second, eqb_swap}
 use Rattle.text.specs.Scan.{has_at}
-use Rattle.text.proofs.Bytes.{has-yes, has-past, has-below, not-head, not-tail, mem-cut}
+use Rattle.text.proofs.Bytes.{has-below, not-head, not-tail, mem-cut}
 use Rattle.plan.specs.Lines.{begins, is_word}
 
--- ---- the loop over a word's bytes
-begins-has : (s : List ℕ) (p b : ℕ) (w : List ℕ) → begins (b ∷ w) (drop p s) ≡ (has_at s p b && begins w (drop (p + 1) s))
+-- ---- a word at a place, as the library compares
+begins-starts : (w l : List ℕ) → starts_with eqb l w ≡ begins w l
 unfolding begins
-begins-has s p b w =
-    bool_cases (ltb p (length s)) _
-    (λ e. let h : p < length s = ltb-true p (length s) e in
-    rw (← has-yes s p b h, drop-cons s p 0 h, add-one))
-    (λ e. let h : length s ≤ p = ltb-false p (length s) e in
-    rw (← has-past s p b h, drop_of_length-le s h))
+begins-starts [] l = refl
+begins-starts (b ∷ w) [] = refl
+begins-starts (b ∷ w) (c ∷ l) = ap (λ t. t && starts_with eqb l w) (eqb_swap b c) ∙ ap (λ t. eqb c b && t) (begins-starts w l)
 
-module _ (s w : List ℕ) (p i : ℕ) (x : Bool) (inv : begins (drop i w) (drop p s) ≡ x) where
-  begins-step : i < length w → (has_at s p (get_or w i 0) && begins (drop (i + 1) w) (drop (p + 1) s)) ≡ x
-  begins-step h =
-      sym (begins-has s p (get_or w i 0) (drop (i + 1) w)) ∙ ap (λ l. begins l (drop p s)) (rw add-one (sym (drop-cons w i 0 h))) ∙ inv
-
-  pub begins-not : (t : Bool) → i < length w → t ≡ has_at s p (get_or w i 0) → t ≡ false → false ≡ x
-  begins-not t h e n = rw (failed t _ e n) at (begins-step h)
-
-  pub begins-more : (t : Bool) → i < length w → t ≡ has_at s p (get_or w i 0) → t ≡ true → begins (drop (i + 1) w) (drop (p + 1) s) ≡ x
-  begins-more t h e n = rw (held t _ e n) at (begins-step h)
-
-  pub begins-end : length w ≤ i → true ≡ x
-  unfolding begins
-  begins-end h = rw (drop_of_length-le w h) at inv
+pub starts-at : (s w : List ℕ) (at k : ℕ) (t : Bool) → k ≡ min at (length s) → t ≡ starts_with eqb (take (length s - k) (drop k s)) w
+    → t ≡ begins w (drop at s)
+starts-at s w at k t e u =
+    let whole : take (length s - k) (drop k s) ≡ drop k s = ap (λ n. take n (drop k s)) (sym (length-drop k s)) ∙ take-length (drop k s) in
+    u ∙ ap (λ l. starts_with eqb l w) (whole ∙ ap (λ n. drop n s) e ∙ drop_min at s) ∙ begins-starts w (drop at s)
 
 pub has_in : (s : List ℕ) (p b : ℕ) (t : Bool) → t ≡ has_at s p b → t ≡ true → p < length s
 has_in s p b t e n = has-below s p b (held t _ e n)

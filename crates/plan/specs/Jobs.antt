@@ -1,13 +1,11 @@
 -- "Jobs are `bfs ID`, `wcc`, `cdlp N`, `lcc`, their numbers in identifier form."
 use Rattle.std.specs.Prelude.{ℕ, cond, List, drop}
-use Rattle.basis.specs.Refusal.{Said, gives, refuses}
+use Rattle.basis.specs.Refusal.{Said}
 use Rattle.text.specs.Bytes.{bytes}
 use Rattle.text.specs.Word.{Word, malformed, outside, value, ident_of}
 use Rattle.plan.specs.Lines.{sheet_line, begins, is_word}
 use Rattle.plan.specs.declared.job.Job.{Job}
 use Rattle.plan.specs.declared.job.Job.TheVariants.{Bfs, Wcc, Cdlp, Lcc}
-use Rattle.plan.specs.declared.job.JobLine.{JobLine}
-use Rattle.plan.specs.declared.job.JobLine.TheVariants as JL
 
 -- `bfs `, four bytes with its space
 abbrev pub bfs_word : List ℕ
@@ -42,8 +40,3 @@ job_of bs =
 -- the job line at a place: "Bad form is 2", "a job's number out of range 3"
 abbrev pub job_line : List ℕ → ℕ → Said (Job × ℕ)
 job_line s place = sheet_line job_of s place
-
--- what the code's answer for a job line says: the job and the place past the line, or the refusal
-abbrev pub job_says : JobLine → Said (Job × ℕ)
-job_says (JL.Refused r) = refuses r
-job_says (JL.Line j next) = gives (j, next)

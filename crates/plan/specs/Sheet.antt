@@ -8,16 +8,6 @@ use Rattle.plan.specs.Lines.{sheet_fault, sheet_line, is_word}
 use Rattle.plan.specs.Jobs.{job_of}
 use Rattle.plan.specs.declared.sections.Block.{Block}
 use Rattle.plan.specs.declared.sections.Plan.{Plan}
-use Rattle.plan.specs.declared.sections.Checked.{Checked}
-use Rattle.plan.specs.declared.sections.Checked.TheVariants as Ch
-use Rattle.plan.specs.declared.sections.Mode.{Mode}
-use Rattle.plan.specs.declared.sections.Mode.TheVariants as M
-use Rattle.plan.specs.declared.sections.CountLine.{CountLine}
-use Rattle.plan.specs.declared.sections.CountLine.TheVariants as C
-use Rattle.plan.specs.declared.sections.Past.{Past}
-use Rattle.plan.specs.declared.sections.Past.TheVariants as P
-use Rattle.plan.specs.declared.sections.Section.{Section}
-use Rattle.plan.specs.declared.sections.Section.TheVariants as S
 
 -- of the desk limits: "16 jobs"
 abbrev pub most_jobs : ℕ
@@ -101,28 +91,3 @@ ended s p = cond (ltb p.jobs.to (length s)) (refuses (sheet_fault s p.jobs.to ba
 -- "A sheet is checked for length (1, line 0), then line by line"
 unfoldable pub sheet_check : List ℕ → Said Plan
 sheet_check s = cond (ltb most_bytes (length s)) (refuses (at too_many sheet_file 0)) (onward (sections s) (ended s))
-
--- what the code's answer for a whole sheet says: its plan, or the refusal
-abbrev pub checked_says : Checked → Said Plan
-checked_says (Ch.Refused r) = refuses r
-checked_says (Ch.Good p) = gives p
-
--- what the code's answer for the first line says: whether directed, and the place past it
-abbrev pub mode_says : Mode → Said (Bool × ℕ)
-mode_says (M.Refused r) = refuses r
-mode_says (M.Directed d next) = gives (d, next)
-
--- what the code's answer for a count line says: the count, and the place past it
-abbrev pub count_line_says : CountLine → Said (ℕ × ℕ)
-count_line_says (C.Refused r) = refuses r
-count_line_says (C.Count n next) = gives (n, next)
-
--- what the code's answer for one line or a section's lines says: the place past them
-abbrev pub past_says : Past → Said ℕ
-past_says (P.Refused r) = refuses r
-past_says (P.Next next) = gives next
-
--- what the code's answer for a section says: how many lines, where they begin, the place past them
-abbrev pub section_says : Section → Said Block
-section_says (S.Refused r) = refuses r
-section_says (S.Lines b) = gives b

@@ -1,7 +1,8 @@
 // Job lines: `bfs ID`, `wcc`, `cdlp N`, `lcc`.
-ghost use Rattle.std.specs.Prelude.{◌≡◌};
-ghost use Rattle.plan.specs.Jobs.{job_line, job_says};
-ghost use Rattle.plan.specs.Steps.{numbered_at};
+ghost use Rattle.std.specs.Prelude.{◌≡◌, Bool, ℤ};
+ghost use Rattle.basis.specs.Refusal.{said};
+ghost use Rattle.plan.specs.Jobs.{job_line};
+ghost use Rattle.plan.specs.Steps.{job_by, numbered_at};
 
 use crate::line::{begins_at, sheet_fault};
 use basis::Refusal;
@@ -10,7 +11,7 @@ use text::count::LF;
 use text::ident::{Scan, field};
 
 // A job, with its number where it has one.
-#[derive(Drop)]
+#[derive(Clone, Copy, Debug, PartialEq, Eq)]
 pub enum Job {
     Bfs(i64),
     Wcc,
@@ -18,45 +19,38 @@ pub enum Job {
     Lcc,
 }
 
-// A job and the place past its line, or why its line is refused.
-#[derive(Drop)]
-pub enum JobLine {
-    Refused(Refusal),
-    Line(Job, usize),
-}
-
-// The job at a place whose number stands at another; of BFS or of CDLP.
-fn numbered(s: &[u8], at: usize, from: usize, bfs: bool) -> JobLine
-    ensures { job_says result ≡ numbered_at s.now at from bfs }
+// The job at a place whose number stands at another, with the place past its line; of BFS or of CDLP, as `job` makes it.
+fn numbered<F: Fn(i64) -> Job>(
+    s: &[u8],
+    at: usize,
+    from: usize,
+    job: F,
+) -> Result<(Job, usize), Refusal>
+    requires { F.IsAlwaysCallable job }
+    ensures { (bfs : Bool) → ((z : ℤ) (j : _) → F.post job z j → j ≡ job_by bfs z) → said result ≡ numbered_at s.now at from bfs }
 {
-    let x = field(s, from, LF);
-    match x {
-        Scan::Bad(_) => JobLine::Refused(sheet_fault(s, at, BAD_FORM)),
-        Scan::Outside(_) => JobLine::Refused(sheet_fault(s, at, OUT_OF_RANGE)),
-        Scan::Value(z, next) => {
-            if bfs {
-                return JobLine::Line(Job::Bfs(z), next);
-            }
-            JobLine::Line(Job::Cdlp(z), next)
-        }
+    match field(s, from, LF) {
+        Scan::Bad(_) => Err(sheet_fault(s, at, BAD_FORM)),
+        Scan::Outside(_) => Err(sheet_fault(s, at, OUT_OF_RANGE)),
+        Scan::Value(z, next) => Ok((job(z), next)),
     }
 }
 
-// The job line at a place.
-pub fn read_job(s: &[u8], at: usize) -> JobLine
-    ensures { job_says result ≡ job_line s.now at }
+// The job line at a place, and the place past it.
+pub fn read_job(s: &[u8], at: usize) -> Result<(Job, usize), Refusal>
+    ensures { said result ≡ job_line s.now at }
 {
     if begins_at(s, at, b"bfs ") {
-        return numbered(s, at, at + 4, true);
+        return numbered(s, at, at + 4, Job::Bfs);
     }
     if begins_at(s, at, b"cdlp ") {
-        return numbered(s, at, at + 5, false);
+        return numbered(s, at, at + 5, Job::Cdlp);
     }
     if begins_at(s, at, b"wcc\n") {
-        return JobLine::Line(Job::Wcc, at + 4);
+        return Ok((Job::Wcc, at + 4));
     }
     if begins_at(s, at, b"lcc\n") {
-        return JobLine::Line(Job::Lcc, at + 4);
+        return Ok((Job::Lcc, at + 4));
     }
-    JobLine::Refused(sheet_fault(s, at, BAD_FORM))
+    Err(sheet_fault(s, at, BAD_FORM))
 }

@@ -4,26 +4,13 @@ ghost use Rattle.plan.specs.Lines.{line_number, sheet_fault, begins};
 
 use basis::Refusal;
 use basis::refusal::SHEET_FILE;
-use text::count::{LF, has};
+use text::count::LF;
 
 // The number of the line at a place, counted from 1.
 pub fn line_number(s: &[u8], at: usize) -> usize
     ensures { result ≡ line_number s.now at }
 {
-    let mut number = 1;
-    let mut i = 0;
-    while i < at {
-        if s.len() <= i {
-            return number;
-        }
-        if s[i] == LF {
-            number += 1;
-            i += 1;
-        } else {
-            i += 1;
-        }
-    }
-    number
+    1 + s[..at.min(s.len())].iter().filter(|b| **b == LF).count()
 }
 
 // A refusal at the line of a place.
@@ -37,14 +24,5 @@ pub fn sheet_fault(s: &[u8], at: usize, number: usize) -> Refusal
 pub fn begins_at(s: &[u8], at: usize, word: &[u8]) -> bool
     ensures { result ≡ begins word.now (drop at s.now) }
 {
-    let mut p = at;
-    let mut i = 0;
-    while i < word.len() {
-        if !has(s, p, word[i]) {
-            return false;
-        }
-        p += 1;
-        i += 1;
-    }
-    true
+    s[at.min(s.len())..].starts_with(word)
 }

@@ -1,10 +1,10 @@
 // The sections of a sheet, each a count line and so many lines, and the check of the whole.
-ghost use Rattle.std.specs.Prelude.{◌≡◌, ◌≤◌};
+ghost use Rattle.std.specs.Prelude.{◌≡◌, ◌≤◌, ℕ, Bool, true, false, List};
 ghost use Rattle.basis.specs.Limits.{desk_edges};
+ghost use Rattle.basis.specs.Refusal.{said};
 ghost use Rattle.plan.specs.Sheet.{mode_line, count_line, line_past, lines_past, section, sections, sheet_check};
-ghost use Rattle.plan.specs.Sheet.{mode_says, count_line_says, past_says, section_says, checked_says};
 
-use crate::job::{JobLine, read_job};
+use crate::job::read_job;
 use crate::line::{begins_at, sheet_fault};
 use basis::Refusal;
 use basis::limits::{DESK_EDGES, DESK_VERTICES};
@@ -18,7 +18,7 @@ pub const MOST_JOBS: usize = 16;
 pub const MOST_BYTES: usize = 65536;
 
 // How many lines a section has, where they begin, and the place past them.
-#[derive(Clone, Copy)]
+#[derive(Clone, Copy, Debug, PartialEq, Eq)]
 pub struct Block {
     pub count: usize,
     pub from: usize,
@@ -26,7 +26,7 @@ pub struct Block {
 }
 
 // Whether the graph is directed, and where the three sections stand.
-#[derive(Drop)]
+#[derive(Clone, Copy, Debug, PartialEq, Eq)]
 pub struct Plan {
     pub directed: bool,
     pub vertices: Block,
@@ -34,181 +34,122 @@ pub struct Plan {
     pub jobs: Block,
 }
 
-// A sheet's plan, or why the sheet is refused.
-#[derive(Drop)]
-pub enum Checked {
-    Refused(Refusal),
-    Good(Plan),
-}
-
-// Whether the graph is directed and the place past the first line, or why that line is refused.
-#[derive(Drop)]
-enum Mode {
-    Refused(Refusal),
-    Directed(bool, usize),
-}
-
-// A count and the place past its line, or why that line is refused.
-#[derive(Drop)]
-enum CountLine {
-    Refused(Refusal),
-    Count(usize, usize),
-}
-
-// The place past some lines, or why one of them is refused.
-#[derive(Drop)]
-enum Past {
-    Refused(Refusal),
-    Next(usize),
-}
-
-// Where a section stands, or why one of its lines is refused.
-#[derive(Drop)]
-enum Section {
-    Refused(Refusal),
-    Lines(Block),
-}
-
 // The first line: whether the graph is directed, and the place past it.
-fn mode_line(s: &[u8]) -> Mode
-    ensures { mode_says result ≡ mode_line s.now }
+fn mode_line(s: &[u8]) -> Result<(bool, usize), Refusal>
+    ensures { said result ≡ mode_line s.now }
 {
     if begins_at(s, 0, b"directed\n") {
-        return Mode::Directed(true, 9);
+        return Ok((true, 9));
     }
     if begins_at(s, 0, b"undirected\n") {
-        return Mode::Directed(false, 11);
+        return Ok((false, 11));
     }
-    Mode::Refused(sheet_fault(s, 0, BAD_FORM))
+    Err(sheet_fault(s, 0, BAD_FORM))
 }
 
-// The count line at a place.
-fn count_line(s: &[u8], limit: usize, at: usize) -> CountLine
+// The count on the line at a place, and the place past it.
+fn count_line(s: &[u8], limit: usize, at: usize) -> Result<(usize, usize), Refusal>
     requires { limit ≤ desk_edges }
-    ensures { count_line_says result ≡ count_line limit s.now at }
+    ensures { said result ≡ count_line limit s.now at }
 {
-    let x = count(s, at);
-    match x {
-        Counted::Bad(_) => CountLine::Refused(sheet_fault(s, at, BAD_FORM)),
-        Counted::Value(n, p) => {
-            if !has(s, p, LF) {
-                return CountLine::Refused(sheet_fault(s, at, BAD_FORM));
+    match count(s, at) {
+        Counted::Bad(_) => Err(sheet_fault(s, at, BAD_FORM)),
+        Counted::Value(n, next) => {
+            if !has(s, next, LF) {
+                return Err(sheet_fault(s, at, BAD_FORM));
             }
             if limit < n as usize {
-                return CountLine::Refused(sheet_fault(s, at, TOO_MANY));
+                return Err(sheet_fault(s, at, TOO_MANY));
             }
-            CountLine::Count(n as usize, p + 1)
+            Ok((n as usize, next + 1))
         }
     }
 }
 
-// Past the line at a place, which must be ended, and a job where `jobs` says so.
-fn line_past(s: &[u8], jobs: bool, at: usize) -> Past
-    ensures { past_says result ≡ line_past jobs s.now at }
+// Past the line at a place, which must be ended.
+fn past_line(s: &[u8], at: usize) -> Result<usize, Refusal>
+    ensures { said result ≡ line_past false s.now at }
 {
-    if jobs {
-        let x = read_job(s, at);
-        return match x {
-            JobLine::Refused(r) => Past::Refused(r),
-            JobLine::Line(_, next) => Past::Next(next),
-        };
-    }
     let end = line_end(s, at);
     if has(s, end, LF) {
-        return Past::Next(end + 1);
+        Ok(end + 1)
+    } else {
+        Err(sheet_fault(s, at, BAD_FORM))
     }
-    Past::Refused(sheet_fault(s, at, BAD_FORM))
 }
 
-// Past so many lines.
-fn lines_past(s: &[u8], jobs: bool, count: usize, from: usize) -> Past
-    ensures { past_says result ≡ lines_past jobs count s.now from }
+// Past the job line at a place.
+fn past_job(s: &[u8], at: usize) -> Result<usize, Refusal>
+    ensures { said result ≡ line_past true s.now at }
+{
+    let (_, next) = read_job(s, at)?;
+    Ok(next)
+}
+
+// Past so many lines, each as `past` goes past it.
+fn lines_past<F: Fn(usize) -> Result<usize, Refusal>>(
+    past: F,
+    count: usize,
+    from: usize,
+) -> Result<usize, Refusal>
+    requires { F.IsAlwaysCallable past }
+    ensures { (jobs : Bool) (s : List ℕ) → ((place : ℕ) (r : _) → F.post past place r → said r ≡ line_past jobs s place)
+        → said result ≡ lines_past jobs count s from }
 {
     let mut at = from;
-    let mut left = count;
-    while 0 < left {
-        let x = line_past(s, jobs, at);
-        match x {
-            Past::Refused(r) => {
-                return Past::Refused(r);
-            }
-            Past::Next(next) => {
-                at = next;
-                left -= 1;
-            }
-        }
+    for _ in 0..count {
+        at = past(at)?;
     }
-    Past::Next(at)
+    Ok(at)
 }
 
-// The section at a place.
-fn read_section(s: &[u8], jobs: bool, limit: usize, at: usize) -> Section
-    requires { limit ≤ desk_edges }
-    ensures { section_says result ≡ section jobs limit s.now at }
+// The section at a place, each of its lines as `past` goes past it.
+#[tactic(auto, unfolding(crate::specs::Sheet::section))]
+fn read_section<F: Fn(usize) -> Result<usize, Refusal>>(
+    s: &[u8],
+    past: F,
+    limit: usize,
+    at: usize,
+) -> Result<Block, Refusal>
+    requires few { limit ≤ desk_edges }
+    requires callable { F.IsAlwaysCallable past }
+    ensures { (jobs : Bool) → ((place : ℕ) (r : _) → F.post past place r → said r ≡ line_past jobs s.now place)
+        → said result ≡ section jobs limit s.now at }
 {
-    let x = count_line(s, limit, at);
-    match x {
-        CountLine::Refused(r) => Section::Refused(r),
-        CountLine::Count(n, from) => {
-            let y = lines_past(s, jobs, n, from);
-            match y {
-                Past::Refused(r) => Section::Refused(r),
-                Past::Next(to) => Section::Lines(Block { count: n, from, to }),
-            }
-        }
-    }
+    let (count, from) = count_line(s, limit, at)?;
+    let to = lines_past(past, count, from)?;
+    Ok(Block { count, from, to })
 }
 
 // The mode and the three sections, whatever stands after them.
-pub fn read_sections(s: &[u8]) -> Checked
-    ensures { checked_says result ≡ sections s.now }
+#[tactic(auto, unfolding(crate::specs::Sheet::sections))]
+pub fn read_sections(s: &[u8]) -> Result<Plan, Refusal>
+    ensures { said result ≡ sections s.now }
 {
-    let mode = mode_line(s);
-    match mode {
-        Mode::Refused(r) => Checked::Refused(r),
-        Mode::Directed(directed, at) => {
-            let first = read_section(s, false, DESK_VERTICES, at);
-            match first {
-                Section::Refused(r) => Checked::Refused(r),
-                Section::Lines(vertices) => {
-                    let second = read_section(s, false, DESK_EDGES, vertices.to);
-                    match second {
-                        Section::Refused(r) => Checked::Refused(r),
-                        Section::Lines(edges) => {
-                            let third = read_section(s, true, MOST_JOBS, edges.to);
-                            match third {
-                                Section::Refused(r) => Checked::Refused(r),
-                                Section::Lines(jobs) => Checked::Good(Plan {
-                                    directed,
-                                    vertices,
-                                    edges,
-                                    jobs,
-                                }),
-                            }
-                        }
-                    }
-                }
-            }
-        }
-    }
+    let (directed, at) = mode_line(s)?;
+    let vertices = read_section(s, |at| past_line(s, at), DESK_VERTICES, at)?;
+    let edges = read_section(s, |at| past_line(s, at), DESK_EDGES, vertices.to)?;
+    let jobs = read_section(s, |at| past_job(s, at), MOST_JOBS, edges.to)?;
+    Ok(Plan {
+        directed,
+        vertices,
+        edges,
+        jobs,
+    })
 }
 
 // A sheet's plan, or its first fault.
-pub fn check(s: &[u8]) -> Checked
-    ensures { checked_says result ≡ sheet_check s.now }
+#[tactic(auto, unfolding(crate::specs::Sheet::sheet_check))]
+pub fn check(s: &[u8]) -> Result<Plan, Refusal>
+    ensures { said result ≡ sheet_check s.now }
 {
     if MOST_BYTES < s.len() {
-        return Checked::Refused(Refusal::at(TOO_MANY, SHEET_FILE, 0));
+        return Err(Refusal::at(TOO_MANY, SHEET_FILE, 0));
     }
-    let x = read_sections(s);
-    match x {
-        Checked::Refused(r) => Checked::Refused(r),
-        Checked::Good(plan) => {
-            let end = plan.jobs.to;
-            if end < s.len() {
-                return Checked::Refused(sheet_fault(s, end, BAD_FORM));
-            }
-            Checked::Good(plan)
-        }
+    let plan = read_sections(s)?;
+    let end = plan.jobs.to;
+    if end < s.len() {
+        return Err(sheet_fault(s, end, BAD_FORM));
     }
+    Ok(plan)
 }

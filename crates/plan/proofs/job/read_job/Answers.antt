@@ -1,3 +1,4 @@
+use Rattle.std.proofs.Common.{true, false}
 use Rattle.plan.proofs.Jobs.{job-bfs, job-cdlp, job-wcc, job-lcc, job-none}
 use Rattle.plan.proofs.Words.{word_at}
 use native.Mathlib.Omega.{arith}
@@ -11,7 +12,7 @@ overflow_add-at c =
     )
 
 pub returns-then-begins_at : goal.returns-then-begins_at
-returns-then-begins_at c = search job-bfs
+returns-then-begins_at c = job-bfs _ _ _ c.begins_at.ensures c.if-begins_at.true _ (c.numbered.ensures true (λ z j h. h))
 
 pub overflow_add-at-then-begins_at-2 : goal.overflow_add-at-then-begins_at-2
 overflow_add-at-then-begins_at-2 c =
@@ -21,7 +22,7 @@ overflow_add-at-then-begins_at-2 c =
     )
 
 pub returns-then-begins_at-2 : goal.returns-then-begins_at-2
-returns-then-begins_at-2 c = search job-cdlp
+returns-then-begins_at-2 c = job-cdlp _ _ _ c.begins_at.ensures c.if-begins_at.false _ c.begins_at-2.ensures c.if-begins_at-2.true _ (c.numbered-then-begins_at-2.ensures false (λ z j h. h))
 
 pub overflow_add-result : goal.overflow_add-result
 overflow_add-result c =

@@ -1,9 +1,9 @@
-use mathlib.Core.Path.{◌≡◌}
-use Rattle.plan.specs.Sheet.{lines_past}
+use Rattle.std.proofs.Common.{◌≡◌, ℕ, ◌-◌, Bool, List}
+use Rattle.basis.specs.Refusal.{said}
+use Rattle.plan.specs.Sheet.{line_past, lines_past}
 use Rattle.plan.proofs.sections.lines_past.Given as goal
 
-abbrev pub invariant-loop-left : goal.invariant-loop-left
-invariant-loop-left l = lines_past l.jobs l.left l.s l.at ≡ lines_past l.jobs l.count l.s l.from
-
-abbrev pub decreases-loop-left : goal.decreases-loop-left
-decreases-loop-left l = l.left
+abbrev pub invariant-loop : goal.invariant-loop
+invariant-loop g l =
+    (jobs : Bool) (s : List ℕ) → ((place : ℕ) (r : _) → goal.F-post g l.past place r → said r ≡ line_past jobs s place)
+    → lines_past jobs (l.count - l.counter) s l.at ≡ lines_past jobs l.count s l.from
