@@ -66,6 +66,9 @@ module _ (n : ℕ) (out : ℕ → List ℕ) (s : ℕ) where
     pub root : s < n
     pub few : n < infinity
 
+  pub base_of : Inside n out → s < n → n < infinity → Base
+  base_of i r f = record { inside = i; root = r; few = f }
+
   -- all arcs of v lead to vertices that have a depth, of at most one more
   abbrev pub Closed : Board → ℕ → Type 0
   Closed S v = (w : ℕ) → mem w (out v) ≡ true → hops S w ≤ hops S v + 1

@@ -1,25 +1,17 @@
-use lib.ListN.{length}
-use mathlib.Core.Path.{sym, ◌∙◌}
 use native.Mathlib.Omega.{arith}
-use Rattle.graph.specs.Part.{part_of}
-use Rattle.bfs.proofs.Queue.{Base, serving-queued, serving-begin, serving-level, serving-room}
+use Rattle.bfs.proofs.Queue.{base_of, serving-queued, serving-begin, serving-level, serving-room}
 use Rattle.bfs.proofs.Queue.{serving-tail, serving-deeper, serving-part, serving-more, serving-end}
 use Rattle.bfs.proofs.search.Goals as goal
 
-pub relax-tail-requires : goal.relax-tail-requires
-relax-tail-requires c =
-    let base : Base (length c.args.depth.now) (part_of (length c.args.depth.now) c.args.out.offsets.now c.args.out.targets.now) c.args.root =
-    record { inside = c.requires.inside; root = c.requires.root_in_bounds.0; few = omega arith } in
-    record {
-      queued = serving-queued _ _ _ base _ _ (c.fill.ensures.after (λ y e. e)) c.requires.root_in_bounds.1;
-      w_in_bounds = (omega arith, omega arith);
-    }
+pub relax-tail-requires-clause-queued : goal.relax-tail-requires-clause-queued
+relax-tail-requires-clause-queued c =
+    let b = base_of _ _ _ c.requires.inside c.requires.root_in_bounds.0 (omega arith) in
+    serving-queued _ _ _ b _ _ (c.fill.ensures.after (λ y e. e)) c.requires.root_in_bounds.1
 
 pub loop-head-init : goal.loop-head-init
 loop-head-init c =
-    let base : Base (length c.args.depth.now) (part_of (length c.args.depth.now) c.args.out.offsets.now c.args.out.targets.now) c.args.root =
-    record { inside = c.requires.inside; root = c.requires.root_in_bounds.0; few = omega arith } in
-    serving-begin _ _ _ base _ _ (c.fill.ensures.after (λ y e. e)) c.requires.root_in_bounds.1 c.relax-tail.ensures
+    let b = base_of _ _ _ c.requires.inside c.requires.root_in_bounds.0 (omega arith) in
+    serving-begin _ _ _ b _ _ (c.fill.ensures.after (λ y e. e)) c.requires.root_in_bounds.1 c.relax-tail.ensures
 
 pub advance-ring-requires : goal.advance-ring-requires
 advance-ring-requires c = omega (arith, serving-level _ _ _ c.loop-head.invariant)
@@ -33,15 +25,11 @@ bounds-queue-head c = let k = c.loop-head.invariant in omega (arith, serving-tai
 pub overflow_add-ring : goal.overflow_add-ring
 overflow_add-ring c = omega (arith, serving-deeper _ _ _ c.loop-head.invariant c.loop-head-test.true c.advance-ring.ensures)
 
-pub walk-tail-requires : goal.walk-tail-requires
-walk-tail-requires c =
-    record {
-      queued = c.loop-head.invariant.queued;
-      next_value = (
-        rw c.neighbours-next.ensures (serving-part _ _ _ c.loop-head.invariant c.loop-head-test.true c.advance-ring.ensures),
-        serving-deeper _ _ _ c.loop-head.invariant c.loop-head-test.true c.advance-ring.ensures,
-      );
-    }
+pub walk-tail-requires-clause-next_value : goal.walk-tail-requires-clause-next_value
+walk-tail-requires-clause-next_value c = (
+  rw c.neighbours-next.ensures (serving-part _ _ _ c.loop-head.invariant c.loop-head-test.true c.advance-ring.ensures),
+  serving-deeper _ _ _ c.loop-head.invariant c.loop-head-test.true c.advance-ring.ensures,
+)
 
 pub overflow_add-head : goal.overflow_add-head
 overflow_add-head c =
@@ -55,14 +43,6 @@ pub loop-head-preserved : goal.loop-head-preserved
 loop-head-preserved c =
     serving-more _ _ _ c.loop-head.invariant c.loop-head-test.true c.advance-ring.ensures
     c.neighbours-next.ensures c.walk-tail.ensures
-
-pub shape_of-depth : goal.shape_of-depth
-shape_of-depth c = c.loop-head.invariant.len
-
-pub shape_of-queue : goal.shape_of-queue
-shape_of-queue c =
-    serving-room _ _ _ c.loop-head.invariant ∙ sym
-    c.requires.root_in_bounds.1
 
 pub returns : goal.returns
 returns c = serving-end _ _ _ c.loop-head.invariant c.loop-head-test.false
