@@ -1,5 +1,5 @@
 -- Laws of the call: one for each way that a function of it ends, its premises the code's tests. Assumes nothing.
-use Prim.Native.Nat.{ℕ, ◌≤◌, min}
+use Prim.Native.Nat.{ℕ, ◌≤◌}
 use mathlib.Core.Path.{◌≡◌, refl, sym, ap, ◌∙◌}
 use mathlib.Core.Bool.{Bool, true, false, not, ◌&&◌}
 use mathlib.Core.List.{List, ◌++◌}
@@ -15,9 +15,7 @@ use borrow.Author.Tests.{leb-true, ltb-false, not-true}
 use Rattle.basis.specs.Refusal.{Said, gives, refuses, plain, unsound, bad_rounds, no_room}
 use Rattle.basis.specs.Area.{cleared, cleared_z}
 use Rattle.basis.proofs.Tests.{clash, and_first, and_second, held}
-use Rattle.basis.proofs.Orders.{leb-min}
-use Rattle.graph.specs.declared.Size.{Size}
-use Rattle.graph.specs.Sound.{Graph, lent, sound_graph}
+use Rattle.graph.specs.Sound.{Graph, sound_graph}
 use Rattle.graph.specs.Walk.{arcs_checked}
 use Rattle.graph.proofs.Walks.{check-told, check-area}
 use Rattle.graph.proofs.Sounds.{sound-of}
@@ -29,25 +27,9 @@ use Rattle.cdlp.specs.Steps.{Ready, Fitting, Worked, worked}
 use Rattle.cdlp.proofs.Runs.{cdlp-length}
 
 -- ---- a number of rounds within the limit
-pub allowed-negative : (z : ℤ) → lt_z z (pos 0) ≡ true → false ≡ good_rounds z
-unfolding good_rounds
-allowed-negative z h = rw h
-
-pub allowed-above : (z : ℤ) → lt_z z (pos 0) ≡ false → lt_z (pos most_rounds) z ≡ true → false ≡ good_rounds z
-unfolding good_rounds
-allowed-above z h g = rw (h, g)
-
 pub allowed-within : (z : ℤ) → lt_z z (pos 0) ≡ false → lt_z (pos most_rounds) z ≡ false → true ≡ good_rounds z
 unfolding good_rounds
 allowed-within z h g = rw (h, g)
-
--- ---- room for n places in the shortest area
-pub room-all : (n : ℕ) (R : List ℤ) (L N C : List ℕ) {a b c : ℕ} → a ≡ min (length R) (length L) → b ≡ min a (length N)
-    → c ≡ min b (length C) → leb n c ≡ room_for n R L N C
-unfolding room_for
-room-all n R L N C p q r =
-    let a = min (length R) (length L) in
-    rw (r, q, p, leb-min n (min a (length N)) (length C), leb-min n a (length N), leb-min n (length R) (length L)) refl
 
 -- ---- the areas
 pub works : {L M N O C D : List ℕ} → L ≡ M → N ≡ O → C ≡ D → worked L N C ≡ worked M O D
@@ -86,13 +68,9 @@ rooms-of n R L N C h =
     }
 
 -- ---- their first n places, of a graph's n vertices; R₁ is the result area after it was cleared
-module _ (size : Size) (ids : List ℤ) (oo ot io is : List ℕ) (R : List ℤ) (L N C : List ℕ)
-    (x : Ready (lent size ids oo ot io is) R L N C) where
-  abbrev g : Graph
-  g = lent size ids oo ot io is
-
+module _ (g : Graph) (R : List ℤ) (L N C : List ℕ) (x : Ready g R L N C) where
   abbrev n : ℕ
-  n = size.vertices
+  n = g.vertices
 
   rooms : Rooms n R L N C
   rooms = rooms-of n R L N C x.room
@@ -122,7 +100,7 @@ module _ (size : Size) (ids : List ℤ) (oo ot io is : List ℕ) (R : List ℤ) 
     pub taken-result : n ≡ length (take n R₁)
     taken-result = sym (length-take-le n R₁ lent-result)
 
-    pub fitting-of : Fitting size ids oo ot io is (take n R₁) (take n L) (take n N) (take n C)
+    pub fitting-of : Fitting g (take n R₁) (take n L) (take n N) (take n C)
     fitting-of =
         record {
           sound = x.sound;
@@ -151,13 +129,10 @@ unfolding cdlp_call left_by room_for
 call-over g z R L N C C₁ q = rw (q, length-replicate {A = ℕ} (length C) 0)
 
 -- C₁ are the counts that it left; z' is z as it is handed on
-module _ (size : Size) (ids : List ℤ) (oo ot io is : List ℕ) (z : ℤ) (R : List ℤ) (L N C C₁ : List ℕ) (o : Outcome)
-    (s : Bool) (e : arcs_checked s C₁ ≡ arcs_checked (sound_graph (lent size ids oo ot io is)) (cleared C)) where
-  abbrev graph : Graph
-  graph = lent size ids oo ot io is
-
+module _ (graph : Graph) (z : ℤ) (R : List ℤ) (L N C C₁ : List ℕ) (o : Outcome)
+    (s : Bool) (e : arcs_checked s C₁ ≡ arcs_checked (sound_graph graph) (cleared C)) where
   abbrev roomy : Bool
-  roomy = room_for size.vertices R L N C₁
+  roomy = room_for graph.vertices R L N C₁
 
   -- what the call leaves by what it says
   abbrev left : Said (Unit {0}) → Outcome
@@ -178,7 +153,7 @@ module _ (size : Size) (ids : List ℤ) (oo ot io is : List ℕ) (z : ℤ) (R : 
     unfolding cdlp_call left_by
     call-refused k q = ends-refused left o (sound_graph graph) (good_rounds z) bad_rounds roomy s (check-told e) h a good k q ∙ over
 
-    module _ (k : a ≡ true) (r : Bool) (i : r ≡ room_for size.vertices R L N C₁) where
+    module _ (k : a ≡ true) (r : Bool) (i : r ≡ room_for graph.vertices R L N C₁) where
       pub call-short : r ≡ false → o ≡ refusal no_room R L N C₁ → o ≡ cdlp_call graph z R L N C
       unfolding cdlp_call left_by
       call-short l q = ends-short left o (sound_graph graph) (good_rounds z) bad_rounds roomy s (check-told e) h a good k r i l q ∙ over

@@ -9,7 +9,7 @@ use native.Mathlib.Decide.{ℕ_discrete, dec_lt}
 use lib.ListN.{length, get_or, set, drop, get_or-eq_default, replicate, length-set, length-replicate}
 use lib.Seq.{get_or-set_same, get_or-set_other, ext_get_or}
 use lib.Dec.{eqb, ltb}
-use borrow.Author.Tests.{eq-eqb, ne_eqb, ltb-true, ltb-false, lt-ltb, le-ltb}
+use borrow.Author.Tests.{eq-eqb, ne_eqb, ltb-true, ltb-false, le-ltb}
 use Rattle.basis.proofs.Orders.{number-order}
 use Rattle.basis.specs.Scan.{all_below, bit}
 use Rattle.basis.proofs.Scans.{below_at, below-first, below_rest, below-append, bit_le}
@@ -20,24 +20,6 @@ use Rattle.cdlp.specs.Rounds.{labels_at}
 use Rattle.cdlp.specs.Steps.{Under, best, best_with, Poll, poll, polled, polled_all, forgotten, Labelled, Heard, TwoParts}
 use Rattle.cdlp.proofs.Lists.{labels-low, labels_append, labels_length, labels-step, labels-end}
 use Rattle.cdlp.proofs.Labels.{Chosen, next-chosen, chosen-one}
-
--- the four ways of a lead
-module _ (b : Best) (l k : ℕ) where
-  pub lead-above : b.count < k → best l k ≡ best_with b l k
-  unfolding best_with
-  lead-above h = rw (lt-ltb b.count k h)
-
-  pub lead-below : k ≤ b.count → k < b.count → b ≡ best_with b l k
-  unfolding best_with
-  lead-below g h = rw (le-ltb b.count k g, lt-ltb k b.count h)
-
-  pub lead-smaller : k ≤ b.count → b.count ≤ k → l < b.label → best l k ≡ best_with b l k
-  unfolding best_with
-  lead-smaller g h q = rw (le-ltb b.count k g, le-ltb k b.count h, lt-ltb l b.label q)
-
-  pub lead-stays : k ≤ b.count → b.count ≤ k → b.label ≤ l → b ≡ best_with b l k
-  unfolding best_with
-  lead-stays g h q = rw (le-ltb b.count k g, le-ltb k b.count h, le-ltb l b.label q)
 
 -- a vertex of a part has a label, and its label a count, where the counts are as many as before
 pub vertex_low : {part L C : List ℕ} → Labelled part L C → (i : ℕ) → i < length part → get_or part i 0 < length L

@@ -1,6 +1,6 @@
 -- A whole run on a sound graph: from the vertex numbers, through the rounds, to the identifiers of the labels. Assumes nothing.
 use Prim.Native.Nat.{ℕ, zero, suc, ◌<◌}
-use mathlib.Core.Path.{◌≡◌, sym, ap, ap₂, ◌∙◌, subst}
+use mathlib.Core.Path.{◌≡◌, sym, ap, ◌∙◌, subst}
 use mathlib.Core.Bool.{true}
 use mathlib.Core.List.{List}
 use native.Mathlib.Omega.{arith}
@@ -14,8 +14,7 @@ use Rattle.basis.proofs.Areas.{column-length}
 use Rattle.basis.proofs.Orders.{signed-order}
 use Rattle.basis.specs.Scan.{all_below}
 use Rattle.basis.proofs.Scans.{below_up}
-use Rattle.graph.specs.declared.Size.{Size}
-use Rattle.graph.specs.Sound.{Graph, lent, inward, outward, names, Sound}
+use Rattle.graph.specs.Sound.{Graph, inward, outward, names, Sound}
 use Rattle.graph.proofs.Sounds.{sound-of, names-length, inward-below, outward-below, inward-few, outward-few}
 use Rattle.cdlp.specs.Rounds.{around, labels_at, one_round, rounds, cdlp_of}
 use Rattle.cdlp.specs.Steps.{AllBounded, Runnable, around_in, numbers_after, Fitting, Nameable}
@@ -24,7 +23,7 @@ use Rattle.cdlp.proofs.Names.{rounds-low, rounds-length, own-low, numbers-named}
 use Rattle.cdlp.proofs.Turns.{around-low}
 
 -- the arcs of a sound graph stay among its vertices, and no vertex has more of them than a graph has vertices
-pub sound-bounded : (g : Graph) → Sound g → AllBounded g.vertices g.in_offsets g.in_sources g.out_offsets g.out_targets
+pub sound-bounded : (g : Graph) → Sound g → AllBounded g
 sound-bounded g s v l =
     let few = s.few_vertices in
     let a = inward-few g s v l in
@@ -54,15 +53,12 @@ cdlp-numbers g s k =
     n
     (numbers-named signed-order (pos 0) (names g) s.ids_rise hears
     (λ v l. subst (λ (j : ℕ). all_below j (hears v) ≡ true) (sym n)
-    (around-low g.vertices g.in_offsets g.in_sources g.out_offsets g.out_targets (sound-bounded g s) v (omega arith))) k)
+    (around-low g (sound-bounded g s) v (omega arith))) k)
 
-module _ {size : Size} {ids : List ℤ} {oo ot io is : List ℕ} {R : List ℤ} {L N C L₁ C₁ : List ℕ} (x : Fitting size ids oo ot io is R L N C)
+module _ {g : Graph} {R : List ℤ} {L N C L₁ C₁ : List ℕ} (x : Fitting g R L N C)
     (e₁ : L₁ ≡ own_numbers (length L)) (e₂ : C₁ ≡ cleared C) where
-  abbrev g : Graph
-  g = lent size ids oo ot io is
-
   abbrev n : ℕ
-  n = size.vertices
+  n = g.vertices
 
   s : Sound g
   s = sound-of g x.sound
@@ -73,40 +69,35 @@ module _ {size : Size} {ids : List ℤ} {oo ot io is : List ℕ} {R : List ℤ} 
   own-length : length (own_numbers n) ≡ n
   own-length = column-length (λ (v : ℕ). v) 0 n
 
-  numbers-length : length L₁ ≡ n
-  numbers-length = ap length numbers ∙ own-length
-
-  pub run-runnable : Runnable io is oo ot L₁ N C₁
+  pub run-runnable : Runnable g L₁ N C₁
   run-runnable =
       let c : length C₁ ≡ length C = ap length e₂ ∙ length-replicate (length C) 0 in
       record {
-        inside = subst (λ (k : ℕ). AllBounded k io is oo ot) (sym numbers-length) (sound-bounded g s);
-        low_labels =
-            subst (λ (k : ℕ). all_below k L₁ ≡ true) (sym numbers-length)
-            (subst (λ (l : List ℕ). all_below n l ≡ true) (sym numbers) (own-low n));
-        room_next = x.room_next ∙ sym numbers-length;
-        room_counts = c ∙ x.room_counts ∙ sym numbers-length;
+        inside = sound-bounded g s;
+        low_labels = rw numbers (own-low n);
+        room_labels = ap length numbers ∙ own-length;
+        room_next = x.room_next;
+        room_counts = c ∙ x.room_counts;
         fresh = e₂ ∙ ap (λ (k : ℕ). replicate k 0) (sym c);
       }
 
-  module _ {L₂ : List ℕ} (k : ℕ) (e₃ : L₂ ≡ numbers_after io is oo ot L₁ k) where
-    nears : (v : ℕ) → v < n → all_below n (around_in n io is oo ot v) ≡ true
-    nears = around-low n io is oo ot (sound-bounded g s)
+  module _ {L₂ : List ℕ} (k : ℕ) (e₃ : L₂ ≡ numbers_after g L₁ k) where
+    nears : (v : ℕ) → v < n → all_below n (around_in g v) ≡ true
+    nears = around-low g (sound-bounded g s)
 
-    run : L₂ ≡ rounds eqb ltb 0 (around_in n io is oo ot) n (own_numbers n) k
-    run = e₃ ∙ ap₂ (λ j M. rounds eqb ltb 0 (around_in j io is oo ot) j M k) numbers-length numbers
+    run : L₂ ≡ numbers_after g (own_numbers n) k
+    run = e₃ ∙ ap (λ (M : List ℕ). numbers_after g M k) numbers
 
     low : all_below n L₂ ≡ true
-    low = subst (λ (l : List ℕ). all_below n l ≡ true) (sym run)
-        (rounds-low (around_in n io is oo ot) n nears (own_numbers n) k own-length (own-low n))
+    low = rw run (rounds-low (around_in g) n nears (own_numbers n) k own-length (own-low n))
 
-    pub run-nameable : Nameable ids L₂ R
+    pub run-nameable : Nameable g.ids L₂ R
     run-nameable =
         record {
-          low_labels = below_up n (length ids) L₂ s.ids_room low;
-          room_result = x.room_result ∙ sym (ap length run ∙ rounds-length (around_in n io is oo ot) n nears (own_numbers n) k own-length);
+          low_labels = below_up n (length g.ids) L₂ s.ids_room low;
+          room_result = x.room_result ∙ sym (ap length run ∙ rounds-length (around_in g) n nears (own_numbers n) k own-length);
         }
 
-    pub run-named : {X : List ℤ} → X ≡ labels_at (pos 0) ids L₂ → X ≡ cdlp_of g k
+    pub run-named : {X : List ℤ} → X ≡ labels_at (pos 0) g.ids L₂ → X ≡ cdlp_of g k
     unfolding cdlp_of
-    run-named q = q ∙ labels-front (pos 0) n ids L₂ low ∙ ap (labels_at (pos 0) (names g)) run ∙ cdlp-numbers g s k
+    run-named q = q ∙ labels-front (pos 0) n g.ids L₂ low ∙ ap (labels_at (pos 0) (names g)) run ∙ cdlp-numbers g s k

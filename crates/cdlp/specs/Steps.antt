@@ -2,9 +2,7 @@
 use Rattle.std.specs.Prelude.{ℕ, ◌+◌, ◌≤◌, ◌<◌, true, cond, List, [], ◌∷◌, ◌≡◌, ℤ, length, get_or, set, replicate, eqb, ltb}
 use Rattle.basis.specs.Limits.{most_vertices}
 use Rattle.basis.specs.Scan.{all_below}
-use Rattle.graph.specs.declared.Size.{Size}
-use Rattle.graph.specs.Part.{part_of}
-use Rattle.graph.specs.Sound.{Graph, lent, sound_graph}
+use Rattle.graph.specs.Sound.{Graph, inward, outward, sound_graph}
 use Rattle.cdlp.specs.Call.{room_for}
 use Rattle.cdlp.specs.Rounds.{around, one_round, rounds}
 use Rattle.cdlp.specs.declared.label.Best.{Best}
@@ -67,9 +65,9 @@ pub record Bounded (n : ℕ) (inward outward : List ℕ) : Type 0 where
   pub short_in : length inward ≤ most_vertices
   pub short_out : length outward ≤ most_vertices
 
--- the same of each of n vertices: the arcs stay inside
-abbrev pub AllBounded : ℕ → List ℕ → List ℕ → List ℕ → List ℕ → Type 0
-AllBounded n io is oo ot = (v : ℕ) → v < n → Bounded n (part_of n io is v) (part_of n oo ot v)
+-- the same of each vertex of a graph: the arcs stay inside
+abbrev pub AllBounded : Graph → Type 0
+AllBounded g = (v : ℕ) → v < g.vertices → Bounded g.vertices (inward g v) (outward g v)
 
 -- a vertex can be settled: its two parts are bounded, the labels have counts, and the counts are zero
 pub record TwoParts (inward outward labels counts : List ℕ) : Type 0 where
@@ -77,34 +75,34 @@ pub record TwoParts (inward outward labels counts : List ℕ) : Type 0 where
   pub low_labels : all_below (length counts) labels ≡ true
   pub fresh : counts ≡ replicate (length counts) 0
 
--- a round can be run: the arcs stay inside, labels are vertex numbers, the other areas are as long, and the counts are zero
-pub record Runnable (io is oo ot labels next counts : List ℕ) : Type 0 where
-  pub inside : AllBounded (length labels) io is oo ot
-  pub low_labels : all_below (length labels) labels ≡ true
-  pub room_next : length next ≡ length labels
-  pub room_counts : length counts ≡ length labels
+-- a round can be run: the arcs stay inside, labels are vertex numbers, each area has one place for each vertex, and the counts are zero
+pub record Runnable (g : Graph) (labels next counts : List ℕ) : Type 0 where
+  pub inside : AllBounded g
+  pub low_labels : all_below g.vertices labels ≡ true
+  pub room_labels : length labels ≡ g.vertices
+  pub room_next : length next ≡ g.vertices
+  pub room_counts : length counts ≡ g.vertices
   pub fresh : counts ≡ replicate (length counts) 0
 
--- v's neighbours among n vertices: its part of the inward sources, then its part of the outward targets
-abbrev pub around_in : ℕ → List ℕ → List ℕ → List ℕ → List ℕ → ℕ → List ℕ
-around_in n io is oo ot v = around (part_of n io is) (part_of n oo ot) v
+-- v's neighbours: its part of the inward sources, then its part of the outward targets
+abbrev pub around_in : Graph → ℕ → List ℕ
+around_in g v = around (inward g) (outward g) v
 
--- "Each round uses only the round before": one round from the labels L, over the inward offsets and sources and the outward offsets and
--- targets
-abbrev pub next_numbers : List ℕ → List ℕ → List ℕ → List ℕ → List ℕ → List ℕ
-next_numbers io is oo ot L = one_round eqb ltb 0 (around_in (length L) io is oo ot) (length L) L
+-- "Each round uses only the round before": one round from the labels L of a graph's vertices
+abbrev pub next_numbers : Graph → List ℕ → List ℕ
+next_numbers g L = one_round eqb ltb 0 (around_in g) g.vertices L
 
 -- the same of k rounds from the labels L
-abbrev pub numbers_after : List ℕ → List ℕ → List ℕ → List ℕ → List ℕ → ℕ → List ℕ
-numbers_after io is oo ot L k = rounds eqb ltb 0 (around_in (length L) io is oo ot) (length L) L k
+abbrev pub numbers_after : Graph → List ℕ → ℕ → List ℕ
+numbers_after g L k = rounds eqb ltb 0 (around_in g) g.vertices L k
 
 -- the rounds can be run: the graph is sound, and each area has exactly one place for each vertex
-pub record Fitting (size : Size) (ids : List ℤ) (oo ot io is : List ℕ) (result : List ℤ) (labels next counts : List ℕ) : Type 0 where
-  pub sound : sound_graph (lent size ids oo ot io is) ≡ true
-  pub room_result : length result ≡ size.vertices
-  pub room_labels : length labels ≡ size.vertices
-  pub room_next : length next ≡ size.vertices
-  pub room_counts : length counts ≡ size.vertices
+pub record Fitting (g : Graph) (result : List ℤ) (labels next counts : List ℕ) : Type 0 where
+  pub sound : sound_graph g ≡ true
+  pub room_result : length result ≡ g.vertices
+  pub room_labels : length labels ≡ g.vertices
+  pub room_next : length next ≡ g.vertices
+  pub room_counts : length counts ≡ g.vertices
 
 -- the labels can be named: each has an identifier, and each name a place
 pub record Nameable (ids : List ℤ) (labels : List ℕ) (result : List ℤ) : Type 0 where

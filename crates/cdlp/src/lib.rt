@@ -7,7 +7,7 @@ mod rounds;
 ghost use Rattle.std.specs.Prelude.{◌≡◌};
 ghost use Rattle.basis.specs.Refusal.{gives};
 ghost use Rattle.basis.specs.Area.{cleared};
-ghost use Rattle.graph.specs.Sound.{lent};
+ghost use Rattle.graph.specs.Sound.{standing};
 ghost use Rattle.kernels.specs.Answer.{says};
 ghost use Rattle.cdlp.specs.Call.{outcome, refusal, good_rounds, room_for, left_by, cdlp_call};
 ghost use Rattle.cdlp.specs.Steps.{Ready, worked};
@@ -15,7 +15,7 @@ ghost use Rattle.cdlp.specs.Steps.{Ready, worked};
 use basis::Refusal;
 use basis::area::clear;
 use basis::refusal::{BAD_ROUNDS, NO_ROOM, UNSOUND};
-use graph::Size;
+use graph::Lent;
 use graph::walk::sound_over;
 use kernels::refused;
 use rounds::propagate;
@@ -67,40 +67,25 @@ fn refuse(
 
 // The labels after so many rounds, in the first places of areas that have room for them.
 fn fill(
-    size: Size,
-    ids: &[i64],
-    out_offsets: &[usize],
-    out_targets: &[usize],
-    in_offsets: &[usize],
-    in_sources: &[usize],
+    g: Lent,
     k: usize,
     res: &mut [i64],
     labels: &mut [usize],
     next: &mut [usize],
     counts: &mut [usize],
 ) -> Result<(), Refusal>
-    requires { Ready
-        (lent size ids.now out_offsets.now out_targets.now in_offsets.now in_sources.now)
-        res.old labels.old next.old counts.old }
+    requires { Ready (standing g) res.old labels.old next.old counts.old }
     ensures { outcome (says result) res.new labels.new next.new counts.new
-        ≡ left_by (gives tt)
-        (lent size ids.now out_offsets.now out_targets.now
-        in_offsets.now in_sources.now)
-        k res.old labels.old next.old counts.old }
+        ≡ left_by (gives tt) (standing g.entry) k res.old labels.old next.old counts.old }
 {
     clear(res);
     propagate(
-        size,
-        ids,
-        out_offsets,
-        out_targets,
-        in_offsets,
-        in_sources,
+        g,
         k,
-        &mut res[..size.vertices],
-        &mut labels[..size.vertices],
-        &mut next[..size.vertices],
-        &mut counts[..size.vertices],
+        &mut res[..g.size.vertices],
+        &mut labels[..g.size.vertices],
+        &mut next[..g.size.vertices],
+        &mut counts[..g.size.vertices],
     );
     clear_work(labels, next, counts);
     Ok(())
@@ -108,12 +93,7 @@ fn fill(
 
 // The labels of a sound graph's vertices after so many rounds; or a refusal: 9, 11 or 8. `labels`, `next` and `counts` are working areas.
 pub fn cdlp(
-    size: Size,
-    ids: &[i64],
-    out_offsets: &[usize],
-    out_targets: &[usize],
-    in_offsets: &[usize],
-    in_sources: &[usize],
+    g: Lent,
     iterations: i64,
     res: &mut [i64],
     labels: &mut [usize],
@@ -121,39 +101,16 @@ pub fn cdlp(
     counts: &mut [usize],
 ) -> Result<(), Refusal>
     ensures { outcome (says result) res.new labels.new next.new counts.new
-        ≡ cdlp_call
-        (lent size ids.now out_offsets.now out_targets.now
-        in_offsets.now in_sources.now)
-        iterations res.old labels.old next.old counts.old }
+        ≡ cdlp_call (standing g.entry) iterations res.old labels.old next.old counts.old }
 {
-    if !sound_over(
-        size,
-        ids,
-        out_offsets,
-        out_targets,
-        in_offsets,
-        in_sources,
-        counts,
-    ) {
+    if !sound_over(g, counts) {
         return refuse(UNSOUND, res, labels, next, counts);
     }
     if !allowed(iterations) {
         return refuse(BAD_ROUNDS, res, labels, next, counts);
     }
-    if !room(size.vertices, res, labels, next, counts) {
+    if !room(g.size.vertices, res, labels, next, counts) {
         return refuse(NO_ROOM, res, labels, next, counts);
     }
-    fill(
-        size,
-        ids,
-        out_offsets,
-        out_targets,
-        in_offsets,
-        in_sources,
-        iterations as usize,
-        res,
-        labels,
-        next,
-        counts,
-    )
+    fill(g, iterations as usize, res, labels, next, counts)
 }

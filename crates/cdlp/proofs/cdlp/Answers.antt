@@ -29,7 +29,7 @@ fill-requires c =
 
 pub returns : goal.returns
 returns c =
-    call-done _ _ _ _ _ _ _ _ _ _ _ _ _ _ c.sound_over.ensures
+    call-done _ _ _ _ _ _ _ _ _ c.sound_over.ensures
     c.if-not-sound_over.false _
     (to_z-of_z c.ranges.iterations) _ c.allowed.ensures
     c.if-not-allowed.false
