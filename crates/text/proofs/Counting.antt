@@ -1,23 +1,18 @@
 -- Where a column can be counted: whatever is scanned from a place of a file stops at or behind it and not past the file, whose length is
 -- below 2^63. Assumes nothing.
 use Prim.Native.Nat.{ℕ, ◌+◌, ◌*◌, ◌^◌, ◌≤◌, ◌<◌}
-use mathlib.Core.Path.{◌≡◌, refl, sym, ap, subst, ◌∙◌}
+use mathlib.Core.Path.{◌≡◌, sym, ap, subst}
 use mathlib.Core.List.{List}
-use mathlib.Core.Bool.{true}
 use native.Mathlib.Omega.{arith}
 use lib.IntN.{ℤ}
 use lib.ListN.{length, drop, length-drop}
 use Rattle.basis.proofs.Tests.{bool_cases}
 use Rattle.text.specs.Word.{well_formed}
-use Rattle.text.specs.Bytes.{lf}
+use Rattle.text.specs.Bytes.{lf, space}
 use Rattle.text.specs.Line.{Form, decimal_form}
-use Rattle.text.specs.Scan.{Scanned, scanned, has_at, ident_at, closed, field_at, scan_says}
-use Rattle.text.specs.Scan.{line_from, decimal_at, rest_at, rest_says, Behind}
+use Rattle.text.specs.Scan.{Scanned, scanned, has_at, ident_at, closed, field_at, two_at}
+use Rattle.text.specs.Scan.{line_from, decimal_at, rest_at, Behind}
 use Rattle.text.specs.declared.decimal.Decimal.{Decimal}
-use Rattle.text.specs.declared.ident.Scan.{Scan}
-use Rattle.text.specs.declared.ident.Scan.TheVariants as S
-use Rattle.text.specs.declared.line.Rest.{Rest}
-use Rattle.text.specs.declared.line.Rest.TheVariants as R
 use Rattle.text.proofs.Bytes.{has-below, up_to-le}
 use Rattle.text.proofs.Stops.{stop_le}
 use Rattle.text.proofs.Idents.{ident-short, ident-next}
@@ -56,45 +51,30 @@ module _ (s : List ℕ) (at : ℕ) (l : length s * 1 < 2 ^ 63) where
   unfolding rest_at decimal_at
   rest-behind p h k = last-behind decimal_form stop_le p h k
 
-  -- in the first field, and behind it
-  module _ (h : at < length s) (c : ℕ) (x : Scan) (e : scan_says x ≡ field_at s at c) where
-    pub first-behind : (p : ℕ) → x ≡ S.Bad p → Behind at p
-    first-behind p q =
-        subst (Behind at) (ap (λ (y : Scanned ℤ). y.next) (sym e ∙ ap scan_says q)) (field-behind at c (omega arith) (omega arith))
+  -- in the one field of a vertex line, and in the two of any other
+  pub vertex-behind : at < length s → (x : Scanned ℤ) → x ≡ field_at s at lf → Behind at x.next
+  vertex-behind h x e = subst (Behind at) (ap (λ (z : Scanned ℤ). z.next) (sym e)) (field-behind at lf (omega arith) (omega arith))
 
-    pub past-field : (y : Scan) → x ≡ y → well_formed (scan_says y).said ≡ true → (at ≤ (scan_says y).next)
-        × ((scan_says y).next ≤ length s)
-    past-field y q w =
-        let f : field_at s at c ≡ scan_says y = sym e ∙ ap scan_says q in
-        let m = field-moves s at c (ap (λ (z : Scanned ℤ). well_formed z.said) f ∙ w) in
-        let n : (field_at s at c).next ≡ (scan_says y).next = ap (λ (z : Scanned ℤ). z.next) f in
-        (omega (arith, m.forward), omega (arith, m.inside))
+  pub two-behind : {A : Type 0} (second : List ℕ → ℕ → Scanned A) → ((p : ℕ) → at ≤ p → p ≤ length s → Behind at (second s p).next)
+      → (p : ℕ) → at ≤ p → p ≤ length s → Behind at (two_at second s p).next
+  unfolding two_at
+  two-behind second b p h k =
+      bool_cases (well_formed (field_at s p space).said) _
+      (λ w. let m = field-moves s p space w in
+      rw w (b (field_at s p space).next (omega (arith, m.forward)) m.inside))
+      (λ w. rw w (field-behind p space h k))
 
-    -- what is scanned from there on
-    module _ (d : ℕ) (y : Scan) (p : ℕ) (f : scan_says y ≡ field_at s p d) where
-      pub outside_behind : x ≡ S.Outside p → Behind at (scan_says y).next
-      outside_behind q =
-          let m = past-field (S.Outside p) q refl in
-          subst (Behind at) (ap (λ (z : Scanned ℤ). z.next) (sym f)) (field-behind p d m.0 m.1)
+  pub scanned-behind : {A : Type 0} (second : List ℕ → ℕ → Scanned A)
+      → ((p : ℕ) → at ≤ p → p ≤ length s → Behind at (second s p).next) → at < length s
+      → (x : Scanned (ℤ × A)) → x ≡ two_at second s at → Behind at x.next
+  scanned-behind {A} second b h x e =
+      subst (Behind at) (ap (λ (z : Scanned (ℤ × A)). z.next) (sym e)) (two-behind second b at (omega arith) (omega arith))
 
-      pub value-behind : (z : ℤ) → x ≡ S.Value z p → Behind at (scan_says y).next
-      value-behind z q =
-          let m = past-field (S.Value z p) q refl in
-          subst (Behind at) (ap (λ (z : Scanned ℤ). z.next) (sym f)) (field-behind p d m.0 m.1)
+  pub edge-behind : at < length s → (x : Scanned (ℤ × ℤ)) → x ≡ two_at (λ s p. field_at s p lf) s at → Behind at x.next
+  edge-behind h x e = scanned-behind (λ s p. field_at s p lf) (λ p. field-behind p lf) h x e
 
-    module _ (y : Rest) (p : ℕ) (f : rest_says y ≡ rest_at s p) where
-      pub outside-rest-behind : x ≡ S.Outside p → Behind at (rest_says y).next
-      outside-rest-behind q =
-          let m = past-field (S.Outside p) q refl in
-          subst (Behind at) (ap (λ (z : Scanned Decimal). z.next) (sym f)) (rest-behind p m.0 m.1)
+  pub coefficient-behind : at < length s → (x : Scanned (ℤ × Decimal)) → x ≡ two_at rest_at s at → Behind at x.next
+  coefficient-behind h x e = scanned-behind rest_at rest-behind h x e
 
-      pub value-rest-behind : (z : ℤ) → x ≡ S.Value z p → Behind at (rest_says y).next
-      value-rest-behind z q =
-          let m = past-field (S.Value z p) q refl in
-          subst (Behind at) (ap (λ (z : Scanned Decimal). z.next) (sym f)) (rest-behind p m.0 m.1)
-
-pub bad-behind : (at : ℕ) (y : Scan) (p : ℕ) → Behind at (scan_says y).next → y ≡ S.Bad p → Behind at p
-bad-behind at y p b q = subst (λ (z : Scan). Behind at (scan_says z).next) q b
-
-pub bad-rest-behind : (at : ℕ) (y : Rest) (p : ℕ) → Behind at (rest_says y).next → y ≡ R.Bad p → Behind at p
-bad-rest-behind at y p b q = subst (λ (z : Rest). Behind at (rest_says z).next) q b
+pub bad-behind : {A : Type 0} (at : ℕ) (x : Scanned A) → Behind at x.next → (p : ℕ) → x.next ≡ p → Behind at p
+bad-behind at x b p q = subst (Behind at) q b

@@ -23,12 +23,12 @@ use Rattle.text.specs.Stop.{
   fraction_stop,
   decimal_stop,
   power_word,
-  scaled_word,
+  scaled_by,
 }
 use Rattle.text.specs.Scan.{scanned, cut_number, run_at, decimal_says}
-use Rattle.text.specs.declared.count.Run.{Run}
-use Rattle.text.specs.declared.decimal.DecimalWord.{DecimalWord}
-use Rattle.text.specs.declared.decimal.DecimalWord.TheVariants as DW
+use Rattle.text.specs.declared.count.Scan.{Scan}
+use Rattle.text.specs.declared.decimal.Decimal.{Decimal}
+use Rattle.std.specs.Prelude.{Result, Ok, Err}
 use Rattle.text.specs.declared.decimal.Power.{Power}
 use Rattle.text.specs.declared.decimal.Power.TheVariants as P
 use Rattle.text.proofs.Bytes.{within-yes, within_low, within-high, within-is}
@@ -116,17 +116,17 @@ no_sign g k e = by (eqb g 43) (eqb g 45) e
 
 -- ---- two digits x and y after the sign g
 module _ (s : List ℕ) (at g x : ℕ) (X : x ≡ get_or s at 0) (t : Bool) (T : t ≡ is_digit x) where
-  pub digits-first : t ≡ false → P.Wrong at ≡ power_word (digits_power s at g) (digits_stop s at)
+  pub digits-first : t ≡ false → Err at ≡ power_word (digits_power s at g) (digits_stop s at)
   unfolding digits_power digits_stop
   digits-first q = rw (← X, failed t (is_digit x) T q, and-off (eqb (length s) (at + 2)) false refl)
 
   module _ (q : t ≡ true) (y : ℕ) (Y : y ≡ get_or s (at + 1) 0) (u : Bool) (U : u ≡ is_digit y) where
-    pub digits-second : u ≡ false → P.Wrong (at + 1) ≡ power_word (digits_power s at g) (digits_stop s at)
+    pub digits-second : u ≡ false → Err (at + 1) ≡ power_word (digits_power s at g) (digits_stop s at)
     unfolding digits_power digits_stop
     digits-second p = rw (← X, held t (is_digit x) T q, ← Y, failed u (is_digit y) U p, and-off (eqb (length s) (at + 2)) false refl)
 
     module _ (p : u ≡ true) where
-      pub digits_long : (length s ≡ at + 2 → ⊥) → P.Wrong (at + 2) ≡ power_word (digits_power s at g) (digits_stop s at)
+      pub digits_long : (length s ≡ at + 2 → ⊥) → Err (at + 2) ≡ power_word (digits_power s at g) (digits_stop s at)
       unfolding digits_power digits_stop
       digits_long n = rw (← X, held t (is_digit x) T q, ← Y, held u (is_digit y) U p, ne_eqb (length s) (at + 2) n)
 
@@ -136,11 +136,11 @@ module _ (s : List ℕ) (at g x : ℕ) (X : x ≡ get_or s at 0) (t : Bool) (T :
       digits-good l = rw (← X, held t (is_digit x) T q, ← Y, held u (is_digit y) U p, eq-eqb (length s) (at + 2) l)
 
       module _ (l : length s ≡ at + 2) (k : ℕ) (e : k ≡ digit_of x * 10 + digit_of y) where
-        pub digits_up : g ≡ 43 → P.Up k ≡ power_word (digits_power s at g) (digits_stop s at)
+        pub digits_up : g ≡ 43 → Ok (P.Up k) ≡ power_word (digits_power s at g) (digits_stop s at)
         unfolding signed_power
         digits_up h = (rw (e, eq-eqb g 43 h)) ∙ digits-good l
 
-        pub digits-down : is_sign g ≡ true → (g ≡ 43 → ⊥) → P.Down k ≡ power_word (digits_power s at g) (digits_stop s at)
+        pub digits-down : is_sign g ≡ true → (g ≡ 43 → ⊥) → Ok (P.Down k) ≡ power_word (digits_power s at g) (digits_stop s at)
         unfolding signed_power
         digits-down i h = (rw (e, ne_eqb g 43 h, eq-eqb g 45 (sign-minus g i h))) ∙ digits-good l
 
@@ -150,17 +150,17 @@ either_way true a = refl
 either_way false a = refl
 
 module _ (s : List ℕ) (at : ℕ) where
-  pub power-none : length s ≡ at → P.Up 0 ≡ power_word (power_at s at) (power_stop s at)
+  pub power-none : length s ≡ at → Ok (P.Up 0) ≡ power_word (power_at s at) (power_stop s at)
   unfolding power_at
   power-none e = rw (eq-eqb (length s) at e)
 
   module _ (n : length s ≡ at → ⊥) (b : ℕ) (B : b ≡ get_or s at 0) where
-    pub power-letter : (b ≡ 101 → ⊥) → P.Wrong at ≡ power_word (power_at s at) (power_stop s at)
+    pub power-letter : (b ≡ 101 → ⊥) → Err at ≡ power_word (power_at s at) (power_stop s at)
     unfolding power_at power_stop
     power-letter k = rw (ne_eqb (length s) at n, ← B, ne_eqb b 101 k, and-off (eqb (length s) (at + 4)) false refl)
 
     module _ (k : b ≡ 101) (g : ℕ) (G : g ≡ get_or s (at + 1) 0) (t : Bool) (T : t ≡ is_sign g) where
-      pub power-sign : t ≡ false → P.Wrong (at + 1) ≡ power_word (power_at s at) (power_stop s at)
+      pub power-sign : t ≡ false → Err (at + 1) ≡ power_word (power_at s at) (power_stop s at)
       unfolding power_at power_stop
       power-sign q =
           let w = failed t (is_sign g) T q in
@@ -174,7 +174,7 @@ module _ (s : List ℕ) (at : ℕ) where
             either_way,
           )
 
-      pub power-signed : t ≡ true → (r : Power) → r ≡ power_word (digits_power s (at + 2) g) (digits_stop s (at + 2))
+      pub power-signed : t ≡ true → (r : Result Power ℕ) → r ≡ power_word (digits_power s (at + 2) g) (digits_stop s (at + 2))
           → r ≡ power_word (power_at s at) (power_stop s at)
       unfolding power_at power_stop digits_power
       power-signed q r h =
@@ -184,14 +184,11 @@ module _ (s : List ℕ) (at : ℕ) where
 
 -- ---- a number with its power
 module _ (n f k : ℕ) (p : Power) where
-  pub scaled-up : p ≡ P.Up k → DW.Value (decimal n k f) ≡ scaled_word n f p
+  pub scaled-up : p ≡ P.Up k → decimal n k f ≡ scaled_by n f p
   scaled-up e = rw e
 
-  pub scaled-down : p ≡ P.Down k → DW.Value (decimal n 0 (f + k)) ≡ scaled_word n f p
+  pub scaled-down : p ≡ P.Down k → decimal n 0 (f + k) ≡ scaled_by n f p
   scaled-down e = rw e
-
-  pub scaled-wrong : p ≡ P.Wrong k → DW.Bad k ≡ scaled_word n f p
-  scaled-wrong e = rw e
 
 -- ---- the parts of a decimal
 module _ (s : List ℕ) (w p f n : ℕ) where
@@ -288,21 +285,21 @@ point-within s w h = by (eqb (get_or s w 0) 46) refl
         omega (arith, eqb-true (get_or s w 0) 46 e)))
         (λ q. omega (arith, q)) (eq-or-lt_of_le h)
 
-module _ (s : List ℕ) (whole : Run) (p : ℕ) (all : Run) (a : whole ≡ run_at s 0 0) (b : p ≡ past_point s whole.next)
-    (c : all ≡ run_at s p whole.n) where
+module _ (s : List ℕ) (whole : Scan ℕ) (p : ℕ) (all : Scan ℕ) (a : whole ≡ run_at s 0 0) (b : p ≡ past_point s whole.next)
+    (c : all ≡ run_at s p whole.value) where
   whole-next : whole.next ≡ run_len s
   unfolding run_at
-  whole-next = ap (λ (r : Run). r.next) a ∙ zero-add (run_len s)
+  whole-next = ap (λ (r : Scan ℕ). r.next) a ∙ zero-add (run_len s)
 
   all-next : all.next ≡ p + run_len (drop p s)
   unfolding run_at
-  all-next = ap (λ (r : Run). r.next) c
+  all-next = ap (λ (r : Scan ℕ). r.next) c
 
-  all-number : all.n ≡ cut_number (run_val (run_val 0 s) (drop p s))
+  all-number : all.value ≡ cut_number (run_val (run_val 0 s) (drop p s))
   unfolding run_at
   all-number =
-      ap (λ (r : Run). r.n) c
-      ∙ ap (λ (r : Run). cut_number (run_val r.n (drop p s))) a
+      ap (λ (r : Scan ℕ). r.value) c
+      ∙ ap (λ (r : Scan ℕ). cut_number (run_val r.value (drop p s))) a
       ∙ cap-run (run_val 0 s) (drop p s)
 
   pub decimal-from : whole.next ≤ p
@@ -316,8 +313,8 @@ module _ (s : List ℕ) (whole : Run) (p : ℕ) (all : Run) (a : whole ≡ run_a
       let h : p ≤ length s = omega (arith, b, point-within s whole.next (omega (arith, whole-next, len-le s))) in
       omega (arith, all-next, len-le (drop p s), length-drop p s)
 
-  pub decimal-is : (r : DecimalWord) → decimal_says (length s) r
-      ≡ scanned (parts_of s whole.next p (all.next - p) all.n) (parts_stop s whole.next p (all.next - p))
+  pub decimal-is : (r : Result Decimal ℕ) → decimal_says (length s) r
+      ≡ scanned (parts_of s whole.next p (all.next - p) all.value) (parts_stop s whole.next p (all.next - p))
       → decimal_says (length s) r ≡ scanned (decimal_of s) (decimal_stop s)
   unfolding decimal_of decimal_stop fraction_stop
   decimal-is r h =

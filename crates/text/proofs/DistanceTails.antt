@@ -1,6 +1,6 @@
 -- A distance up to the end of its line, and the line: one law for each way the code leaves. Assumes nothing.
 use Prim.Native.Nat.{ℕ, suc, ◌+◌, ◌*◌, ◌^◌, ◌≤◌, ◌<◌}
-use mathlib.Core.Path.{◌≡◌, refl, sym, ap, subst, ◌∙◌}
+use mathlib.Core.Path.{◌≡◌, refl, sym, ap, ◌∙◌}
 use mathlib.Core.List.{List, ◌∷◌, ◌++◌}
 use mathlib.Core.Bool.{Bool, true, false, cond}
 use native.Mathlib.Omega.{arith}
@@ -10,34 +10,27 @@ use lib.Dec.{ltb, eqb}
 use lib.IntN.{ℤ}
 use lib.ListN.{length, get_or, drop, length-drop, drop_of_length-le}
 use lib.Seq.{drop-cons, drop-drop}
-use Rattle.basis.specs.Refusal.{bad_form, out_of_range}
 use Rattle.basis.specs.Scan.{mem}
 use Rattle.basis.proofs.Tests.{false_of, bool_cases, failed, held}
-use Rattle.text.specs.Bytes.{lf, space}
+use Rattle.text.specs.Bytes.{lf}
 use Rattle.text.specs.Word.{Word, malformed, outside, value}
-use Rattle.text.specs.Line.{line, fault, up_to}
-use Rattle.text.specs.Scan.{Scanned, scanned, has_at, closed, field_at, scan_says, line_from, decimal_at, rest_at, rest_says}
-use Rattle.text.specs.Scan.{last_at, beside, column_at, Behind, line_of}
+use Rattle.text.specs.Line.{LineSaid, up_to}
+use Rattle.text.specs.Scan.{Scanned, scanned, has_at, closed, line_from, decimal_at, rest_at}
+use Rattle.text.specs.Scan.{last_at, two_at, Behind, line_of}
 use Rattle.text.specs.Decimal.{decimal_of}
 use Rattle.text.specs.Stop.{decimal_stop}
 use Rattle.text.specs.Distance.{infinity_word, infinity_mark, same_bytes, shared_front, finite, distance_of, distance_stop}
-use Rattle.text.specs.Distance.{distance_form, distance_line, distance_says, distance_at, finite_at, tail_says}
+use Rattle.text.specs.Distance.{distance_form, distance_line, distance_at}
 use Rattle.text.specs.declared.decimal.Decimal.{Decimal}
-use Rattle.text.specs.declared.ident.Scan.{Scan}
-use Rattle.text.specs.declared.ident.Scan.TheVariants as S
-use Rattle.text.specs.declared.line.Rest.{Rest}
-use Rattle.text.specs.declared.line.Rest.TheVariants as R
 use Rattle.text.specs.declared.distance.Distance.{Distance}
 use Rattle.text.specs.declared.distance.Distance.TheVariants as D
-use Rattle.text.specs.declared.distance.Tail.{Tail}
-use Rattle.text.specs.declared.distance.Tail.TheVariants as T
-use Rattle.text.specs.declared.distance.DistanceLine.{DistanceLine}
+use Rattle.text.specs.declared.count.Scan.{Scan}
 use Rattle.text.proofs.Bytes.{has-yes, has-past, has-below, has-is, up_to-stop, up_to-more, up_to-cut}
 use Rattle.text.proofs.Words.{Reads}
 use Rattle.text.proofs.Distances.{same-is, shared-most, shared-short, shared-all, shared-self, shared-up_to}
 use Rattle.text.proofs.Distances.{distance-plain, distance-letter, distance-short, distance-right}
-use Rattle.text.proofs.Lines.{StopsAt, both-off, form-reads, form-stops, two-bad, two-outside, two-value}
-use Rattle.text.proofs.Counting.{past-field, last-behind}
+use Rattle.text.proofs.Lines.{StopsAt, form-reads, form-stops, two-line}
+use Rattle.text.proofs.Counting.{last-behind, scanned-behind}
 
 -- ---- the loop over the bytes of a word
 shared_has : (s : List ℕ) (p b : ℕ) (w : List ℕ) → shared_front (b ∷ w) (drop p s)
@@ -88,6 +81,10 @@ closed-off s c q malformed e = refl
 closed-off s c q outside e = rw e
 closed-off s c q (value v) e = rw e
 
+-- a scanned decimal as a distance; its place stays
+abbrev finite_at : Scanned Decimal → Scanned Distance
+finite_at x = scanned (finite x.said) x.next
+
 closed-finite : (s : List ℕ) (q : ℕ) (w : Word Decimal) → finite_at (closed s lf (scanned w q)) ≡ closed s lf (scanned (finite w) q)
 closed-finite s q malformed = refl
 closed-finite s q outside = bool_cases (has_at s q lf) _ (λ e. rw e) (λ e. rw e)
@@ -134,39 +131,23 @@ module _ (s : List ℕ) (at : ℕ) (i : has_at s at infinity_mark ≡ true) (n :
         rw (whole_is, u, g)
 
 -- ---- a decimal
-pub finite-bad : (r : Rest) (p : ℕ) → r ≡ R.Bad p → scanned malformed p ≡ finite_at (rest_says r)
-finite-bad r p q = rw q
-
-pub finite-value : (r : Rest) (d : Decimal) (p : ℕ) → r ≡ R.Value d p → scanned (value (D.Finite d)) p ≡ finite_at (rest_says r)
-finite-value r d p q = rw q
-
 pub letter-stands : (s : List ℕ) (at c : ℕ) (t : Bool) → t ≡ has_at s at c → t ≡ true → has_at s at c ≡ true
 letter-stands s at c t e h = sym e ∙ h
 
-pub distance-decimal : (s : List ℕ) (at : ℕ) (t : Bool) → t ≡ has_at s at infinity_mark → t ≡ false → (r : Rest) → rest_says r
-    ≡ rest_at s at
-    → (x : Tail) → tail_says x ≡ finite_at (rest_says r) → tail_says x ≡ distance_at s at
-unfolding distance_at rest_at decimal_at distance_stop
-distance-decimal s at t e h r f x g =
-    let i : eqb (get_or (line_from s at) 0 0) infinity_mark ≡ false = first-here s at ∙ sym e ∙ h in
-    g ∙ ap finite_at f ∙ closed-finite s (at + decimal_stop (line_from s at)) (decimal_of (line_from s at))
-    ∙ rw (i, distance-plain (line_from s at) i)
+module _ (s : List ℕ) (at : ℕ) (t : Bool) (e : t ≡ has_at s at infinity_mark) (h : t ≡ false) where
+  distance-decimal : (r : Scanned Decimal) → r ≡ rest_at s at → finite_at r ≡ distance_at s at
+  unfolding distance_at rest_at decimal_at distance_stop
+  distance-decimal r f =
+      let i : eqb (get_or (line_from s at) 0 0) infinity_mark ≡ false = first-here s at ∙ sym e ∙ h in
+      ap finite_at f ∙ closed-finite s (at + decimal_stop (line_from s at)) (decimal_of (line_from s at))
+      ∙ rw (i, distance-plain (line_from s at) i)
 
--- ---- a line by its second word, after a first one that is well formed
-module _ (at : ℕ) (y : Tail) where
-  pub beside-no-tail : (w : Word ℤ) (p c : ℕ) → y ≡ T.Bad p → c ≡ column_at at p → fault bad_form c at ≡ line_of at (beside w (tail_says y))
-  beside-no-tail w p c q k = rw (q, both-off w, k)
+  pub distance-bad : (p : ℕ) → scanned malformed p ≡ rest_at s at → scanned malformed p ≡ distance_at s at
+  distance-bad p f = distance-decimal (scanned malformed p) f
 
-  pub beside-distance : (u a : ℤ) (d : Distance) (p : ℕ) → y ≡ T.Value d p → a ≡ u
-      → line (a, d) p ≡ line_of at (beside (value u) (tail_says y))
-  beside-distance u a d p q h = rw (q, h)
-
-  pub outside-distance : (d : Distance) (p : ℕ) → y ≡ T.Value d p → fault out_of_range 0 at
-      ≡ line_of at (beside {A = ℤ} outside (tail_says y))
-  outside-distance d p q = rw q
-
-  pub bad-tail-behind : (p : ℕ) → Behind at (tail_says y).next → y ≡ T.Bad p → Behind at p
-  bad-tail-behind p b q = subst (λ (z : Tail). Behind at (tail_says z).next) q b
+  pub distance-finite : (x : Scan Decimal) → scanned (value x.value) x.next ≡ rest_at s at
+      → scanned (value (D.Finite x.value)) x.next ≡ distance_at s at
+  distance-finite x f = distance-decimal (scanned (value x.value) x.next) f
 
 -- ---- the whole line
 distance-reads : (s : List ℕ) (at : ℕ) → Reads lf distance_of s at (distance_at s at)
@@ -177,29 +158,11 @@ distance-stops : (s : List ℕ) (at : ℕ) → StopsAt lf distance_stop s at (di
 unfolding distance_at last_at
 distance-stops s at h = form-stops distance_form s at h
 
-module _ (s : List ℕ) (at : ℕ) (l : at < length s) (x : Scan) (e : scan_says x ≡ field_at s at space) where
-  pub distance-fault : (p c : ℕ) → x ≡ S.Bad p → c ≡ column_at at p → fault bad_form c at ≡ distance_line s at
-  distance-fault p c q k = two-bad distance_form distance_at distance-reads distance-stops s at l x e p c q k
+module _ (s : List ℕ) (at : ℕ) (l : at < length s) (x : Scanned (ℤ × Distance)) (e : x ≡ two_at distance_at s at) where
+  pub distance-read : (y : LineSaid (ℤ × Distance)) → y ≡ line_of at x → y ≡ distance_line s at
+  distance-read y f = f ∙ ap (line_of at) e ∙ two-line distance_form distance_at distance-reads distance-stops s at l
 
-  module _ (p : ℕ) (y : Tail) (f : tail_says y ≡ distance_at s p) where
-    pub distance-beyond : (r : DistanceLine) → x ≡ S.Outside p → distance_says r ≡ line_of at (beside outside (tail_says y))
-        → distance_says r ≡ distance_line s at
-    distance-beyond r q g = g ∙ two-outside distance_form distance_at distance-reads distance-stops s at l x e p (tail_says y) q f
-
-    pub distance-value : (z u : ℤ) (r : DistanceLine) → x ≡ S.Value z p → u ≡ z
-        → distance_says r ≡ line_of at (beside (value u) (tail_says y)) → distance_says r ≡ distance_line s at
-    distance-value z u r q k g =
-        g ∙ two-value distance_form distance_at distance-reads distance-stops s at l x e z u p (tail_says y) q k f
-
-    -- the column can be counted there
-    module _ (b : length s * 1 < 2 ^ 63) where
-      tail-behind : at ≤ p → p ≤ length s → Behind at (tail_says y).next
-      unfolding distance_at
-      tail-behind h k =
-          subst (Behind at) (ap (λ (z : Scanned Distance). z.next) (sym f)) (last-behind s at b distance_form distance-short p h k)
-
-      pub outside-tail-behind : x ≡ S.Outside p → Behind at (tail_says y).next
-      outside-tail-behind q = let m = past-field s at b l space x e (S.Outside p) q refl in tail-behind m.0 m.1
-
-      pub value-tail-behind : (z : ℤ) → x ≡ S.Value z p → Behind at (tail_says y).next
-      value-tail-behind z q = let m = past-field s at b l space x e (S.Value z p) q refl in tail-behind m.0 m.1
+  -- the column can be counted there
+  pub distance-behind : length s * 1 < 2 ^ 63 → Behind at x.next
+  unfolding distance_at
+  distance-behind b = scanned-behind s at b distance_at (λ p. last-behind s at b distance_form distance-short p) l x e

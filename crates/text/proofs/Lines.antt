@@ -11,26 +11,22 @@ use lib.Dec.{eqb}
 use lib.IntN.{ℤ}
 use lib.ListN.{length, take, drop, length-append, length-drop, take-append-drop}
 use lib.Seq.{get_or-append_seam}
-use Rattle.basis.specs.Refusal.{bad_form, out_of_range}
+use Rattle.basis.specs.Refusal.{bad_form}
 use Rattle.basis.specs.Scan.{mem}
 use Rattle.basis.proofs.Tests.{clash, false_of, bool_cases, and_first, and_second}
 use Rattle.text.specs.Word.{Word, malformed, outside, value, well_formed, within, is_digit, ident_of}
 use Rattle.text.specs.Decimal.{decimal_of}
 use Rattle.text.specs.Stop.{ident_stop, decimal_stop}
 use Rattle.text.specs.Bytes.{lf, space}
-use Rattle.text.specs.Line.{line, none, fault, up_to, past, Form, column_in, line_says, line_by, both, two_of, two_stop}
-use Rattle.text.specs.Line.{ident_form, pair_form, decimal_form, vertex_line, edge_line, coefficient_line, edge_says, coefficient_says}
-use Rattle.text.specs.Scan.{Scanned, scanned, has_at, closed, field_at, scan_says, decimal_says}
-use Rattle.text.specs.Scan.{ident_at, line_from, decimal_at, rest_at, rest_says, beside, column_at, line_of, last_at}
+use Rattle.text.specs.Line.{LineSaid, line, none, fault, up_to, past, Form, column_in, line_says, line_by, both, two_of, two_stop}
+use Rattle.text.specs.Line.{ident_form, pair_form, decimal_form, vertex_line, edge_line, coefficient_line}
+use Rattle.text.specs.Scan.{Scanned, scanned, has_at, closed, field_at, word_of, ranged_says, decimal_says, two_at}
+use Rattle.text.specs.Scan.{ident_at, line_from, decimal_at, rest_at, beside, column_at, line_of, last_at}
 use Rattle.text.specs.declared.decimal.Decimal.{Decimal}
-use Rattle.text.specs.declared.decimal.DecimalWord.{DecimalWord}
-use Rattle.text.specs.declared.decimal.DecimalWord.TheVariants as DW
-use Rattle.text.specs.declared.ident.Scan.{Scan}
-use Rattle.text.specs.declared.ident.Scan.TheVariants as S
-use Rattle.text.specs.declared.line.EdgeLine.{EdgeLine}
-use Rattle.text.specs.declared.line.CoefficientLine.{CoefficientLine}
-use Rattle.text.specs.declared.line.Rest.{Rest}
-use Rattle.text.specs.declared.line.Rest.TheVariants as R
+use Rattle.text.specs.declared.count.Scan.{Scan}
+use Rattle.std.specs.Prelude.{Option, None, Some, Result, Ok, Err}
+use Rattle.std.specs.Option.{option_zip}
+use Rattle.text.proofs.Scans.{word-well}
 use Rattle.text.proofs.Bytes.{mem-cut, mem-join, mem-right, up_to-cut, up_to-none, up_to-take, up_to-le, up_to-all, up_to-end}
 use Rattle.text.proofs.Bytes.{up_to-over, cut_at, drop_past}
 use Rattle.text.proofs.Idents.{ident-next, ident-up_to}
@@ -305,33 +301,34 @@ rest-stops s at h = form-stops decimal_form s at h
 pub rest_end : (s : List ℕ) (at end : ℕ) → end ≡ at + length (up_to lf (drop at s)) → at ≤ length s → end ≤ length s
 rest_end s at end e h = omega (arith, up_to-le lf (drop at s), length-drop at s)
 
-module _ (s : List ℕ) (at end : ℕ) (e : end ≡ at + length (up_to lf (drop at s)))
-    (x : DecimalWord) (f : decimal_says (length (take (end - at) (drop at s))) x
-    ≡ scanned (decimal_of (take (end - at) (drop at s))) (decimal_stop (take (end - at) (drop at s)))) where
-  rest-word : decimal_says (length (line_from s at)) x ≡ scanned (decimal_of (line_from s at)) (decimal_stop (line_from s at))
-  rest-word =
+module _ (s : List ℕ) (at end : ℕ) (e : end ≡ at + length (up_to lf (drop at s))) where
+  rest-word : (x : Result Decimal ℕ)
+      → decimal_says (length (take (end - at) (drop at s))) x
+      ≡ scanned (decimal_of (take (end - at) (drop at s))) (decimal_stop (take (end - at) (drop at s)))
+      → decimal_says (length (line_from s at)) x ≡ scanned (decimal_of (line_from s at)) (decimal_stop (line_from s at))
+  rest-word x f =
       let q : end - at ≡ length (up_to lf (drop at s)) = omega arith in
       let l : take (end - at) (drop at s) ≡ line_from s at = ap (λ (n : ℕ). take n (drop at s)) q ∙ up_to-take lf (drop at s) in
       rw l at f
 
-  rest-by : (y : DecimalWord) → x ≡ y → decimal_says (length (line_from s at)) y
-      ≡ scanned (decimal_of (line_from s at)) (decimal_stop (line_from s at))
-  rest-by y q = ap (decimal_says (length (line_from s at))) (sym q) ∙ rest-word
+  module _ (p : ℕ) (f : scanned malformed p
+      ≡ scanned (decimal_of (take (end - at) (drop at s))) (decimal_stop (take (end - at) (drop at s)))) where
+    pub rest-inside : at ≤ length s → at + p ≤ length s
+    rest-inside h =
+        omega (arith, ap (λ (y : Scanned Decimal). y.next) (rest-word (Err p) f), stop_le (line_from s at), rest_end s at end e h)
 
-  pub rest-inside : at ≤ length s → (p : ℕ) → x ≡ DW.Bad p → at + p ≤ length s
-  rest-inside h p q =
-      omega (arith, ap (λ (y : Scanned Decimal). y.next) (rest-by (DW.Bad p) q), stop_le (line_from s at), rest_end s at end e h)
+    pub rest-bad : scanned malformed (at + p) ≡ rest_at s at
+    unfolding rest_at decimal_at
+    rest-bad = ap (λ (y : Scanned Decimal). closed s lf (scanned y.said (at + y.next))) (rest-word (Err p) f)
 
-  pub rest-bad : (p : ℕ) → x ≡ DW.Bad p → scanned malformed (at + p) ≡ rest_at s at
-  unfolding rest_at decimal_at
-  rest-bad p q = ap (λ (y : Scanned Decimal). closed s lf (scanned y.said (at + y.next))) (rest-by (DW.Bad p) q)
-
-  module _ (d : Decimal) (q : x ≡ DW.Value d) (t : Bool) (h : t ≡ has_at s end lf) where
+  module _ (d : Decimal) (f : scanned (value d) (length (take (end - at) (drop at s)))
+      ≡ scanned (decimal_of (take (end - at) (drop at s))) (decimal_stop (take (end - at) (drop at s)))) (t : Bool)
+      (h : t ≡ has_at s end lf) where
     rest-is : closed s lf (scanned (value d) end) ≡ rest_at s at
     unfolding rest_at decimal_at
     rest-is =
         ap (λ (n : ℕ). closed s lf (scanned (value d) n)) e
-        ∙ ap (λ (y : Scanned Decimal). closed s lf (scanned y.said (at + y.next))) (rest-by (DW.Value d) q)
+        ∙ ap (λ (y : Scanned Decimal). closed s lf (scanned y.said (at + y.next))) (rest-word (Ok d) f)
 
     pub rest-value : t ≡ true → scanned (value d) (end + 1) ≡ rest_at s at
     rest-value k = rw (← h, k) at rest-is
@@ -340,117 +337,71 @@ module _ (s : List ℕ) (at end : ℕ) (e : end ≡ at + length (up_to lf (drop 
     rest-open k = rw (← h, k) at rest-is
 
 -- ---- a vertex line
-module _ (s : List ℕ) (at : ℕ) (l : at < length s) (x : Scan) (e : scan_says x ≡ field_at s at lf) where
-  vertex-is : (y : Scan) → x ≡ y → line_of at (scan_says y) ≡ vertex_line s at
-  unfolding within
-  vertex-is y q =
-      ap (λ (k : Scan). line_of at (scan_says k)) (sym q) ∙ ap (line_of at) e
-      ∙ line-scanned ident_form s at (field_at s at lf) l (field-reads s at lf refl refl) (field-stops s at lf refl refl)
+pub vertex-read : (s : List ℕ) (at : ℕ) → at < length s → (x : Scanned ℤ) → x ≡ field_at s at lf → (y : LineSaid ℤ) → y ≡ line_of at x
+    → y ≡ vertex_line s at
+unfolding within
+vertex-read s at l x e y f =
+    f ∙ ap (line_of at) e
+    ∙ line-scanned ident_form s at (field_at s at lf) l (field-reads s at lf refl refl) (field-stops s at lf refl refl)
 
-  pub vertex-bad : (p c : ℕ) → x ≡ S.Bad p → c ≡ column_at at p → fault bad_form c at ≡ vertex_line s at
-  vertex-bad p c q k = ap (λ (n : ℕ). fault bad_form n at) k ∙ vertex-is (S.Bad p) q
+-- ---- an identifier and what stands behind it: one law for each way the code leaves
+zip-both : {A B : Type 0} (u : Option A) (v : Option B) → word_of (option_zip u v) ≡ both (word_of u) (word_of v)
+zip-both None None = refl
+zip-both None (Some b) = refl
+zip-both (Some a) None = refl
+zip-both (Some a) (Some b) = refl
 
-  pub vertex-outside : (p : ℕ) → x ≡ S.Outside p → fault out_of_range 0 at ≡ vertex_line s at
-  vertex-outside p q = vertex-is (S.Outside p) q
-
-  pub vertex-value : (z y : ℤ) (p : ℕ) → x ≡ S.Value z p → y ≡ z → line y p ≡ vertex_line s at
-  vertex-value z y p q k = ap (λ (v : ℤ). line v p) k ∙ vertex-is (S.Value z p) q
-
--- ---- a line of an identifier and a second word
-module _ {A : Type 0} (form : Form A) (second : List ℕ → ℕ → Scanned A)
-    (R : (s : List ℕ) (at : ℕ) → Reads lf form.word s at (second s at))
-    (T : (s : List ℕ) (at : ℕ) → StopsAt lf form.stop s at (second s at))
-    (s : List ℕ) (at : ℕ) (l : at < length s) (x : Scan) (e : scan_says x ≡ field_at s at space) where
+module _ {A : Type 0} (second : List ℕ → ℕ → Scanned A) (s : List ℕ) (at : ℕ) where
   abbrev two : Scanned ℤ → Scanned (ℤ × A)
   two y = cond (well_formed y.said) (beside y.said (second s y.next)) (scanned malformed y.next)
 
-  two-line : line_of at (two (field_at s at space)) ≡ line_by (pair_form form) s at
-  unfolding within
-  two-line =
-      let y : Scanned ℤ = field_at s at space in
-      let X : Reads space ident_of s at y = field-reads s at space refl refl in
-      line-scanned (pair_form form) s at (two y) l (pair_reads form.word s at y (second s y.next) X (λ _. R s y.next))
-      (pair-stops form.word s at y (second s y.next) X (λ _. R s y.next) form.stop (field-stops s at space refl refl)
-      (λ _. T s y.next))
+  pub two-none : (p : ℕ) → scanned malformed p ≡ field_at s at space → scanned malformed p ≡ two_at second s at
+  unfolding two_at
+  two-none p e = ap two e
 
-  two_is : (y : Scan) → x ≡ y → line_of at (two (scan_says y)) ≡ line_by (pair_form form) s at
-  two_is y q = ap (λ (k : Scanned ℤ). line_of at (two k)) (ap scan_says (sym q) ∙ e) ∙ two-line
+  module _ (x : Scan (Option ℤ)) (e : ranged_says x ≡ field_at s at space) where
+    pub two-beside : (y : Scanned A) → y ≡ second s x.next → beside (word_of x.value) y ≡ two_at second s at
+    unfolding two_at
+    two-beside y f = ap (beside (word_of x.value)) f ∙ (rw (word-well x.value) at (ap two e))
 
-  pub two-bad : (p c : ℕ) → x ≡ S.Bad p → c ≡ column_at at p → fault bad_form c at ≡ line_by (pair_form form) s at
-  two-bad p c q k = ap (λ (n : ℕ). fault bad_form n at) k ∙ two_is (S.Bad p) q
+    pub two-bad : (q : ℕ) → scanned malformed q ≡ second s x.next → scanned malformed q ≡ two_at second s at
+    two-bad q f = ap (λ (w : Word (ℤ × A)). scanned w q) (sym (both-off (word_of x.value))) ∙ two-beside (scanned malformed q) f
 
-  pub two-outside : (p : ℕ) (y : Scanned A) → x ≡ S.Outside p → y ≡ second s p
-      → line_of at (beside outside y) ≡ line_by (pair_form form) s at
-  two-outside p y q f = ap (λ (k : Scanned A). line_of at (beside outside k)) f ∙ two_is (S.Outside p) q
+    pub two-both : (y : Scan (Option A)) → ranged_says y ≡ second s x.next
+        → scanned (word_of (option_zip x.value y.value)) y.next ≡ two_at second s at
+    two-both y f = ap (λ (w : Word (ℤ × A)). scanned w y.next) (zip-both x.value y.value) ∙ two-beside (ranged_says y) f
 
-  pub two-value : (z u : ℤ) (p : ℕ) (y : Scanned A) → x ≡ S.Value z p → u ≡ z → y ≡ second s p
-      → line_of at (beside (value u) y) ≡ line_by (pair_form form) s at
-  two-value z u p y q k f =
-      ap (λ (v : ℤ). line_of at (beside (value v) y)) k ∙ ap (λ (k : Scanned A). line_of at (beside (value z) k)) f ∙ two_is (S.Value z p) q
+    pub two-good : (y : Scan A) → scanned (value y.value) y.next ≡ second s x.next
+        → scanned (word_of (option_zip x.value (Some y.value))) y.next ≡ two_at second s at
+    two-good y f =
+        ap (λ (w : Word (ℤ × A)). scanned w y.next) (zip-both x.value (Some y.value)) ∙ two-beside (scanned (value y.value) y.next) f
 
-abbrev last_field : List ℕ → ℕ → Scanned ℤ
-last_field s at = field_at s at lf
+-- ---- a line of an identifier and a second word
+pub two-line : {A : Type 0} (form : Form A) (second : List ℕ → ℕ → Scanned A)
+    → ((s : List ℕ) (at : ℕ) → Reads lf form.word s at (second s at)) → ((s : List ℕ) (at : ℕ) → StopsAt lf form.stop s at (second s at))
+    → (s : List ℕ) (at : ℕ) → at < length s → line_of at (two_at second s at) ≡ line_by (pair_form form) s at
+unfolding within two_at
+two-line form second R T s at l =
+    let y : Scanned ℤ = field_at s at space in
+    let X : Reads space ident_of s at y = field-reads s at space refl refl in
+    line-scanned (pair_form form) s at (two second s at y) l (pair_reads form.word s at y (second s y.next) X (λ _. R s y.next))
+    (pair-stops form.word s at y (second s y.next) X (λ _. R s y.next) form.stop (field-stops s at space refl refl)
+    (λ _. T s y.next))
 
-last-reads : (s : List ℕ) (at : ℕ) → Reads lf ident_of s at (last_field s at)
+last-reads : (s : List ℕ) (at : ℕ) → Reads lf ident_of s at (field_at s at lf)
 unfolding within
 last-reads s at = field-reads s at lf refl refl
 
-last-stops : (s : List ℕ) (at : ℕ) → StopsAt lf ident_stop s at (last_field s at)
+last-stops : (s : List ℕ) (at : ℕ) → StopsAt lf ident_stop s at (field_at s at lf)
 unfolding within
 last-stops s at = field-stops s at lf refl refl
 
--- by its second field, after a first word that is well formed
-module _ (at : ℕ) (y : Scan) where
-  pub beside-bad : (w : Word ℤ) (p c : ℕ) → y ≡ S.Bad p → c ≡ column_at at p → fault bad_form c at ≡ line_of at (beside w (scan_says y))
-  beside-bad w p c q k = rw (q, both-off w, k)
+-- an edge line, and a coefficient line
+module _ (s : List ℕ) (at : ℕ) (l : at < length s) where
+  pub edge-read : (x : Scanned (ℤ × ℤ)) → x ≡ two_at (λ s p. field_at s p lf) s at → (y : LineSaid (ℤ × ℤ)) → y ≡ line_of at x
+      → y ≡ edge_line s at
+  edge-read x e y f = f ∙ ap (line_of at) e ∙ two-line ident_form (λ s p. field_at s p lf) last-reads last-stops s at l
 
-  pub beside-outside : (u : ℤ) (p : ℕ) → y ≡ S.Outside p → fault out_of_range 0 at ≡ line_of at (beside (value u) (scan_says y))
-  beside-outside u p q = rw q
-
-  pub beside-value : (u v a b : ℤ) (p : ℕ) → y ≡ S.Value v p → a ≡ u → b ≡ v → line (a, b) p ≡ line_of at (beside (value u) (scan_says y))
-  beside-value u v a b p q h k = rw (q, h, k)
-
-  -- the first one is out of range
-  pub outside-outside : (p : ℕ) → y ≡ S.Outside p → fault out_of_range 0 at ≡ line_of at (beside {A = ℤ} outside (scan_says y))
-  outside-outside p q = rw q
-
-  pub outside-value : (v : ℤ) (p : ℕ) → y ≡ S.Value v p → fault out_of_range 0 at ≡ line_of at (beside {A = ℤ} outside (scan_says y))
-  outside-value v p q = rw q
-
-module _ (at : ℕ) (y : Rest) where
-  pub beside_none : (w : Word ℤ) (p c : ℕ) → y ≡ R.Bad p → c ≡ column_at at p → fault bad_form c at ≡ line_of at (beside w (rest_says y))
-  beside_none w p c q k = rw (q, both-off w, k)
-
-  pub beside-decimal : (u a : ℤ) (d : Decimal) (p : ℕ) → y ≡ R.Value d p → a ≡ u → line (a, d) p
-      ≡ line_of at (beside (value u) (rest_says y))
-  beside-decimal u a d p q h = rw (q, h)
-
-  pub outside-decimal : (d : Decimal) (p : ℕ) → y ≡ R.Value d p → fault out_of_range 0 at
-      ≡ line_of at (beside {A = ℤ} outside (rest_says y))
-  outside-decimal d p q = rw q
-
--- an edge line
-module _ (s : List ℕ) (at : ℕ) (l : at < length s) (x : Scan) (e : scan_says x ≡ field_at s at space) where
-  pub edge-bad : (p c : ℕ) → x ≡ S.Bad p → c ≡ column_at at p → fault bad_form c at ≡ edge_line s at
-  edge-bad p c q k = two-bad ident_form last_field last-reads last-stops s at l x e p c q k
-
-  pub edge-outside : (p : ℕ) (y : Scan) (r : EdgeLine) → x ≡ S.Outside p → scan_says y ≡ field_at s p lf
-      → edge_says r ≡ line_of at (beside outside (scan_says y)) → edge_says r ≡ edge_line s at
-  edge-outside p y r q f g = g ∙ two-outside ident_form last_field last-reads last-stops s at l x e p (scan_says y) q f
-
-  pub edge-value : (z u : ℤ) (p : ℕ) (y : Scan) (r : EdgeLine) → x ≡ S.Value z p → u ≡ z → scan_says y ≡ field_at s p lf
-      → edge_says r ≡ line_of at (beside (value u) (scan_says y)) → edge_says r ≡ edge_line s at
-  edge-value z u p y r q k f g = g ∙ two-value ident_form last_field last-reads last-stops s at l x e z u p (scan_says y) q k f
-
--- a coefficient line
-module _ (s : List ℕ) (at : ℕ) (l : at < length s) (x : Scan) (e : scan_says x ≡ field_at s at space) where
-  pub coefficient-bad : (p c : ℕ) → x ≡ S.Bad p → c ≡ column_at at p → fault bad_form c at ≡ coefficient_line s at
-  coefficient-bad p c q k = two-bad decimal_form rest_at rest-reads rest-stops s at l x e p c q k
-
-  pub coefficient-outside : (p : ℕ) (y : Rest) (r : CoefficientLine) → x ≡ S.Outside p → rest_says y ≡ rest_at s p
-      → coefficient_says r ≡ line_of at (beside outside (rest_says y)) → coefficient_says r ≡ coefficient_line s at
-  coefficient-outside p y r q f g = g ∙ two-outside decimal_form rest_at rest-reads rest-stops s at l x e p (rest_says y) q f
-
-  pub coefficient-value : (z u : ℤ) (p : ℕ) (y : Rest) (r : CoefficientLine) → x ≡ S.Value z p → u ≡ z → rest_says y ≡ rest_at s p
-      → coefficient_says r ≡ line_of at (beside (value u) (rest_says y)) → coefficient_says r ≡ coefficient_line s at
-  coefficient-value z u p y r q k f g = g ∙ two-value decimal_form rest_at rest-reads rest-stops s at l x e z u p (rest_says y) q k f
+  pub coefficient-read : (x : Scanned (ℤ × Decimal)) → x ≡ two_at rest_at s at → (y : LineSaid (ℤ × Decimal)) → y ≡ line_of at x
+      → y ≡ coefficient_line s at
+  coefficient-read x e y f = f ∙ ap (line_of at) e ∙ two-line decimal_form rest_at rest-reads rest-stops s at l

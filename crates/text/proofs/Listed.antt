@@ -15,13 +15,11 @@ use Rattle.basis.specs.Scan.{mem}
 use Rattle.text.specs.Bytes.{lf}
 use Rattle.text.specs.Word.{Word, malformed, outside, value, well_formed, ident_of}
 use Rattle.text.specs.Weight.{millionths_of, carried, weight_of}
-use Rattle.text.specs.Line.{LineSaid, line, none, fault, up_to, column_in, line_says, line_by, pair_form, edge_form, edge_line, edge_says}
-use Rattle.text.specs.Weighed.{weight_form, unweighed, plain_form, edge_form_by, weighed_line, listed_line, weighed_says}
+use Rattle.text.specs.Line.{LineSaid, line, none, fault, up_to, column_in, line_says, line_by, pair_form, edge_form, edge_line}
+use Rattle.text.specs.Weighed.{weight_form, unweighed, plain_form, edge_form_by, weighed_line, listed_line}
 use Rattle.text.specs.Weighed.{is_bad_form, has_weights}
 use Rattle.text.specs.declared.line.Cursor.{Cursor}
-use Rattle.text.specs.declared.line.EdgeLine.{EdgeLine}
-use Rattle.text.specs.declared.line.EdgeLine.TheVariants as EL
-use Rattle.text.specs.declared.line.WeighedLine.{WeighedLine}
+use Rattle.text.specs.declared.line.Fault.{Fault}
 use Rattle.text.proofs.Breaks.{RightStop, pair-right, edge-right}
 use Rattle.text.proofs.Weights.{weight-right}
 use Rattle.text.proofs.Places.{Has, Small, Pairs, ident-small, line-has, two-has}
@@ -79,37 +77,36 @@ plain-line s at = by (leb (length s) at) (mem lf (drop at s)) (edge_form.word (u
 
 -- the code's ways out
 module _ (s : List ℕ) (at : ℕ) (weighted : Bool) where
-  pub listed-weighed : weighted ≡ true → (r : WeighedLine) → weighed_says r ≡ weighed_line s at → weighed_says r ≡ listed_line weighted s at
-  listed-weighed h r e = rw h e
+  pub listed-weighed : weighted ≡ true → (x : LineSaid (ℤ × (ℤ × ℕ))) → x ≡ weighed_line s at → x ≡ listed_line weighted s at
+  listed-weighed h x e = rw h e
 
-  module _ (h : weighted ≡ false) (x : EdgeLine) (e : edge_says x ≡ edge_line s at) where
-    listed-is : (y : EdgeLine) → x ≡ y → weightless (edge_says y) ≡ listed_line weighted s at
-    listed-is y q = rw h (ap weightless (ap edge_says (sym q) ∙ e) ∙ sym (plain-line s at))
+  module _ (h : weighted ≡ false) (k : Cursor) where
+    listed-is : (x : LineSaid (ℤ × ℤ)) → x ≡ edge_line s at → weightless x ≡ listed_line weighted s at
+    listed-is x e = rw h (ap weightless e ∙ sym (plain-line s at))
 
-    pub listed-end : (k : Cursor) → x ≡ EL.End k → none k.at ≡ listed_line weighted s at
-    listed-end k q = listed-is (EL.End k) q
+    pub listed-end : none k.at ≡ edge_line s at → none k.at ≡ listed_line weighted s at
+    listed-end e = listed-is (none k.at) e
 
-    pub listed-fault : (n c : ℕ) (k : Cursor) → x ≡ EL.Fault n c k → fault n c k.at ≡ listed_line weighted s at
-    listed-fault n c k q = listed-is (EL.Fault n c k) q
+    pub listed-fault : (f : Fault) → fault f.number f.column k.at ≡ edge_line s at → fault f.number f.column k.at ≡ listed_line weighted s at
+    listed-fault f e = listed-is (fault f.number f.column k.at) e
 
-    pub listed-line : (u v a b : ℤ) (k : Cursor) → x ≡ EL.Line u v k → a ≡ u → b ≡ v → line (a, (b, 0)) k.at ≡ listed_line weighted s at
-    listed-line u v a b k q f g = ap (λ (z : ℤ). line (z, (b, 0)) k.at) f ∙ ap (λ (z : ℤ). line (u, (z, 0)) k.at) g
-        ∙ listed-is (EL.Line u v k) q
+    pub listed-line : (x : ℤ × ℤ) → line x k.at ≡ edge_line s at → line (x.0, (x.1, 0)) k.at ≡ listed_line weighted s at
+    listed-line x e = listed-is (line x k.at) e
 
 -- ---- the first line
-module _ (s : List ℕ) (x : EdgeLine) (e : edge_says x ≡ edge_line s 0) where
-  first-is : (y : EdgeLine) → x ≡ y → is_bad_form (edge_says y) ≡ has_weights s
+module _ (s : List ℕ) (k : Cursor) where
+  first-is : (x : LineSaid (ℤ × ℤ)) → x ≡ edge_line s 0 → is_bad_form x ≡ has_weights s
   unfolding has_weights
-  first-is y q = ap is_bad_form (ap edge_says (sym q) ∙ e)
+  first-is x e = ap is_bad_form e
 
-  pub first-end : (k : Cursor) → x ≡ EL.End k → false ≡ has_weights s
-  first-end k q = first-is (EL.End k) q
+  pub first-end : none k.at ≡ edge_line s 0 → false ≡ has_weights s
+  first-end e = first-is (none k.at) e
 
-  pub first-fault : (n c : ℕ) (k : Cursor) → x ≡ EL.Fault n c k → eqb n 2 ≡ has_weights s
-  first-fault n c k q = first-is (EL.Fault n c k) q
+  pub first-fault : (f : Fault) → fault f.number f.column k.at ≡ edge_line s 0 → eqb f.number 2 ≡ has_weights s
+  first-fault f e = first-is (fault f.number f.column k.at) e
 
-  pub first-line : (u v : ℤ) (k : Cursor) → x ≡ EL.Line u v k → false ≡ has_weights s
-  first-line u v k q = first-is (EL.Line u v k) q
+  pub first-line : (x : ℤ × ℤ) → line x k.at ≡ edge_line s 0 → false ≡ has_weights s
+  first-line x e = first-is (line x k.at) e
 
 -- ---- the numbers that are read
 Light : ℕ → Type 0

@@ -20,10 +20,11 @@ use Rattle.text.specs.Bytes.{lf, space}
 use Rattle.text.specs.Line.{LineSaid, line, none, fault, up_to, past, Form, column_in}
 use Rattle.text.specs.Line.{line_says, line_by, both, two_of, ident_form, pair_form, decimal_form, edge_line, coefficient_line}
 use Rattle.text.specs.declared.decimal.Decimal.{Decimal}
-use Rattle.text.specs.Scan.{Scanned, has_at, ident_at, closed, field_at, scan_says}
-use Rattle.text.specs.declared.ident.Scan.{Scan}
-use Rattle.text.specs.declared.ident.Scan.TheVariants as S
+use Rattle.text.specs.Scan.{Scanned, has_at, ident_at, closed, field_at, ranged_says}
+use Rattle.text.specs.declared.count.Scan.{Scan}
+use Rattle.std.specs.Prelude.{Option}
 use Rattle.text.proofs.Bytes.{cut_at, has-below}
+use Rattle.text.proofs.Scans.{word-well}
 use Rattle.text.proofs.Words.{ident-from}
 
 -- from `at` to q, forward and within the file
@@ -86,19 +87,15 @@ module _ (s : List ℕ) (at c : ℕ) where
           (λ w. clash (rw w at h) w)
 
   -- the place at which the second word of a line begins
-  module _ (x : Scan) (e : scan_says x ≡ field_at s at c) (p : ℕ) where
-    field-inside : (y : Scan) → x ≡ y → well_formed (scan_says y).said ≡ true → (scan_says y).next ≤ length s
-    field-inside y q h =
-        let f : scan_says y ≡ field_at s at c = ap scan_says (sym q) ∙ e in
-        let k : well_formed (field_at s at c).said ≡ true = ap (λ (v : Scanned ℤ). well_formed v.said) (sym f) ∙ h in
-        let m : (field_at s at c).next ≤ length s = (field-moves k).inside in
-        omega (arith, m, ap (λ (v : Scanned ℤ). v.next) f)
+  module _ (x : Scan (Option ℤ)) (e : ranged_says x ≡ field_at s at c) where
+    pub field-past : Moved s at x.next
+    field-past =
+        let n : (field_at s at c).next ≡ x.next = ap (λ (z : Scanned ℤ). z.next) (sym e) in
+        let m = field-moves (ap (λ (z : Scanned ℤ). well_formed z.said) (sym e) ∙ word-well x.value) in
+        record { forward = omega (arith, m.forward); inside = omega (arith, m.inside) }
 
-    pub outside-inside : x ≡ S.Outside p → p ≤ length s
-    outside-inside q = field-inside (S.Outside p) q refl
-
-    pub value-inside : (z : ℤ) → x ≡ S.Value z p → p ≤ length s
-    value-inside z q = field-inside (S.Value z p) q refl
+    pub field-inside : x.next ≤ length s
+    field-inside = field-past.inside
 
 -- ---- the numbers that are read
 -- a word's value, if it has one, has P

@@ -12,7 +12,7 @@ use Rattle.basis.proofs.Tests.{and_first, and_second}
 use Rattle.text.specs.Word.{within, is_digit, with_digit, run_len, run_val}
 use Rattle.text.specs.Grammar.{number_of}
 use Rattle.text.specs.Scan.{cut_number, run_at}
-use Rattle.text.specs.declared.count.Run.{Run}
+use Rattle.text.specs.declared.count.Scan.{Scan}
 use Rattle.text.proofs.Bytes.{within-yes, within_low, within-high}
 
 -- ---- one byte of a run
@@ -103,15 +103,15 @@ module _ (s : List ℕ) (from start : ℕ) where
 
   -- the run ends at i
   running-end : (n i : ℕ) → Running s from start n i → run_val n (drop i s) ≡ n → run_len (drop i s) ≡ 0
-      → ◌≡◌ {A = Run} (record { n = n; next = i }) (run_at s from start)
+      → ◌≡◌ {A = Scan ℕ} (record { value = n; next = i }) (run_at s from start)
   unfolding run_at
   running-end n i r v l =
       let en : n ≡ cut_number (run_val start (drop from s)) = omega arith in
       let ei : i ≡ from + run_len (drop from s) = omega arith in
-      λ k. record { n = en k; next = ei k }
+      λ k. record { value = en k; next = ei k }
 
   running-stop : (n i : ℕ) → Running s from start n i → i < length s → is_digit (get_or s i 0) ≡ false
-      → ◌≡◌ {A = Run} (record { n = n; next = i }) (run_at s from start)
+      → ◌≡◌ {A = Scan ℕ} (record { value = n; next = i }) (run_at s from start)
   running-stop n i r h e =
       let d : drop i s ≡ get_or s i 0 ∷ drop (suc i) s = drop-cons s i 0 h in
       running-end n i r (ap (run_val n) d ∙ val-stop n (get_or s i 0) (drop (suc i) s) e)
@@ -119,14 +119,14 @@ module _ (s : List ℕ) (from start : ℕ) where
 
   -- at a byte below the digits, above them, and at the end
   pub running-low : (n i : ℕ) → Running s from start n i → i < length s → get_or s i 0 < 48
-      → ◌≡◌ {A = Run} (record { n = n; next = i }) (run_at s from start)
+      → ◌≡◌ {A = Scan ℕ} (record { value = n; next = i }) (run_at s from start)
   running-low n i r h e = running-stop n i r h (within_low 57 e)
 
   pub running-high : (n i : ℕ) → Running s from start n i → i < length s → 57 < get_or s i 0
-      → ◌≡◌ {A = Run} (record { n = n; next = i }) (run_at s from start)
+      → ◌≡◌ {A = Scan ℕ} (record { value = n; next = i }) (run_at s from start)
   running-high n i r h e = running-stop n i r h (within-high 48 e)
 
-  pub running-out : (n i : ℕ) → Running s from start n i → length s ≤ i → ◌≡◌ {A = Run} (record { n = n; next = i }) (run_at s from start)
+  pub running-out : (n i : ℕ) → Running s from start n i → length s ≤ i → ◌≡◌ {A = Scan ℕ} (record { value = n; next = i }) (run_at s from start)
   running-out n i r h =
       let d : drop i s ≡ [] = drop_of_length-le s h in
       running-end n i r (ap (run_val n) d) (ap run_len d)

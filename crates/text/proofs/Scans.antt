@@ -1,6 +1,6 @@
 -- Laws of a count, an identifier and a field, scanned from a place: one for each way the code leaves. Assumes nothing.
 use Prim.Native.Nat.{ℕ, ◌+◌, ◌-◌, ◌^◌, ◌≤◌, ◌<◌}
-use mathlib.Core.Path.{◌≡◌, refl, sym, ap, ◌∙◌}
+use mathlib.Core.Path.{◌≡◌, refl, ap, ◌∙◌}
 use mathlib.Core.List.{List}
 use mathlib.Core.Bool.{Bool, true, false}
 use native.Mathlib.Omega.{arith}
@@ -11,14 +11,11 @@ use lib.ListN.{length, get_or}
 use mir.Syntax.{w64}
 use mir.Val.{to_z}
 use mir.ValLaws.{to_z_pos}
-use Rattle.text.specs.Word.{Word, malformed, outside, value, within, minus_of, ranged_of, signed_of}
+use Rattle.text.specs.Word.{Word, malformed, outside, value, well_formed, within, minus_of, ranged_of, signed_of}
 use Rattle.text.specs.Scan.{Scanned, scanned, has_at, cut_number, run_at, count_at, cut_word, saturated}
-use Rattle.text.specs.Scan.{count_says, ranged_at, signed_at, ident_at, closed, field_at, scan_says}
-use Rattle.text.specs.declared.count.Run.{Run}
-use Rattle.text.specs.declared.count.Counted.{Counted}
-use Rattle.text.specs.declared.count.Counted.TheVariants as C
-use Rattle.text.specs.declared.ident.Scan.{Scan}
-use Rattle.text.specs.declared.ident.Scan.TheVariants as S
+use Rattle.text.specs.Scan.{count_says, ranged_at, signed_at, ident_at, closed, field_at, word_of, ranged_says, scan_says}
+use Rattle.text.specs.declared.count.Scan.{Scan}
+use Rattle.std.specs.Prelude.{Option, None, Some, Result, Ok, Err}
 use Rattle.text.proofs.Bytes.{within-yes, within_low, within-high, has-yes, has_no, nothing-past}
 
 -- ---- a count
@@ -43,11 +40,11 @@ module _ (s : List ℕ) (at : ℕ) where
     pub count-high : 57 < get_or s at 0 → scanned malformed at ≡ saturated (count_at s at)
     count-high h = count_none n (within-high 49 h)
 
-    pub count-run : (r : Run) → 49 ≤ get_or s at 0 → get_or s at 0 ≤ 57 → r ≡ run_at s at 0
-        → scanned (value r.n) r.next ≡ saturated (count_at s at)
+    pub count-run : (r : Scan ℕ) → 49 ≤ get_or s at 0 → get_or s at 0 ≤ 57 → r ≡ run_at s at 0
+        → scanned (value r.value) r.next ≡ saturated (count_at s at)
     unfolding count_at run_at
     count-run r h k e =
-        rw (has_no s at 48 n, within-yes {lo = 49} {hi = 57} {b = get_or s at 0} h k) (ap (λ (x : Run). scanned (value x.n) x.next) e)
+        rw (has_no s at 48 n, within-yes {lo = 49} {hi = 57} {b = get_or s at 0} h k) (ap (λ (x : Scan ℕ). scanned (value x.value) x.next) e)
 
 -- ---- a number by its sign and its range
 module _ (negative : Bool) (n next : ℕ) where
@@ -82,15 +79,16 @@ signed_cut negative malformed = refl
 signed_cut negative outside = refl
 signed_cut negative (value n) = ranged-cut-by negative n (leb n (2 ^ 63)) refl
 
-module _ (negative : Bool) (y : Scanned ℕ) (x : Counted) (e : count_says x ≡ saturated y) where
-  signed_by : signed_at negative (count_says x) ≡ signed_at negative y
-  signed_by = ap (signed_at negative) e ∙ ap (λ (w : Word ℤ). scanned w y.next) (signed_cut negative y.said)
+module _ (negative : Bool) (y : Scanned ℕ) where
+  signed_by : (x : Result (Scan ℕ) ℕ) → count_says x ≡ saturated y → signed_at negative (count_says x) ≡ signed_at negative y
+  signed_by x e = ap (signed_at negative) e ∙ ap (λ (w : Word ℤ). scanned w y.next) (signed_cut negative y.said)
 
-  pub signed-bad : (p : ℕ) → x ≡ C.Bad p → scanned malformed p ≡ signed_at negative y
-  signed-bad p q = ap (λ (k : Counted). signed_at negative (count_says k)) (sym q) ∙ signed_by
+  pub signed-bad : (p : ℕ) → scanned malformed p ≡ saturated y → scanned malformed p ≡ signed_at negative y
+  signed-bad p e = signed_by (Err p) e
 
-  pub signed-value : (n p : ℕ) (r : Scan) → x ≡ C.Value n p → scan_says r ≡ ranged_at negative n p → scan_says r ≡ signed_at negative y
-  signed-value n p r q h = h ∙ ap (λ (k : Counted). signed_at negative (count_says k)) (sym q) ∙ signed_by
+  pub signed-value : (x : Scan ℕ) (r : Scan (Option ℤ)) → scanned (value x.value) x.next ≡ saturated y
+      → ranged_says r ≡ ranged_at negative x.value x.next → ranged_says r ≡ signed_at negative y
+  signed-value x r e h = h ∙ signed_by (Ok x) e
 
 -- ---- an identifier
 module _ (s : List ℕ) (at : ℕ) (t : Bool) (e : t ≡ has_at s at 45) where
@@ -98,36 +96,32 @@ module _ (s : List ℕ) (at : ℕ) (t : Bool) (e : t ≡ has_at s at 45) where
   unfolding ident_at
   ident-zero h u f g = rw (← e, h, ← f, g)
 
-  pub ident-minus : t ≡ true → (u : Bool) → u ≡ has_at s (at + 1) 48 → u ≡ false → (r : Scan)
+  pub ident-minus : t ≡ true → (u : Bool) → u ≡ has_at s (at + 1) 48 → u ≡ false → (r : Result (Scan (Option ℤ)) ℕ)
       → scan_says r ≡ signed_at true (count_at s (at + 1)) → scan_says r ≡ ident_at s at
   unfolding ident_at
   ident-minus h u f g r q = rw (← e, h, ← f, g) q
 
-  pub ident-plain : t ≡ false → (r : Scan) → scan_says r ≡ signed_at false (count_at s at) → scan_says r ≡ ident_at s at
+  pub ident-plain : t ≡ false → (r : Result (Scan (Option ℤ)) ℕ) → scan_says r ≡ signed_at false (count_at s at)
+      → scan_says r ≡ ident_at s at
   unfolding ident_at
   ident-plain h r q = rw (← e, h) q
 
 -- ---- a field
-module _ (s : List ℕ) (at c : ℕ) (x : Scan) (e : scan_says x ≡ ident_at s at) where
-  field-by : closed s c (scan_says x) ≡ field_at s at c
+pub word-well : {A : Type 0} (w : Option A) → well_formed (word_of w) ≡ true
+word-well None = refl
+word-well (Some z) = refl
+
+module _ (s : List ℕ) (at c : ℕ) where
+  field-by : (x : Result (Scan (Option ℤ)) ℕ) → scan_says x ≡ ident_at s at → closed s c (scan_says x) ≡ field_at s at c
   unfolding field_at
-  field-by = ap (closed s c) e
+  field-by x e = ap (closed s c) e
 
-  field_is : (y : Scan) → x ≡ y → closed s c (scan_says y) ≡ field_at s at c
-  field_is y q = ap (λ (k : Scan). closed s c (scan_says k)) (sym q) ∙ field-by
+  pub field-bad : (p : ℕ) → scanned malformed p ≡ ident_at s at → scanned malformed p ≡ field_at s at c
+  field-bad p e = field-by (Err p) e
 
-  pub field-bad : (p : ℕ) → x ≡ S.Bad p → scanned malformed p ≡ field_at s at c
-  field-bad p q = field_is (S.Bad p) q
+  module _ (x : Scan (Option ℤ)) (e : ranged_says x ≡ ident_at s at) (t : Bool) (f : t ≡ has_at s x.next c) where
+    pub field-good : t ≡ true → scanned (word_of x.value) (x.next + 1) ≡ field_at s at c
+    field-good h = rw (word-well x.value, ← f, h) at (field-by (Ok x) e)
 
-  module _ (p : ℕ) (t : Bool) (f : t ≡ has_at s p c) where
-    pub field-outside : x ≡ S.Outside p → t ≡ true → scanned outside (p + 1) ≡ field_at s at c
-    field-outside q h = rw (← f, h) at (field_is (S.Outside p) q)
-
-    pub field-outside-open : x ≡ S.Outside p → t ≡ false → scanned malformed p ≡ field_at s at c
-    field-outside-open q h = rw (← f, h) at (field_is (S.Outside p) q)
-
-    pub field-value : (z y : ℤ) → x ≡ S.Value z p → t ≡ true → y ≡ z → scanned (value y) (p + 1) ≡ field_at s at c
-    field-value z y q h k = ap (λ (v : ℤ). scanned (value v) (p + 1)) k ∙ (rw (← f, h) at (field_is (S.Value z p) q))
-
-    pub field-value-open : (z : ℤ) → x ≡ S.Value z p → t ≡ false → scanned malformed p ≡ field_at s at c
-    field-value-open z q h = rw (← f, h) at (field_is (S.Value z p) q)
+    pub field-open : t ≡ false → scanned malformed x.next ≡ field_at s at c
+    field-open h = rw (word-well x.value, ← f, h) at (field-by (Ok x) e)

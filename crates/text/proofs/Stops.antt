@@ -7,15 +7,16 @@ use native.Mathlib.Omega.{arith}
 use borrow.Author.Tests.{le-leb, leb-true, le-ltb, ltb-true, ltb-false, ne_eqb, eqb-true, eqb-false}
 use lib.Dec.{leb, ltb, eqb}
 use lib.ListN.{length, get_or, drop, length-drop}
-use Rattle.basis.proofs.Tests.{clash, bool_cases, and_first, and_second, held}
+use Rattle.basis.proofs.Tests.{no-case, clash, bool_cases, and_first, and_second, held}
 use Rattle.text.specs.Word.{Word, malformed, outside, value, well_formed, is_digit, run_len, run_val}
-use Rattle.text.specs.Decimal.{Exponent, up, down, wrong, digit_limit, decimal, digit_of, past_point}
+use Rattle.text.specs.Decimal.{Exponent, up, down, wrong, digit_limit, digit_of, past_point}
 use Rattle.text.specs.Decimal.{whole_is_good, signed_power, power_at, scaled, parts_of, fraction_of, decimal_of}
-use Rattle.text.specs.Stop.{is_sign, digits_stop, power_stop, parts_stop, fraction_stop, decimal_stop, power_word, scaled_word}
-use Rattle.text.specs.Scan.{scanned, decimal_says}
+use Rattle.text.specs.Stop.{is_sign, digits_stop, power_stop, parts_stop, fraction_stop, decimal_stop, power_word, scaled_by}
+use Rattle.text.specs.Scan.{scanned}
 use Rattle.text.specs.declared.decimal.Decimal.{Decimal}
-use Rattle.text.specs.declared.decimal.DecimalWord.{DecimalWord}
+use Rattle.std.specs.Prelude.{Ok, Err}
 use Rattle.text.specs.declared.decimal.Power.{Power}
+use Rattle.text.specs.declared.decimal.Power.TheVariants as P
 use Rattle.text.proofs.Bytes.{nothing-past, within-is}
 use Rattle.text.proofs.Runs.{len-le}
 use Rattle.text.proofs.Decimals.{no_sign, whole-none, point-from, point-within}
@@ -120,19 +121,12 @@ module _ (s : List ℕ) (n f : ℕ) where
       ) (omega (arith, d))))
       (λ b. rw (a, b) (λ h. clash h refl)))
 
-  scaled-says : (stop k : ℕ) (e : Exponent) → (well_formed (scaled n f e) ≡ true → stop ≡ k)
-      → decimal_says k (scaled_word n f (power_word e stop)) ≡ scanned (scaled n f e) stop
-  scaled-says stop k (up u) h = ap (scanned (value (decimal n u f))) (sym (h refl))
-  scaled-says stop k (down u) h = ap (scanned (value (decimal n 0 (f + u)))) (sym (h refl))
-  scaled-says stop k wrong h = refl
-
-  -- the last way out of the parts: with their power
+  -- the last ways out of the parts: where their power breaks off, and with it
   module _ (w p : ℕ) (z : w ≡ 0 → ⊥) (t : Bool) (h : t ≡ whole_is_good s w) (e : t ≡ true) (l : p ≤ digit_limit) (k : p ≤ w + f)
       (m : w + f ≤ digit_limit) where
-    pub parts-good : (y : Power) → y ≡ power_word (power_at s (p + f)) (power_stop s (p + f)) → (r : DecimalWord) → r ≡ scaled_word n f y
-        → decimal_says (length s) r ≡ scanned (parts_of s w p f n) (parts_stop s w p f)
+    parts-scaled : scanned (scaled n f (power_at s (p + f))) (power_stop s (p + f)) ≡ scanned (parts_of s w p f n) (parts_stop s w p f)
     unfolding parts_of parts_stop
-    parts-good y j r g =
+    parts-scaled =
         rw (
           ne_eqb w 0 z,
           held t (whole_is_good s w) h e,
@@ -142,8 +136,26 @@ module _ (s : List ℕ) (n f : ℕ) where
           le-leb p (w + f) k,
           le-leb (w + f) digit_limit m,
         )
-        (ap (decimal_says (length s)) (g ∙ ap (scaled_word n f) j)
-        ∙ scaled-says (power_stop s (p + f)) (length s) (power_at s (p + f)) (power-stop-good (p + f)))
+
+    pub parts-wrong : (y : ℕ) → Err y ≡ power_word (power_at s (p + f)) (power_stop s (p + f))
+        → scanned malformed y ≡ scanned (parts_of s w p f n) (parts_stop s w p f)
+    parts-wrong y j = by (power_at s (p + f)) (power_stop s (p + f)) j ∙ parts-scaled
+      where
+        by : (x : Exponent) (stop : ℕ) → Err y ≡ power_word x stop → scanned malformed y ≡ scanned (scaled n f x) stop
+        by (up u) stop j = no-case cc
+        by (down u) stop j = no-case cc
+        by wrong stop j = let q : y ≡ stop = cc in ap (scanned malformed) q
+
+    pub parts-good : (y : Power) → Ok y ≡ power_word (power_at s (p + f)) (power_stop s (p + f)) → (r : Decimal) → r ≡ scaled_by n f y
+        → scanned (value r) (length s) ≡ scanned (parts_of s w p f n) (parts_stop s w p f)
+    parts-good y j r g = by (power_at s (p + f)) (power_stop s (p + f)) j (power-stop-good (p + f)) ∙ parts-scaled
+      where
+        by : (x : Exponent) (stop : ℕ) → Ok y ≡ power_word x stop → (well_formed (scaled n f x) ≡ true → stop ≡ length s)
+            → scanned (value r) (length s) ≡ scanned (scaled n f x) stop
+        by (up u) stop j q =
+            let v : y ≡ P.Up u = cc in rw (g, v, q refl)
+        by (down u) stop j q = let v : y ≡ P.Down u = cc in rw (g, v, q refl)
+        by wrong stop j q = no-case cc
 
   parts-stop-good : (w p : ℕ) → well_formed (parts_of s w p f n) ≡ true → parts_stop s w p f ≡ length s
   unfolding parts_of parts_stop

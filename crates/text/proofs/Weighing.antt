@@ -19,9 +19,8 @@ use Rattle.text.specs.Stop.{count_stop}
 use Rattle.text.specs.Weight.{most_places, million, with_fraction, behind_whole, carried, behind_stop}
 use Rattle.text.specs.Weight.{millionths_of, weight_of, weight_stop}
 use Rattle.text.specs.Scan.{Scanned, scanned, has_at, cut_number, cut_word, saturated, run_at, count_at, count_says, behind_at}
-use Rattle.text.specs.declared.count.Run.{Run}
-use Rattle.text.specs.declared.count.Counted.{Counted}
-use Rattle.text.specs.declared.count.Counted.TheVariants as C
+use Rattle.text.specs.declared.count.Scan.{Scan}
+use Rattle.std.specs.Prelude.{Result, Ok, Err}
 use Rattle.text.proofs.Bytes.{first-digit}
 use Rattle.text.proofs.Runs.{front-len, len-digit, len-le, all_val}
 use Rattle.text.proofs.Decimals.{run_small}
@@ -104,17 +103,17 @@ module _ (s : List ℕ) (n p : ℕ) where
     behind-other h = rw (here, ne_eqb (get_or s p 0) 46 h, add-zero)
 
     -- a point, and the digits behind it
-    module _ (h : get_or s p 0 ≡ 46) (r : Run) (e : r ≡ run_at s (p + 1) 0) where
+    module _ (h : get_or s p 0 ≡ 46) (r : Scan ℕ) (e : r ≡ run_at s (p + 1) 0) where
       abbrev bs : List ℕ
       bs = drop (p + 1) s
 
       run-next : r.next ≡ p + 1 + run_len bs
       unfolding run_at
-      run-next = ap (λ (x : Run). x.next) e
+      run-next = ap (λ (x : Scan ℕ). x.next) e
 
-      run-number : r.n ≡ cut_number (run_val 0 bs)
+      run-number : r.value ≡ cut_number (run_val 0 bs)
       unfolding run_at
-      run-number = ap (λ (x : Run). x.n) e
+      run-number = ap (λ (x : Scan ℕ). x.value) e
 
       pub behind-from : p + 1 ≤ r.next
       behind-from = omega (arith, run-next)
@@ -146,15 +145,15 @@ module _ (s : List ℕ) (n p : ℕ) where
             (omega (arith, run-next)) in
             omega (arith, j, run_small 0 bs)
 
-        pub behind-small : r.n ≤ 999999
+        pub behind-small : r.value ≤ 999999
         behind-small = omega (arith, few, run-number)
 
-        pub behind-good : length s ≤ r.next → (m : ℕ) → m ≡ min (with_fraction n r.n (r.next - (p + 1))) 100000000001
+        pub behind-good : length s ≤ r.next → (m : ℕ) → m ≡ min (with_fraction n r.value (r.next - (p + 1))) 100000000001
             → scanned (value m) r.next ≡ behind_at s n p
         behind-good k m f =
             let q : run_len bs ≡ length bs = omega (arith, run-next, len-le bs, length-drop (p + 1) s) in
             let j : r.next - (p + 1) ≡ length bs = omega (arith, run-next, q) in
-            let v : r.n ≡ run_val 0 bs = omega (arith, few, run-number) in
+            let v : r.value ≡ run_val 0 bs = omega (arith, few, run-number) in
             let d : each is_digit bs ≡ true = sym (ap (each is_digit) (take_all (run_len bs) bs (omega arith)))
             ∙ digits-front bs in
             let g : places_are bs ≡ true = places-good bs d (lt_of 0 (length bs) (omega arith) (λ x. z (omega arith)))
@@ -189,23 +188,21 @@ behind-cut n (b ∷ bs) =
     let q : min (cut_number n * million + f) (most_weight + 1) ≡ min (n * million + f) (most_weight + 1) = omega arith in
     bool_cases (eqb b 46 && places_are bs) _ (λ e. rw e (ap value q)) (λ e. rw e)
 
-module _ (s : List ℕ) (x : Counted) (e : count_says x ≡ saturated (count_at s 0)) where
-  counted : count_says x ≡ scanned (cut_word (count_of (take (count_stop s) s))) (count_stop s)
-  counted = e ∙ ap saturated (count_at_lem s)
-
-  pub whole-inside : (n p : ℕ) → x ≡ C.Value n p → p ≤ length s
-  whole-inside n p q = omega (arith, ap (λ (y : Scanned ℕ). y.next) (ap count_says (sym q) ∙ counted), count-short s)
+module _ (s : List ℕ) where
+  counted : (x : Result (Scan ℕ) ℕ) → count_says x ≡ saturated (count_at s 0)
+      → count_says x ≡ scanned (cut_word (count_of (take (count_stop s) s))) (count_stop s)
+  counted x e = e ∙ ap saturated (count_at_lem s)
 
   -- without a whole part
   nothing : count_stop s ≡ 0 → count_of (take (count_stop s) s) ≡ malformed
   nothing z = ap (λ (k : ℕ). count_of (take k s)) z
 
-  pub weight-none : (p : ℕ) → x ≡ C.Bad p → scanned malformed p ≡ scanned (weight_of s) (weight_stop s)
+  pub weight-none : (p : ℕ) → scanned malformed p ≡ saturated (count_at s 0) → scanned malformed p ≡ scanned (weight_of s) (weight_stop s)
   unfolding weight_of millionths_of weight_stop
-  weight-none p q = by (eqb (count_stop s) 0) refl
+  weight-none p e = by (eqb (count_stop s) 0) refl
     where
       k : scanned malformed p ≡ scanned (cut_word (count_of (take (count_stop s) s))) (count_stop s)
-      k = ap count_says (sym q) ∙ counted
+      k = counted (Err p) e
 
       said : malformed ≡ cut_word (count_of (take (count_stop s) s))
       said = ap (λ (y : Scanned ℕ). y.said) k
@@ -216,24 +213,28 @@ module _ (s : List ℕ) (x : Counted) (e : count_says x ≡ saturated (count_at 
           rw (z, nothing o) (ap (scanned malformed) (ap (λ (y : Scanned ℕ). y.next) k ∙ o))
       by false z = let m = count-said s z in no-case (let f = rw m.1 at said in cc)
 
-  pub weight-some : (n p : ℕ) (r : Counted) → x ≡ C.Value n p → count_says r ≡ behind_at s n p
-      → count_says r ≡ scanned (weight_of s) (weight_stop s)
-  unfolding weight_of millionths_of weight_stop
-  weight-some n p r q g = by (eqb (count_stop s) 0) refl
-    where
-      k : scanned (value n) p ≡ scanned (cut_word (count_of (take (count_stop s) s))) (count_stop s)
-      k = ap count_says (sym q) ∙ counted
+  module _ (x : Scan ℕ) (e : scanned (value x.value) x.next ≡ saturated (count_at s 0)) where
+    k : scanned (value x.value) x.next ≡ scanned (cut_word (count_of (take (count_stop s) s))) (count_stop s)
+    k = counted (Ok x) e
 
-      said : value n ≡ cut_word (count_of (take (count_stop s) s))
-      said = ap (λ (y : Scanned ℕ). y.said) k
+    pub whole-inside : x.next ≤ length s
+    whole-inside = omega (arith, ap (λ (y : Scanned ℕ). y.next) k, count-short s)
 
-      by : (t : Bool) → eqb (count_stop s) 0 ≡ t → count_says r ≡ scanned (weight_of s) (weight_stop s)
-      by true z = no-case (let f = rw (nothing (eqb-true (count_stop s) 0 z)) at said in cc)
-      by false z =
-          let m = count-said s z in
-          let f : value n ≡ value (cut_number m.0) = rw m.1 at said in
-          let a : n ≡ cut_number m.0 = cc in
-          let b : p ≡ count_stop s = ap (λ (y : Scanned ℕ). y.next) k in
-          g ∙ ap (behind_at s n) b ∙ ap (λ (j : ℕ). behind_at s j (count_stop s)) a
-          ∙ ap (λ (w : Word ℕ). scanned w (count_stop s + behind_stop (drop (count_stop s) s))) (behind-cut m.0 (drop (count_stop s) s))
-          ∙ rw (z, m.1)
+    pub weight-some : (r : Result (Scan ℕ) ℕ) → count_says r ≡ behind_at s x.value x.next
+        → count_says r ≡ scanned (weight_of s) (weight_stop s)
+    unfolding weight_of millionths_of weight_stop
+    weight-some r g = by (eqb (count_stop s) 0) refl
+      where
+        said : value x.value ≡ cut_word (count_of (take (count_stop s) s))
+        said = ap (λ (y : Scanned ℕ). y.said) k
+
+        by : (t : Bool) → eqb (count_stop s) 0 ≡ t → count_says r ≡ scanned (weight_of s) (weight_stop s)
+        by true z = no-case (let f = rw (nothing (eqb-true (count_stop s) 0 z)) at said in cc)
+        by false z =
+            let m = count-said s z in
+            let f : value x.value ≡ value (cut_number m.0) = rw m.1 at said in
+            let a : x.value ≡ cut_number m.0 = cc in
+            let b : x.next ≡ count_stop s = ap (λ (y : Scanned ℕ). y.next) k in
+            g ∙ ap (behind_at s x.value) b ∙ ap (λ (j : ℕ). behind_at s j (count_stop s)) a
+            ∙ ap (λ (w : Word ℕ). scanned w (count_stop s + behind_stop (drop (count_stop s) s))) (behind-cut m.0 (drop (count_stop s) s))
+            ∙ rw (z, m.1)

@@ -1,19 +1,17 @@
 -- 02 K3: "a claim, written in the coefficients' decimal form, matches within one part in ten thousand, or as `infinity` exactly where
 -- unreachable": the bytes of a claimed distance, and a line of such a claim.
-use Rattle.std.specs.Prelude.{ℕ, suc, ◌+◌, List, [], ◌∷◌, Bool, true, false, cond, ◌&&◌, get_or, eqb, ℤ}
+use Rattle.std.specs.Prelude.{ℕ, suc, ◌+◌, List, [], ◌∷◌, Bool, true, false, cond, ◌&&◌, get_or, eqb, ℤ, Option, Result}
 use Rattle.text.specs.Bytes.{bytes, lf}
 use Rattle.text.specs.Word.{Word, malformed, outside, value}
 use Rattle.text.specs.Decimal.{decimal_of}
 use Rattle.text.specs.Stop.{decimal_stop}
-use Rattle.text.specs.Line.{LineSaid, line, none, fault, Form, line_by, pair_form}
+use Rattle.text.specs.Line.{LineSaid, Form, line_by, pair_form, reader_says}
 use Rattle.text.specs.Scan.{Scanned, scanned, closed, line_from}
 use Rattle.text.specs.declared.decimal.Decimal.{Decimal}
 use Rattle.text.specs.declared.distance.Distance.{Distance}
 use Rattle.text.specs.declared.distance.Distance.TheVariants as D
-use Rattle.text.specs.declared.distance.Tail.{Tail}
-use Rattle.text.specs.declared.distance.Tail.TheVariants as T
-use Rattle.text.specs.declared.distance.DistanceLine.{DistanceLine}
-use Rattle.text.specs.declared.distance.DistanceLine.TheVariants as DL
+use Rattle.text.specs.declared.line.Cursor.{Cursor}
+use Rattle.text.specs.declared.line.Fault.{Fault}
 
 -- "`infinity`": its bytes
 abbrev pub infinity_word : List ℕ
@@ -58,11 +56,9 @@ distance_form = record { word = distance_of; stop = distance_stop }
 abbrev pub distance_line : List ℕ → ℕ → LineSaid (ℤ × Distance)
 distance_line s at = line_by (pair_form distance_form) s at
 
--- "a definition that gives this paper's number and values for each of its cases": the identifier, the distance and the place past the line
-abbrev pub distance_says : DistanceLine → LineSaid (ℤ × Distance)
-distance_says (DL.End k) = none k.at
-distance_says (DL.Fault n c k) = fault n c k.at
-distance_says (DL.Line u d k) = line (u, d) k.at
+-- what the code's reader says of such a line: the identifier and the distance
+abbrev pub distance_says : Cursor → Option (Result (ℤ × Distance) Fault) → LineSaid (ℤ × Distance)
+distance_says k x = reader_says k x
 
 -- ---- what the code scans
 -- what the bytes from a place to the end of its line say as a distance, with the place past their LF; or where they break off
@@ -72,8 +68,3 @@ distance_at s at = closed s lf (scanned (distance_of (line_from s at)) (at + dis
 -- a scanned decimal as a distance; its place stays
 abbrev pub finite_at : Scanned Decimal → Scanned Distance
 finite_at x = scanned (finite x.said) x.next
-
--- the code's answer for the rest of a line, by its cases
-abbrev pub tail_says : Tail → Scanned Distance
-tail_says (T.Bad p) = scanned malformed p
-tail_says (T.Value d p) = scanned (value d) p

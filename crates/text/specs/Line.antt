@@ -1,5 +1,5 @@
 -- 01 "Lists", "Claims and verdicts": the lines of a file, on the bytes from a place on.
-use Rattle.std.specs.Prelude.{ℕ, ◌+◌, List, [], ◌∷◌, true, false, cond, ◌&&◌, length, drop, leb, eqb, ℤ}
+use Rattle.std.specs.Prelude.{ℕ, ◌+◌, List, [], ◌∷◌, true, false, cond, ◌&&◌, length, drop, leb, eqb, ℤ, Option, None, Some, Result, Ok, Err}
 use Rattle.basis.specs.Refusal.{bad_form, out_of_range}
 use Rattle.basis.specs.Scan.{mem}
 use Rattle.text.specs.Bytes.{lf, space}
@@ -7,12 +7,8 @@ use Rattle.text.specs.Word.{Word, malformed, outside, value, well_formed, ident_
 use Rattle.text.specs.Decimal.{decimal_of}
 use Rattle.text.specs.Stop.{ident_stop, decimal_stop}
 use Rattle.text.specs.declared.decimal.Decimal.{Decimal}
-use Rattle.text.specs.declared.line.VertexLine.{VertexLine}
-use Rattle.text.specs.declared.line.VertexLine.TheVariants as VL
-use Rattle.text.specs.declared.line.EdgeLine.{EdgeLine}
-use Rattle.text.specs.declared.line.EdgeLine.TheVariants as EL
-use Rattle.text.specs.declared.line.CoefficientLine.{CoefficientLine}
-use Rattle.text.specs.declared.line.CoefficientLine.TheVariants as CL
+use Rattle.text.specs.declared.line.Cursor.{Cursor}
+use Rattle.text.specs.declared.line.Fault.{Fault}
 
 -- what a reader says: a line's values and the place past it; "no line is left"; a refusal's number and column. "then, and with a fault,
 -- the place comes back as it went in"
@@ -107,20 +103,20 @@ claim_line s at = edge_line s at
 abbrev pub coefficient_line : List ℕ → ℕ → LineSaid (ℤ × Decimal)
 coefficient_line s at = line_by (pair_form decimal_form) s at
 
--- "a definition that gives this paper's number and values for each of its cases"
-abbrev pub vertex_says : VertexLine → LineSaid ℤ
-vertex_says (VL.End k) = none k.at
-vertex_says (VL.Fault n c k) = fault n c k.at
-vertex_says (VL.Line z k) = line z k.at
+-- what the code's reader says, by the place at which it left its cursor and the cases of its answer
+abbrev pub reader_says : {A : Type 0} → Cursor → Option (Result A Fault) → LineSaid A
+reader_says k None = none k.at
+reader_says k (Some (Err f)) = fault f.number f.column k.at
+reader_says k (Some (Ok v)) = line v k.at
 
--- the same for an edge line, and a claim line of its form: the two numbers and the place past the line
-abbrev pub edge_says : EdgeLine → LineSaid (ℤ × ℤ)
-edge_says (EL.End k) = none k.at
-edge_says (EL.Fault n c k) = fault n c k.at
-edge_says (EL.Line u v k) = line (u, v) k.at
+-- the same of a vertex line: its number
+abbrev pub vertex_says : Cursor → Option (Result ℤ Fault) → LineSaid ℤ
+vertex_says k x = reader_says k x
 
--- the same for a line of an LCC claim: the identifier, the decimal and the place past the line
-abbrev pub coefficient_says : CoefficientLine → LineSaid (ℤ × Decimal)
-coefficient_says (CL.End k) = none k.at
-coefficient_says (CL.Fault n c k) = fault n c k.at
-coefficient_says (CL.Line u d k) = line (u, d) k.at
+-- the same of an edge line, and a claim line of its form: the two numbers
+abbrev pub edge_says : Cursor → Option (Result (ℤ × ℤ) Fault) → LineSaid (ℤ × ℤ)
+edge_says k x = reader_says k x
+
+-- the same of a line of an LCC claim: the identifier and the decimal
+abbrev pub coefficient_says : Cursor → Option (Result (ℤ × Decimal) Fault) → LineSaid (ℤ × Decimal)
+coefficient_says k x = reader_says k x

@@ -1,24 +1,14 @@
 -- What the code scans from a place on, without knowing where the word ends. Past the end of a file `get_or s at 0` is 0, which begins and
 -- continues nothing.
-use Rattle.std.specs.Prelude.{ℕ, ◌+◌, ◌-◌, ◌^◌, ◌≤◌, ◌<◌, min, List, Bool, true, false, cond, ◌&&◌, length, get_or, drop, ltb, eqb, ℤ}
+use Rattle.std.specs.Prelude.{ℕ, ◌+◌, ◌-◌, ◌^◌, ◌≤◌, ◌<◌, min, List, Bool, true, false, cond, ◌&&◌, length, get_or, drop, ltb, eqb, ℤ, Option, None, Some, Result, Ok, Err}
 use Rattle.text.specs.Bytes.{lf, space, zero_digit, one_digit, nine_digit, minus_sign}
 use Rattle.text.specs.Word.{Word, malformed, outside, value, well_formed, within, run_len, run_val, ranged_of, signed_of}
 use Rattle.text.specs.Decimal.{decimal_of}
 use Rattle.text.specs.Stop.{decimal_stop}
 use Rattle.text.specs.Line.{LineSaid, Form, up_to, line_says, both}
 use Rattle.text.specs.Weight.{behind_whole, carried, behind_stop}
-use Rattle.text.specs.declared.count.Run.{Run}
-use Rattle.text.specs.declared.count.Counted.{Counted}
-use Rattle.text.specs.declared.count.Counted.TheVariants as C
-use Rattle.text.specs.declared.ident.Scan.{Scan}
-use Rattle.text.specs.declared.ident.Scan.TheVariants as S
+use Rattle.text.specs.declared.count.Scan.{Scan}
 use Rattle.text.specs.declared.decimal.Decimal.{Decimal}
-use Rattle.text.specs.declared.decimal.DecimalWord.{DecimalWord}
-use Rattle.text.specs.declared.decimal.DecimalWord.TheVariants as DW
-use Rattle.text.specs.declared.line.Rest.{Rest}
-use Rattle.text.specs.declared.line.Rest.TheVariants as R
-use Rattle.text.specs.declared.weighed.Tail.{Tail}
-use Rattle.text.specs.declared.weighed.Tail.TheVariants as T
 
 -- what was scanned: where it is well formed, with the place of the first byte after it; else with that of the first byte at which it
 -- can't go on
@@ -39,8 +29,8 @@ abbrev pub cut_number : ℕ → ℕ
 cut_number n = min n 9223372036854775809
 
 -- the digits at a place, written after those of n
-unfoldable pub run_at : List ℕ → ℕ → ℕ → Run
-run_at s at n = record { n = cut_number (run_val n (drop at s)); next = at + run_len (drop at s) }
+unfoldable pub run_at : List ℕ → ℕ → ℕ → Scan ℕ
+run_at s at n = record { value = cut_number (run_val n (drop at s)); next = at + run_len (drop at s) }
 
 -- "A count is `0`, or a digit 1 to 9 and more digits.": from a place on
 unfoldable pub count_at : List ℕ → ℕ → Scanned ℕ
@@ -59,10 +49,28 @@ cut_word (value n) = value (cut_number n)
 abbrev pub saturated : Scanned ℕ → Scanned ℕ
 saturated x = scanned (cut_word x.said) x.next
 
--- "a definition that gives this paper's number and values for each of its cases": the code's count
-abbrev pub count_says : Counted → Scanned ℕ
-count_says (C.Bad p) = scanned malformed p
-count_says (C.Value n p) = scanned (value n) p
+-- what the code read that is never out of range, by the cases of its answer: with the place after it, or the place at which it breaks off
+abbrev pub read_says : {A : Type 0} → Result (Scan A) ℕ → Scanned A
+read_says (Err p) = scanned malformed p
+read_says (Ok x) = scanned (value x.value) x.next
+
+-- the code's count
+abbrev pub count_says : Result (Scan ℕ) ℕ → Scanned ℕ
+count_says x = read_says x
+
+-- a value that the code read, or none where it is out of range
+abbrev pub word_of : {A : Type 0} → Option A → Word A
+word_of None = outside
+word_of (Some v) = value v
+
+-- what the code read and may be out of range, with the place after it
+abbrev pub ranged_says : {A : Type 0} → Scan (Option A) → Scanned A
+ranged_says x = scanned (word_of x.value) x.next
+
+-- the same by the cases of its answer: of an identifier, a field, or the fields of a line
+abbrev pub scan_says : {A : Type 0} → Result (Scan (Option A)) ℕ → Scanned A
+scan_says (Err p) = scanned malformed p
+scan_says (Ok x) = ranged_says x
 
 -- the number n, or -n, scanned up to a place: a value, or out of range
 abbrev pub ranged_at : Bool → ℕ → ℕ → Scanned ℤ
@@ -88,16 +96,10 @@ closed s c x =
 unfoldable pub field_at : List ℕ → ℕ → ℕ → Scanned ℤ
 field_at s at c = closed s c (ident_at s at)
 
--- the code's scan of an identifier or a field, by its cases
-abbrev pub scan_says : Scan → Scanned ℤ
-scan_says (S.Bad p) = scanned malformed p
-scan_says (S.Outside p) = scanned outside p
-scan_says (S.Value z p) = scanned (value z) p
-
 -- the code's answer for a whole word of n bytes as a decimal, by its cases: a good one stops at the end of its word
-abbrev pub decimal_says : ℕ → DecimalWord → Scanned Decimal
-decimal_says n (DW.Bad p) = scanned malformed p
-decimal_says n (DW.Value d) = scanned (value d) n
+abbrev pub decimal_says : ℕ → Result Decimal ℕ → Scanned Decimal
+decimal_says n (Err p) = scanned malformed p
+decimal_says n (Ok d) = scanned (value d) n
 
 -- the bytes from a place to the end of its line
 abbrev pub line_from : List ℕ → ℕ → List ℕ
@@ -110,11 +112,6 @@ decimal_at s at = scanned (decimal_of (line_from s at)) (at + decimal_stop (line
 -- the same, if LF follows: then with the place past LF
 unfoldable pub rest_at : List ℕ → ℕ → Scanned Decimal
 rest_at s at = closed s lf (decimal_at s at)
-
--- the code's answer for the rest of an LCC claim's line, by its cases
-abbrev pub rest_says : Rest → Scanned Decimal
-rest_says (R.Bad p) = scanned malformed p
-rest_says (R.Value d p) = scanned (value d) p
 
 -- a word and what was scanned after it
 abbrev pub beside : {A B : Type 0} → Word A → Scanned B → Scanned (A × B)
@@ -141,14 +138,12 @@ behind_at s n p = scanned (carried (behind_whole n (drop p s))) (p + behind_stop
 unfoldable pub last_at : {A : Type 0} → Form A → List ℕ → ℕ → Scanned A
 last_at form s at = closed s lf (scanned (form.word (line_from s at)) (at + form.stop (line_from s at)))
 
--- the identifier at a place and the space behind it, and the word of that form behind both
-unfoldable pub pair_at : {A : Type 0} → Form A → List ℕ → ℕ → Scanned (ℤ × A)
-pair_at form s at =
-    cond (well_formed (field_at s at space).said) (beside (field_at s at space).said (last_at form s (field_at s at space).next))
+-- the identifier at a place and the space behind it, and what is scanned by `second` behind both
+unfoldable pub two_at : {A : Type 0} → (List ℕ → ℕ → Scanned A) → List ℕ → ℕ → Scanned (ℤ × A)
+two_at second s at =
+    cond (well_formed (field_at s at space).said) (beside (field_at s at space).said (second s (field_at s at space).next))
     (scanned malformed (field_at s at space).next)
 
--- the code's answer for the rest of an edge line with a weight, by its cases
-abbrev pub tail_says : Tail → Scanned (ℤ × ℕ)
-tail_says (T.Bad p) = scanned malformed p
-tail_says (T.Outside p) = scanned outside p
-tail_says (T.Value v w p) = scanned (value (v, w)) p
+-- the same with the word of that form up to the end of the line
+abbrev pub pair_at : {A : Type 0} → Form A → List ℕ → ℕ → Scanned (ℤ × A)
+pair_at form = two_at (last_at form)

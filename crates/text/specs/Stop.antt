@@ -1,11 +1,10 @@
 -- Where a word breaks off: the place of the first byte at which no good word could go on, and the word's length where there is no such
 -- byte. Past the end of a word `get_or s at 0` is 0, which continues nothing.
-use Rattle.std.specs.Prelude.{ℕ, suc, ◌+◌, ◌-◌, ◌*◌, List, [], ◌∷◌, Bool, cond, ◌&&◌, ◌||◌, length, get_or, drop, ltb, eqb}
+use Rattle.std.specs.Prelude.{ℕ, suc, ◌+◌, ◌-◌, ◌*◌, List, [], ◌∷◌, Bool, cond, ◌&&◌, ◌||◌, length, get_or, drop, ltb, eqb, Result, Ok, Err}
 use Rattle.text.specs.Bytes.{zero_digit, one_digit, nine_digit, plus_sign, minus_sign, power_mark}
 use Rattle.text.specs.Word.{within, is_digit, run_len}
 use Rattle.text.specs.Decimal.{Exponent, up, down, wrong, digit_limit, decimal, digit_of, past_point, whole_is_good, signed_power}
-use Rattle.text.specs.declared.decimal.DecimalWord.{DecimalWord}
-use Rattle.text.specs.declared.decimal.DecimalWord.TheVariants as DW
+use Rattle.text.specs.declared.decimal.Decimal.{Decimal}
 use Rattle.text.specs.declared.decimal.Power.{Power}
 use Rattle.text.specs.declared.decimal.Power.TheVariants as P
 
@@ -62,14 +61,13 @@ digits_power s at g =
     (signed_power g (digit_of (get_or s at 0) * 10 + digit_of (get_or s (at + 1) 0)))
     wrong
 
--- the code's answer for a power: with the place at which it breaks off, where it is wrong
-abbrev pub power_word : Exponent → ℕ → Power
-power_word (up k) stop = P.Up k
-power_word (down k) stop = P.Down k
-power_word wrong stop = P.Wrong stop
+-- the code's answer for a power: where it is wrong, the place at which it breaks off
+abbrev pub power_word : Exponent → ℕ → Result Power ℕ
+power_word (up k) stop = Ok (P.Up k)
+power_word (down k) stop = Ok (P.Down k)
+power_word wrong stop = Err stop
 
 -- a number with f digits after the point, and the code's power
-abbrev pub scaled_word : ℕ → ℕ → Power → DecimalWord
-scaled_word n f (P.Up k) = DW.Value (decimal n k f)
-scaled_word n f (P.Down k) = DW.Value (decimal n 0 (f + k))
-scaled_word n f (P.Wrong stop) = DW.Bad stop
+abbrev pub scaled_by : ℕ → ℕ → Power → Decimal
+scaled_by n f (P.Up k) = decimal n k f
+scaled_by n f (P.Down k) = decimal n 0 (f + k)

@@ -1,11 +1,11 @@
 -- 02 K3: "Edge lines may carry a third field, a weight"; "A file has weights on all lines or none".
-use Rattle.std.specs.Prelude.{ℕ, List, Bool, true, false, eqb, ℤ}
+use Rattle.std.specs.Prelude.{ℕ, List, Bool, true, false, eqb, ℤ, Option, None, Some, Result, Ok, Err}
 use Rattle.basis.specs.Refusal.{bad_form}
 use Rattle.text.specs.Word.{Word, malformed, outside, value}
 use Rattle.text.specs.Weight.{weight_of, weight_stop}
 use Rattle.text.specs.Line.{Form, LineSaid, line, none, fault, line_by, pair_form, edge_form, edge_line}
-use Rattle.text.specs.declared.line.WeighedLine.{WeighedLine}
-use Rattle.text.specs.declared.line.WeighedLine.TheVariants as WL
+use Rattle.text.specs.declared.line.Cursor.{Cursor}
+use Rattle.text.specs.declared.line.Fault.{Fault}
 
 -- "a weight: `0` or digits without a leading zero, optionally `.` and one to six digits": its form
 abbrev pub weight_form : Form ℕ
@@ -50,8 +50,9 @@ is_bad_form (fault n c p) = eqb n bad_form
 unfoldable pub has_weights : List ℕ → Bool
 has_weights s = is_bad_form (edge_line s 0)
 
--- "a definition that gives this paper's number and values for each of its cases": the two numbers, the weight and the place past the line
-abbrev pub weighed_says : WeighedLine → LineSaid (ℤ × (ℤ × ℕ))
-weighed_says (WL.End k) = none k.at
-weighed_says (WL.Fault n c k) = fault n c k.at
-weighed_says (WL.Line u v w k) = line (u, (v, w)) k.at
+-- what the code's reader says of an edge line with its weight, by the place at which it left its cursor and the cases of its answer: the two
+-- numbers and the weight
+abbrev pub weighed_says : Cursor → Option (Result (ℤ × ℤ × ℕ) Fault) → LineSaid (ℤ × (ℤ × ℕ))
+weighed_says k None = none k.at
+weighed_says k (Some (Err f)) = fault f.number f.column k.at
+weighed_says k (Some (Ok x)) = line (x.0, (x.1, x.2)) k.at

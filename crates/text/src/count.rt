@@ -29,18 +29,11 @@ pub const PLUS: u8 = 43;
 // 2^63 + 1: a number is carried as itself, or as this where it is larger.
 pub const CAP: u64 = 9223372036854775809;
 
-// A run of digits: its number, and the place of the first byte after it.
-#[derive(Drop)]
-pub struct Run {
-    pub n: u64,
+// What was read, and the place of the first byte after it.
+#[derive(Clone, Copy)]
+pub struct Scan<T> {
+    pub value: T,
     pub next: usize,
-}
-
-// A count: its number and the place after it, or the place of the byte at which it breaks off.
-#[derive(Drop)]
-pub enum Counted {
-    Bad(usize),
-    Value(u64, usize),
 }
 
 // Whether the byte `c` stands at a place.
@@ -83,7 +76,7 @@ fn step(n: u64, b: u8) -> u64
 }
 
 // The digits at a place, written after those of `start`.
-pub(crate) fn digits(s: &[u8], from: usize, start: u64) -> Run
+pub(crate) fn digits(s: &[u8], from: usize, start: u64) -> Scan<u64>
     ensures { result ≡ run_at s.now from start }
 {
     let mut n = cut(start);
@@ -91,34 +84,36 @@ pub(crate) fn digits(s: &[u8], from: usize, start: u64) -> Run
     while i < s.len() {
         let b = s[i];
         if b < ZERO {
-            return Run { n, next: i };
+            return Scan { value: n, next: i };
         }
         if NINE < b {
-            return Run { n, next: i };
+            return Scan { value: n, next: i };
         }
         n = step(n, b);
         i += 1;
     }
-    Run { n, next: i }
+    Scan { value: n, next: i }
 }
 
-// `0`, or a digit 1 to 9 and more digits, at a place.
-pub fn count(s: &[u8], at: usize) -> Counted
+// The count at a place, `0` or a digit 1 to 9 and more digits; or the place of the byte at which it breaks off.
+pub fn count(s: &[u8], at: usize) -> Result<Scan<u64>, usize>
     ensures { count_says result ≡ saturated (count_at s.now at) }
 {
     if s.len() <= at {
-        return Counted::Bad(at);
+        return Err(at);
     }
     let b = s[at];
     if b == ZERO {
-        return Counted::Value(0, at + 1);
+        return Ok(Scan {
+            value: 0,
+            next: at + 1,
+        });
     }
     if b < ONE {
-        return Counted::Bad(at);
+        return Err(at);
     }
     if NINE < b {
-        return Counted::Bad(at);
+        return Err(at);
     }
-    let run = digits(s, at, 0);
-    Counted::Value(run.n, run.next)
+    Ok(digits(s, at, 0))
 }

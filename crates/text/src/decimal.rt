@@ -2,7 +2,7 @@
 ghost use Rattle.std.specs.Prelude.{◌≡◌, true, ◌+◌, ◌*◌, ◌≤◌, length, get_or};
 ghost use Rattle.text.specs.Word.{is_digit};
 ghost use Rattle.text.specs.Decimal.{digit_of, past_point, whole_is_good, power_at, parts_of, decimal_of};
-ghost use Rattle.text.specs.Stop.{is_sign, digits_stop, digits_power, power_stop, parts_stop, decimal_stop, power_word, scaled_word};
+ghost use Rattle.text.specs.Stop.{is_sign, digits_stop, digits_power, power_stop, parts_stop, decimal_stop, power_word, scaled_by};
 ghost use Rattle.text.specs.Scan.{scanned, decimal_says};
 
 use crate::count::{MINUS, NINE, PLUS, ZERO, digits};
@@ -17,26 +17,18 @@ const POWER: u8 = 101;
 pub const DIGITS: usize = 17;
 
 // digits * 10^up / 10^down: nothing is rounded.
-#[derive(Drop)]
+#[derive(Clone, Copy)]
 pub struct Decimal {
     pub digits: u64,
     pub up: u8,
     pub down: u16,
 }
 
-// A decimal, or the place of the first byte at which no decimal could go on.
-#[derive(Drop)]
-pub enum DecimalWord {
-    Bad(usize),
-    Value(Decimal),
-}
-
-// The exponent that stands after the digits, or the place at which it breaks off.
-#[derive(Drop)]
+// The exponent that stands after the digits.
+#[derive(Clone, Copy)]
 enum Power {
     Up(u8),
     Down(u8),
-    Wrong(usize),
 }
 
 // The byte at a place, 0 past the end.
@@ -122,99 +114,98 @@ fn two_digits(x: u8, y: u8) -> u8
 }
 
 // Two digits up to the end, after the sign g.
-fn signed_power(s: &[u8], at: usize, g: u8) -> Power
+fn signed_power(s: &[u8], at: usize, g: u8) -> Result<Power, usize>
     requires { (at ≤ length s.now) × (is_sign g ≡ true) }
     ensures { result ≡ power_word (digits_power s.now at g) (digits_stop s.now at) }
 {
     let x = byte_at(s, at);
     if !is_digit(x) {
-        return Power::Wrong(at);
+        return Err(at);
     }
     let y = byte_at(s, at + 1);
     if !is_digit(y) {
-        return Power::Wrong(at + 1);
+        return Err(at + 1);
     }
     if s.len() != at + 2 {
-        return Power::Wrong(at + 2);
+        return Err(at + 2);
     }
     let k = two_digits(x, y);
     if g == PLUS {
-        return Power::Up(k);
+        return Ok(Power::Up(k));
     }
-    Power::Down(k)
+    Ok(Power::Down(k))
 }
 
 // What stands after the digits, up to the end: nothing, or `e`, a sign and two digits.
-fn power_at(s: &[u8], at: usize) -> Power
+fn power_at(s: &[u8], at: usize) -> Result<Power, usize>
     requires { at ≤ length s.now }
     ensures { result ≡ power_word (power_at s.now at) (power_stop s.now at) }
 {
     if s.len() == at {
-        return Power::Up(0);
+        return Ok(Power::Up(0));
     }
     if byte_at(s, at) != POWER {
-        return Power::Wrong(at);
+        return Err(at);
     }
     let g = byte_at(s, at + 1);
     if !is_sign(g) {
-        return Power::Wrong(at + 1);
+        return Err(at + 1);
     }
     signed_power(s, at + 2, g)
 }
 
 // A number with f digits after the point, and its power.
-fn with_power(n: u64, f: u8, p: Power) -> DecimalWord
-    ensures { result ≡ scaled_word n f p }
+fn with_power(n: u64, f: u8, p: Power) -> Decimal
+    ensures { result ≡ scaled_by n f p }
 {
     match p {
-        Power::Up(k) => DecimalWord::Value(Decimal {
+        Power::Up(k) => Decimal {
             digits: n,
             up: k,
             down: f as u16,
-        }),
-        Power::Down(k) => DecimalWord::Value(Decimal {
+        },
+        Power::Down(k) => Decimal {
             digits: n,
             up: 0,
             down: f as u16 + k as u16,
-        }),
-        Power::Wrong(stop) => DecimalWord::Bad(stop),
+        },
     }
 }
 
 // w digits before the point and f after it, from p on, that make the number n.
-fn parts(s: &[u8], w: usize, p: usize, f: usize, n: u64) -> DecimalWord
+fn parts(s: &[u8], w: usize, p: usize, f: usize, n: u64) -> Result<Decimal, usize>
     requires { (w ≤ p) × (p + f ≤ length s.now) }
     ensures { decimal_says (length s.now) result
         ≡ scanned (parts_of s.now w p f n) (parts_stop s.now w p f) }
 {
     if w == 0 {
-        return DecimalWord::Bad(0);
+        return Err(0);
     }
     // a digit after a leading zero
     if !whole_is_good(s, w) {
-        return DecimalWord::Bad(1);
+        return Err(1);
     }
     // one digit too many, or a point that only such a digit could follow
     if DIGITS < p {
-        return DecimalWord::Bad(DIGITS);
+        return Err(DIGITS);
     }
     // a point with no digit after it
     if w + f < p {
-        return DecimalWord::Bad(p);
+        return Err(p);
     }
     if DIGITS < w + f {
-        return DecimalWord::Bad(p + (DIGITS - w));
+        return Err(p + (DIGITS - w));
     }
-    with_power(n, f as u8, power_at(s, p + f))
+    Ok(with_power(n, f as u8, power_at(s, p + f)?))
 }
 
-// What the bytes of a whole decimal say, or where they break off.
-pub(crate) fn decimal_of(s: &[u8]) -> DecimalWord
+// What the bytes of a whole decimal say; or the place of the first byte at which no decimal could go on.
+pub(crate) fn decimal_of(s: &[u8]) -> Result<Decimal, usize>
     ensures { decimal_says (length s.now) result
         ≡ scanned (decimal_of s.now) (decimal_stop s.now) }
 {
     let whole = digits(s, 0, 0);
     let p = past_point(s, whole.next);
-    let all = digits(s, p, whole.n);
-    parts(s, whole.next, p, all.next - p, all.n)
+    let all = digits(s, p, whole.value);
+    parts(s, whole.next, p, all.next - p, all.value)
 }

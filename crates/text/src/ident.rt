@@ -1,18 +1,9 @@
 // An identifier at a place, and one that a byte must follow.
 ghost use Rattle.std.specs.Prelude.{◌≡◌, ◌≤◌};
 ghost use Rattle.text.specs.Word.{minus_of};
-ghost use Rattle.text.specs.Scan.{count_at, ranged_at, signed_at, ident_at, field_at, scan_says};
+ghost use Rattle.text.specs.Scan.{count_at, ranged_at, signed_at, ident_at, field_at, ranged_says, scan_says};
 
-use crate::count::{Counted, MINUS, ZERO, count, has};
-
-// An identifier: the place of the byte at which it breaks off; or, outside the range of i64 or with its value, the place of the first
-// byte after it.
-#[derive(Drop)]
-pub enum Scan {
-    Bad(usize),
-    Outside(usize),
-    Value(i64, usize),
-}
+use crate::count::{MINUS, Scan, ZERO, count, has};
 
 // The number -n.
 fn minus(n: u64) -> i64
@@ -25,65 +16,61 @@ fn minus(n: u64) -> i64
     0 - (n as i64)
 }
 
-// A number with its sign, in range or not, that ends before the place `next`.
-fn ranged(n: u64, next: usize, negative: bool) -> Scan
-    ensures { scan_says result ≡ ranged_at negative n next }
+// A number with its sign, that ends before the place `next`; no value where it is outside the range of i64.
+fn ranged(n: u64, next: usize, negative: bool) -> Scan<Option<i64>>
+    ensures { ranged_says result ≡ ranged_at negative n next }
 {
     if negative {
         if n <= 9223372036854775808 {
-            return Scan::Value(minus(n), next);
+            return Scan {
+                value: Some(minus(n)),
+                next,
+            };
         }
-        return Scan::Outside(next);
+        return Scan { value: None, next };
     }
     if n <= 9223372036854775807 {
-        return Scan::Value(n as i64, next);
+        return Scan {
+            value: Some(n as i64),
+            next,
+        };
     }
-    Scan::Outside(next)
+    Scan { value: None, next }
 }
 
 // The count at a place with the sign before it.
-fn signed(s: &[u8], at: usize, negative: bool) -> Scan
+fn signed(s: &[u8], at: usize, negative: bool) -> Result<Scan<Option<i64>>, usize>
     ensures { scan_says result ≡ signed_at negative (count_at s.now at) }
 {
-    let x = count(s, at);
-    match x {
-        Counted::Bad(p) => Scan::Bad(p),
-        Counted::Value(n, p) => ranged(n, p, negative),
-    }
+    let x = count(s, at)?;
+    Ok(ranged(x.value, x.next, negative))
 }
 
 // The identifier at a place.
-fn ident(s: &[u8], at: usize) -> Scan
+fn ident(s: &[u8], at: usize) -> Result<Scan<Option<i64>>, usize>
     ensures { scan_says result ≡ ident_at s.now at }
 {
     if has(s, at, MINUS) {
         let p = at + 1;
         if has(s, p, ZERO) {
-            return Scan::Bad(p);
+            return Err(p);
         }
         return signed(s, p, true);
     }
     signed(s, at, false)
 }
 
-// The identifier at a place, which the byte `c` must follow: then its place is moved past `c`.
-pub fn field(s: &[u8], at: usize, c: u8) -> Scan
+// The identifier at a place, which the byte `c` must follow: with the place past `c`, and no value where it is outside the range of i64;
+// or the place of the byte at which it breaks off.
+pub fn field(s: &[u8], at: usize, c: u8) -> Result<Scan<Option<i64>>, usize>
     ensures { scan_says result ≡ field_at s.now at c }
 {
-    let x = ident(s, at);
-    match x {
-        Scan::Bad(p) => Scan::Bad(p),
-        Scan::Outside(p) => {
-            if has(s, p, c) {
-                return Scan::Outside(p + 1);
-            }
-            Scan::Bad(p)
-        }
-        Scan::Value(z, p) => {
-            if has(s, p, c) {
-                return Scan::Value(z, p + 1);
-            }
-            Scan::Bad(p)
-        }
+    let x = ident(s, at)?;
+    if !has(s, x.next, c) {
+        return Err(x.next);
     }
+    Ok(Scan {
+        value: x.value,
+        next: x.next + 1,
+    })
 }

@@ -9,4 +9,5 @@ pub mod line;
 pub mod weighed;
 pub mod weight;
 
-pub use line::Cursor;
+pub use count::Scan;
+pub use line::{Cursor, Fault};

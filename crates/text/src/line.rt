@@ -1,13 +1,14 @@
 // The lines of vertex, edge and claim files, read over a cursor.
-ghost use Rattle.std.specs.Prelude.{◌≡◌, ◌≤◌, length};
-ghost use Rattle.text.specs.Word.{outside, value};
-ghost use Rattle.text.specs.Line.{vertex_line, edge_line, claim_line, coefficient_line, vertex_says, edge_says, coefficient_says};
+ghost use Rattle.std.specs.Prelude.{◌≡◌, ◌≤◌, length, Some};
+ghost use Rattle.text.specs.Line.{vertex_line, edge_line, claim_line, coefficient_line};
+ghost use Rattle.text.specs.Line.{reader_says, vertex_says, edge_says, coefficient_says};
 ghost use Rattle.text.specs.Weighed.{has_weights};
-ghost use Rattle.text.specs.Scan.{scan_says, rest_at, rest_says, beside, column_at, Behind, line_of};
+ghost use Rattle.text.specs.Bytes.{lf};
+ghost use Rattle.text.specs.Scan.{scan_says, read_says, field_at, rest_at, two_at, column_at, Behind, line_of};
 
-use crate::count::{LF, SPACE, has, line_end};
-use crate::decimal::{Decimal, DecimalWord, decimal_of};
-use crate::ident::{Scan, field};
+use crate::count::{LF, SPACE, Scan, has, line_end};
+use crate::decimal::{Decimal, decimal_of};
+use crate::ident::field;
 use basis::refusal::{BAD_FORM, OUT_OF_RANGE};
 
 // A reader's place in a file.
@@ -16,175 +17,124 @@ pub struct Cursor {
     pub at: usize,
 }
 
-// A vertex line with the cursor past it; no line left, or a fault, its number and its column, with the cursor as it went in.
-#[derive(Drop)]
-pub enum VertexLine {
-    End(Cursor),
-    Fault(usize, usize, Cursor),
-    Line(i64, Cursor),
+// Why a line is refused: by its number, with the column, from 1, at which its form breaks off, or 0.
+#[derive(Clone, Copy)]
+pub struct Fault {
+    pub number: usize,
+    pub column: usize,
 }
 
-// The same of an edge line, and of a claim line whose value is in identifier form.
-#[derive(Drop)]
-pub enum EdgeLine {
-    End(Cursor),
-    Fault(usize, usize, Cursor),
-    Line(i64, i64, Cursor),
-}
-
-// The same of a claim line whose value is a decimal.
-#[derive(Drop)]
-pub enum CoefficientLine {
-    End(Cursor),
-    Fault(usize, usize, Cursor),
-    Line(i64, Decimal, Cursor),
-}
-
-// The same of an edge line with its weight, or 0.
-#[derive(Drop)]
-pub enum WeighedLine {
-    End(Cursor),
-    Fault(usize, usize, Cursor),
-    Line(i64, i64, usize, Cursor),
-}
-
-// The decimal that ends its line, and the place past that line; or the place of the byte at which it breaks off.
-#[derive(Drop)]
-pub(crate) enum Rest {
-    Bad(usize),
-    Value(Decimal, usize),
-}
-
-// The decimal from a place to the end of its line.
-pub(crate) fn decimal_rest(s: &[u8], at: usize) -> Rest
+// The decimal from a place to the end of its line, with the place past that line; or the place of the byte at which it breaks off.
+pub(crate) fn decimal_rest(s: &[u8], at: usize) -> Result<Scan<Decimal>, usize>
     requires { at ≤ length s.now }
-    ensures { rest_says result ≡ rest_at s.now at }
+    ensures { read_says result ≡ rest_at s.now at }
 {
     let end = line_end(s, at);
-    let x = decimal_of(&s[at..end]);
-    match x {
-        DecimalWord::Bad(p) => Rest::Bad(at + p),
-        DecimalWord::Value(d) => {
+    match decimal_of(&s[at..end]) {
+        Err(p) => Err(at + p),
+        Ok(value) => {
             if has(s, end, LF) {
-                return Rest::Value(d, end + 1);
+                return Ok(Scan {
+                    value,
+                    next: end + 1,
+                });
             }
-            Rest::Bad(end)
+            Err(end)
         }
     }
 }
 
 // The column of the byte at p in a line that began at `at`, counted from 1.
-pub(crate) fn column(at: usize, p: usize) -> usize
+fn column(at: usize, p: usize) -> usize
     requires { Behind at p }
     ensures { result ≡ column_at at p }
 {
     p - at + 1
 }
 
-// An edge line that began at the cursor, of its first number and its second field.
-fn edge_of(c: Cursor, u: i64, second: Scan) -> EdgeLine
-    requires { Behind c.at (scan_says second).next }
-    ensures { edge_says result ≡ line_of c.at (beside (value u) (scan_says second)) }
+// The two identifiers of an edge line at a place, with a space between and LF behind.
+fn edge_at(s: &[u8], at: usize) -> Result<Scan<Option<(i64, i64)>>, usize>
+    ensures { scan_says result ≡ two_at (λ s p. field_at s p lf) s.now at }
 {
-    let at = c.at;
-    match second {
-        Scan::Bad(p) => EdgeLine::Fault(BAD_FORM, column(at, p), c),
-        Scan::Outside(_) => EdgeLine::Fault(OUT_OF_RANGE, 0, c),
-        Scan::Value(v, next) => EdgeLine::Line(u, v, Cursor { at: next }),
-    }
+    let x = field(s, at, SPACE)?;
+    let y = field(s, x.next, LF)?;
+    Ok(Scan {
+        value: x.value.zip(y.value),
+        next: y.next,
+    })
 }
 
-// The same where the first number is out of range: a fault of form in the second field comes before it.
-fn edge_outside(c: Cursor, second: Scan) -> EdgeLine
-    requires { Behind c.at (scan_says second).next }
-    ensures { edge_says result ≡ line_of c.at (beside outside (scan_says second)) }
+// The identifier and the decimal of a coefficient line at a place.
+fn coefficient_at(s: &[u8], at: usize) -> Result<Scan<Option<(i64, Decimal)>>, usize>
+    ensures { scan_says result ≡ two_at rest_at s.now at }
 {
-    let at = c.at;
-    match second {
-        Scan::Bad(q) => EdgeLine::Fault(BAD_FORM, column(at, q), c),
-        Scan::Outside(_) => EdgeLine::Fault(OUT_OF_RANGE, 0, c),
-        Scan::Value(_, _) => EdgeLine::Fault(OUT_OF_RANGE, 0, c),
-    }
-}
-
-// A coefficient line that began at the cursor, of its first number and the rest of it.
-fn coefficient_of(c: Cursor, u: i64, second: Rest) -> CoefficientLine
-    requires { Behind c.at (rest_says second).next }
-    ensures { coefficient_says result ≡ line_of c.at (beside (value u) (rest_says second)) }
-{
-    let at = c.at;
-    match second {
-        Rest::Bad(p) => CoefficientLine::Fault(BAD_FORM, column(at, p), c),
-        Rest::Value(d, next) => CoefficientLine::Line(u, d, Cursor { at: next }),
-    }
-}
-
-// The same where the first number is out of range.
-fn coefficient_outside(c: Cursor, second: Rest) -> CoefficientLine
-    requires { Behind c.at (rest_says second).next }
-    ensures { coefficient_says result ≡ line_of c.at (beside outside (rest_says second)) }
-{
-    let at = c.at;
-    match second {
-        Rest::Bad(p) => CoefficientLine::Fault(BAD_FORM, column(at, p), c),
-        Rest::Value(_, _) => CoefficientLine::Fault(OUT_OF_RANGE, 0, c),
-    }
+    let x = field(s, at, SPACE)?;
+    let y = decimal_rest(s, x.next)?;
+    Ok(Scan {
+        value: x.value.zip(Some(y.value)),
+        next: y.next,
+    })
 }
 
 impl Cursor {
-    // The vertex line at this place.
-    pub fn vertex(self, s: &[u8]) -> VertexLine
-        ensures { vertex_says result ≡ vertex_line s.now self.at }
+    // The line at this place, of what was scanned of it. A good line moves the place past it.
+    pub(crate) fn line<T>(&mut self, scan: Result<Scan<Option<T>>, usize>) -> Result<T, Fault>
+        requires { Behind self.now.at (scan_says scan).next }
+        ensures { reader_says self.new (Some result) ≡ line_of self.old.at (scan_says scan) }
     {
-        let at = self.at;
-        if s.len() <= at {
-            return VertexLine::End(self);
+        match scan {
+            Err(p) => Err(Fault {
+                number: BAD_FORM,
+                column: column(self.at, p),
+            }),
+            Ok(Scan { value, next }) => match value {
+                None => Err(Fault {
+                    number: OUT_OF_RANGE,
+                    column: 0,
+                }),
+                Some(v) => {
+                    self.at = next;
+                    Ok(v)
+                }
+            },
         }
-        let x = field(s, at, LF);
-        match x {
-            Scan::Bad(p) => VertexLine::Fault(BAD_FORM, column(at, p), self),
-            Scan::Outside(_) => VertexLine::Fault(OUT_OF_RANGE, 0, self),
-            Scan::Value(z, next) => VertexLine::Line(z, Cursor { at: next }),
+    }
+
+    // The vertex line at this place.
+    pub fn vertex(&mut self, s: &[u8]) -> Option<Result<i64, Fault>>
+        ensures { vertex_says self.new result ≡ vertex_line s.now self.old.at }
+    {
+        if s.len() <= self.at {
+            return None;
         }
+        Some(self.line(field(s, self.at, LF)))
     }
 
     // The edge line at this place.
-    pub fn edge(self, s: &[u8]) -> EdgeLine
-        ensures { edge_says result ≡ edge_line s.now self.at }
+    pub fn edge(&mut self, s: &[u8]) -> Option<Result<(i64, i64), Fault>>
+        ensures { edge_says self.new result ≡ edge_line s.now self.old.at }
     {
-        let at = self.at;
-        if s.len() <= at {
-            return EdgeLine::End(self);
+        if s.len() <= self.at {
+            return None;
         }
-        let x = field(s, at, SPACE);
-        match x {
-            Scan::Bad(p) => EdgeLine::Fault(BAD_FORM, column(at, p), self),
-            Scan::Outside(p) => edge_outside(self, field(s, p, LF)),
-            Scan::Value(u, p) => edge_of(self, u, field(s, p, LF)),
-        }
+        Some(self.line(edge_at(s, self.at)))
     }
 
     // The claim line at this place, for BFS, WCC and CDLP: it has an edge line's form.
-    pub fn claim(self, s: &[u8]) -> EdgeLine
-        ensures { edge_says result ≡ claim_line s.now self.at }
+    pub fn claim(&mut self, s: &[u8]) -> Option<Result<(i64, i64), Fault>>
+        ensures { edge_says self.new result ≡ claim_line s.now self.old.at }
     {
         self.edge(s)
     }
 
     // The claim line at this place, for LCC.
-    pub fn coefficient_claim(self, s: &[u8]) -> CoefficientLine
-        ensures { coefficient_says result ≡ coefficient_line s.now self.at }
+    pub fn coefficient_claim(&mut self, s: &[u8]) -> Option<Result<(i64, Decimal), Fault>>
+        ensures { coefficient_says self.new result ≡ coefficient_line s.now self.old.at }
     {
-        let at = self.at;
-        if s.len() <= at {
-            return CoefficientLine::End(self);
+        if s.len() <= self.at {
+            return None;
         }
-        let x = field(s, at, SPACE);
-        match x {
-            Scan::Bad(p) => CoefficientLine::Fault(BAD_FORM, column(at, p), self),
-            Scan::Outside(p) => coefficient_outside(self, decimal_rest(s, p)),
-            Scan::Value(u, p) => coefficient_of(self, u, decimal_rest(s, p)),
-        }
+        Some(self.line(coefficient_at(s, self.at)))
     }
 }
 
@@ -192,10 +142,9 @@ impl Cursor {
 pub fn has_weights(s: &[u8]) -> bool
     ensures { result ≡ has_weights s.now }
 {
-    let x = Cursor { at: 0 }.edge(s);
-    match x {
-        EdgeLine::End(_) => false,
-        EdgeLine::Fault(n, _, _) => n == BAD_FORM,
-        EdgeLine::Line(_, _, _) => false,
+    match (Cursor { at: 0 }).edge(s) {
+        Some(Err(fault)) => fault.number == BAD_FORM,
+        Some(Ok(_)) => false,
+        None => false,
     }
 }

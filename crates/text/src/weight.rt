@@ -3,9 +3,9 @@ ghost use Rattle.std.specs.Prelude.{◌≡◌, ◌+◌, ◌-◌, ◌^◌, ◌≤
 ghost use Rattle.basis.specs.Limits.{most_weight};
 ghost use Rattle.text.specs.Weight.{most_places, with_fraction, weight_of, weight_stop};
 ghost use Rattle.text.specs.Weighed.{weight_form};
-ghost use Rattle.text.specs.Scan.{scanned, count_says, behind_at, last_at};
+ghost use Rattle.text.specs.Scan.{scanned, read_says, behind_at, last_at};
 
-use crate::count::{Counted, LF, count, digits, has, line_end};
+use crate::count::{LF, Scan, count, digits, has, line_end};
 use crate::decimal::POINT;
 
 // How many digits may stand after the point.
@@ -55,59 +55,64 @@ fn millionths(n: u64, f: u64, places: usize) -> u64
 }
 
 // What stands from p on behind n wholes, up to the end: nothing, or a point and one to six digits.
-fn behind(s: &[u8], n: u64, p: usize) -> Counted
+fn behind(s: &[u8], n: u64, p: usize) -> Result<Scan<u64>, usize>
     requires { p ≤ length s.now }
-    ensures { count_says result ≡ behind_at s.now n p }
+    ensures { read_says result ≡ behind_at s.now n p }
 {
     if p == s.len() {
-        return Counted::Value(millionths(n, 0, 0), p);
+        return Ok(Scan {
+            value: millionths(n, 0, 0),
+            next: p,
+        });
     }
     if s[p] != POINT {
-        return Counted::Bad(p);
+        return Err(p);
     }
     let run = digits(s, p + 1, 0);
     let end = run.next;
     let places = end - (p + 1);
     // no digit after the point
     if places == 0 {
-        return Counted::Bad(end);
+        return Err(end);
     }
     // one digit too many
     if PLACES < places {
-        return Counted::Bad(p + 1 + PLACES);
+        return Err(p + 1 + PLACES);
     }
     if end < s.len() {
-        return Counted::Bad(end);
+        return Err(end);
     }
-    Counted::Value(millionths(n, run.n, places), end)
+    Ok(Scan {
+        value: millionths(n, run.value, places),
+        next: end,
+    })
 }
 
 // What the bytes of a whole weight say with their end, or where they break off.
-fn weight_of(s: &[u8]) -> Counted
-    ensures { count_says result ≡ scanned (weight_of s.now) (weight_stop s.now) }
+fn weight_of(s: &[u8]) -> Result<Scan<u64>, usize>
+    ensures { read_says result ≡ scanned (weight_of s.now) (weight_stop s.now) }
 {
-    let x = count(s, 0);
-    match x {
-        Counted::Bad(p) => Counted::Bad(p),
-        Counted::Value(n, p) => behind(s, n, p),
-    }
+    let x = count(s, 0)?;
+    behind(s, x.value, x.next)
 }
 
 // The weight from a place to the end of its line, with the place past that line; or the place of the byte at which it breaks off.
-pub(crate) fn weight_rest(s: &[u8], at: usize) -> Counted
+pub(crate) fn weight_rest(s: &[u8], at: usize) -> Result<Scan<u64>, usize>
     requires { at ≤ length s.now }
-    ensures { count_says result ≡ last_at weight_form s.now at }
+    ensures { read_says result ≡ last_at weight_form s.now at }
 {
     let end = line_end(s, at);
-    let x = weight_of(&s[at..end]);
-    match x {
-        Counted::Bad(p) => Counted::Bad(at + p),
-        Counted::Value(n, p) => {
-            let q = at + p;
+    match weight_of(&s[at..end]) {
+        Err(p) => Err(at + p),
+        Ok(x) => {
+            let q = at + x.next;
             if has(s, q, LF) {
-                return Counted::Value(n, q + 1);
+                return Ok(Scan {
+                    value: x.value,
+                    next: q + 1,
+                });
             }
-            Counted::Bad(q)
+            Err(q)
         }
     }
 }

@@ -1,27 +1,20 @@
+use Rattle.std.proofs.lemmas.Result.{err_from_is_err_and}
 use native.Mathlib.Omega.{arith}
-use mathlib.Core.Path.{sym, ◌∙◌}
+use Rattle.basis.proofs.Tests.{held}
 use Rattle.text.proofs.Bytes.{has-below}
-use Rattle.text.proofs.Scans.{field-bad, field-outside, field-outside-open, field-value, field-value-open}
-use borrow.Author.Rules.{rules}
+use Rattle.text.proofs.Scans.{field-bad, field-good, field-open}
 use Rattle.text.proofs.ident.field.Goals as goal
 
+pub returns-in_err-x : goal.returns-in_err-x
+returns-in_err-x c =
+    let p = err_from_is_err_and c.from_residual.result c.from_residual.ensures.1 in
+    rw (p.1, p.2) (field-bad _ _ _ _ c.in_err-x.ensures)
+
+pub returns-then-not-has : goal.returns-then-not-has
+returns-then-not-has c = field-open _ _ _ _ c.in_ok-x.ensures _ c.has.ensures c.if-not-has.true
+
 pub overflow_add-result : goal.overflow_add-result
-overflow_add-result c = omega (arith, has-below _ _ _ (sym c.has.ensures ∙ c.if-has.true))
+overflow_add-result c = omega (arith, has-below _ _ _ (held _ _ c.has.ensures c.if-not-has.false))
 
-pub returns-then-has : goal.returns-then-has
-returns-then-has c = search field-outside
-
-pub overflow_add-result-then-has-2 : goal.overflow_add-result-then-has-2
-overflow_add-result-then-has-2 c = omega (arith, has-below _ _ _ (sym c.has-in-Value.ensures ∙ c.if-has-2.true))
-
-pub returns-then-has-2 : goal.returns-then-has-2
-returns-then-has-2 c = search (field-value, rules)
-
-pub returns-in-Bad : goal.returns-in-Bad
-returns-in-Bad c = search field-bad
-
-pub returns-else-has : goal.returns-else-has
-returns-else-has c = search field-outside-open
-
-pub returns-else-has-2 : goal.returns-else-has-2
-returns-else-has-2 c = search field-value-open
+pub returns : goal.returns
+returns c = field-good _ _ _ _ c.in_ok-x.ensures _ c.has.ensures c.if-not-has.false

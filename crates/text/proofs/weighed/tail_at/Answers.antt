@@ -1,25 +1,20 @@
-use Rattle.text.proofs.Places.{outside-inside, value-inside}
-use Rattle.text.proofs.Tails.{tail-bad, outside-bad, outside-some, value-bad, value-some}
-use borrow.Author.Rules.{rules}
+use Rattle.std.proofs.lemmas.Result.{err_from_is_err_and}
+use Rattle.text.proofs.Lines.{two-none, two-bad, two-good}
+use Rattle.text.proofs.Places.{field-inside}
 use Rattle.text.proofs.weighed.tail_at.Goals as goal
 
-pub weight_rest-y-requires : goal.weight_rest-y-requires
-weight_rest-y-requires c = search outside-inside
+pub returns-in_err-x : goal.returns-in_err-x
+returns-in_err-x c =
+    let p = err_from_is_err_and c.from_residual.result c.from_residual.ensures.1 in
+    rw (p.1, p.2) (two-none _ _ _ _ c.in_err-x.ensures)
 
-pub weight_rest-y-requires-in-Value : goal.weight_rest-y-requires-in-Value
-weight_rest-y-requires-in-Value c = search (value-inside, rules)
+pub weight_rest-requires : goal.weight_rest-requires
+weight_rest-requires c = field-inside _ _ _ _ c.in_ok-x.ensures
 
-pub returns-in-Bad : goal.returns-in-Bad
-returns-in-Bad c = search tail-bad
+pub returns-in_err-y : goal.returns-in_err-y
+returns-in_err-y c =
+    let p = err_from_is_err_and c.from_residual-in_err-y.result c.from_residual-in_err-y.ensures.1 in
+    rw (p.1, p.2) (two-bad _ _ _ _ c.in_ok-x.ensures _ c.in_err-y.ensures)
 
-pub returns-in-Bad-y : goal.returns-in-Bad-y
-returns-in-Bad-y c = search outside-bad
-
-pub returns-in-Value-y : goal.returns-in-Value-y
-returns-in-Value-y c = search outside-some
-
-pub returns-in-Bad-y-2 : goal.returns-in-Bad-y-2
-returns-in-Bad-y-2 c = search value-bad
-
-pub returns-in-Value-y-2 : goal.returns-in-Value-y-2
-returns-in-Value-y-2 c = search (value-some, rules)
+pub returns : goal.returns
+returns c = rw c.zip.ensures (two-good _ _ _ _ c.in_ok-x.ensures _ c.in_ok-y.ensures)

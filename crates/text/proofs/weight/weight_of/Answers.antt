@@ -1,11 +1,14 @@
+use Rattle.std.proofs.lemmas.Result.{err_from_is_err_and}
 use Rattle.text.proofs.Weighing.{whole-inside, weight-none, weight-some}
 use Rattle.text.proofs.weight.weight_of.Goals as goal
 
+pub returns-in_err-x : goal.returns-in_err-x
+returns-in_err-x c =
+    let p = err_from_is_err_and c.from_residual.result c.from_residual.ensures.1 in
+    rw (p.1, p.2) (weight-none _ _ c.in_err-x.ensures)
+
 pub behind-requires : goal.behind-requires
-behind-requires c = search whole-inside
+behind-requires c = whole-inside _ _ c.in_ok-x.ensures
 
-pub returns-in-Bad : goal.returns-in-Bad
-returns-in-Bad c = search weight-none
-
-pub returns-in-Value : goal.returns-in-Value
-returns-in-Value c = search weight-some
+pub returns : goal.returns
+returns c = weight-some _ _ c.in_ok-x.ensures _ c.behind.ensures

@@ -2,7 +2,7 @@ use native.Mathlib.Omega.{arith}
 use Rattle.text.proofs.DistanceTails.{infinity-in, infinity-cut, infinity-open, infinity-whole}
 use Rattle.basis.proofs.Tests.{held}
 use Rattle.text.proofs.Bytes.{has-below}
-use Rattle.text.proofs.distance.infinity_tail.Goals as goal
+use Rattle.text.proofs.distance.infinity_rest.Goals as goal
 
 pub overflow_add-end : goal.overflow_add-end
 overflow_add-end c =
