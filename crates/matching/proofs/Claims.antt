@@ -1,5 +1,6 @@
 -- What is said of a claim, on its bytes: each answer exactly where the bytes are of its kind, by any of 000's three methods.
 -- Assumes nothing.
+use Rattle.std.specs.Prelude.{Option}
 use mathlib.Core.Path.{◌≡◌, refl, sym, ap, ◌∙◌, subst}
 use mathlib.Core.Bool.{true}
 use mathlib.Core.Logic.{◌↔◌, ◌⊎◌, inl, inr}
@@ -18,7 +19,6 @@ use Rattle.text.specs.File.{no_test, GoodFile, FirstFault}
 use Rattle.text.specs.declared.decimal.Decimal.{Decimal}
 use Rattle.text.proofs.Breaks.{RightStop, ident-right, decimal-right, pair-right}
 use Rattle.text.proofs.Files.{file-accepted, file-refused}
-use Rattle.graph.specs.declared.find.Found.{Found}
 use Rattle.graph.specs.Find.{place_in}
 use Rattle.matching.specs.Claim.{claim_lines, number_lines, coefficient_lines, ids_of}
 use Rattle.matching.specs.Cover.{in_order}
@@ -58,7 +58,7 @@ module _ (most : ℕ) (s : List ℕ) where
   coefficients-refused r = claim-refused decimal_form decimal-right most s r
 
 -- ---- a verdict is given on lines that were read, and a refusal is theirs
-module _ {A : Type 0} (place : ℤ → Found) (n : ℕ) (z : A) (mismatch : List A → ℕ) where
+module _ {A : Type 0} (place : ℤ → Option ℕ) (n : ℕ) (z : A) (mismatch : List A → ℕ) where
   on-lines : (x : Said (List (ℤ × A))) (v : Verdict) → judged_by place n z mismatch x ≡ gives v
       → (l : List (ℤ × A)) × (x ≡ gives l) × (judged_by place n z mismatch (gives l) ≡ gives v)
   unfolding judged_by

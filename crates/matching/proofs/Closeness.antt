@@ -68,10 +68,9 @@ dropped-next {n} {d} {rest} {part} {exact} {j} h {e} q =
         and-off exact false refl ∙ sym (ne_eqb (v * 10 ^ j + h.dropped) 0 (λ y. omega arith))
 
 -- all of k digits
-pub dropped-all : {n d rest part : ℕ} {exact : Bool} {j k : ℕ} → (j ≤ k) × Dropped n d rest part exact j → k ≤ j
+pub dropped-all : {n d rest part : ℕ} {exact : Bool} {j k : ℕ} → Dropped n d rest part exact j → j ≤ k → k ≤ j
     → Dropped n d rest part exact k
-dropped-all {n} {d} {rest} {part} {exact} {j} {k} h l =
-    let e : j ≡ k = omega (arith, h.0) in subst (Dropped n d rest part exact) e h.1
+dropped-all {n} {d} {rest} {part} {exact} {j} {k} h l m = let e : j ≡ k = omega arith in subst (Dropped n d rest part exact) e h
 
 -- what is left of it goes by the bounds of what the whole product was
 pub left-within : (n rest high : ℕ) → 0 < n → rest ≤ high / n → rest * n ≤ high
@@ -121,13 +120,6 @@ module _ {n d rest part : ℕ} {exact : Bool} {k : ℕ} (h : Dropped n d rest pa
         ∙ bool_cases (eqb h.dropped 0) (eqb h.dropped 0 ≡ leb (d * n) (high * 10 ^ k))
         (λ t. t ∙ sym (le-leb (d * n) (high * 10 ^ k) (rw e (omega (arith, h.whole, eqb-true h.dropped 0 t)))))
         (λ t. t ∙ sym (lt-leb (d * n) (high * 10 ^ k) (rw e (omega (arith, h.whole, eqb-false h.dropped 0 t))))))
-
--- ---- one digit dropped
-pub still-not : (exact : Bool) (v : ℕ) → (v ≡ 0 → ⊥) → false ≡ (exact && eqb v 0)
-still-not exact v h = sym (and-off exact _ (ne_eqb v 0 h))
-
-pub still-yes : (exact : Bool) (v : ℕ) → v ≡ 0 → exact ≡ (exact && eqb v 0)
-still-yes exact v h = rw h (and-swap true exact)
 
 -- ---- the distance as a window
 same_test : {a b c d : ℕ} → (a ≤ b → c ≤ d) → (c ≤ d → a ≤ b) → leb a b ≡ leb c d
@@ -238,10 +230,3 @@ module _ (a b : ℕ) (s : Decimal) where
     close-higher f d h m q e =
         e ∙ ap (λ (x : ℕ). leb (a * 9999 * 10 ^ 0) (x * (b * 10000)) && leb (x * (b * 10000)) (a * 10001 * 10 ^ 0)) q
         ∙ sym (close_up a b s.digits s.up s.down (10 ^ 18) (omega arith) (pos_of_ne-zero d) (omega arith))
-
--- ---- the cap, a power at a time
-pub cap-next : (x m : ℕ) → m ≡ min x (10 ^ 18) → min (m * 10) (10 ^ 18) ≡ min (x * 10) (10 ^ 18)
-cap-next x m e = omega arith
-
-pub ten-more : (d j : ℕ) → d * 10 ^ j * 10 ≡ d * 10 ^ (j + 1)
-ten-more d j = rw (add-one, pow-succ' 10 j) (omega arith)

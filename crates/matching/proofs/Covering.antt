@@ -1,4 +1,5 @@
 -- Laws of claim lines: one line more, and the record that maps each vertex to its own. Assumes nothing.
+use Rattle.std.specs.Prelude.{Option, Some, None}
 use mathlib.Core.Path.{◌≡◌, refl, sym, ap, ap₂, ◌∙◌}
 use mathlib.Core.Bool.{Bool, true, false, not, cond}
 use mathlib.Core.List.{List, [], ◌∷◌, ◌++◌}
@@ -15,8 +16,6 @@ use Rattle.basis.specs.Area.{cleared}
 use Rattle.basis.specs.Scan.{or_else}
 use Rattle.basis.proofs.Scans.{or_kept, or-zero, every-same}
 use Rattle.basis.proofs.Areas.{replicate-at}
-use Rattle.graph.specs.declared.find.Found.{Found}
-use Rattle.graph.specs.declared.find.Found.TheVariants.{At, Missing}
 use Rattle.matching.specs.Claim.{ids_of, claimed_of}
 use Rattle.matching.specs.Cover.{
   failing_place,
@@ -31,10 +30,10 @@ use Rattle.matching.specs.Cover.{
 }
 use Rattle.matching.specs.Cover.{value_of, reported_line}
 use Rattle.matching.specs.Steps.{new_in, set_at, FoundBelow, stray_step, is_recorded, end_line, reported_in, Maps}
-use Rattle.matching.proofs.FirstPlaces.{failing-more, failing-same}
+use Rattle.matching.proofs.FirstPlaces.{failing-more, failing-same, failing-bound}
 use Rattle.matching.proofs.Readings.{values-more, ids-length, claimed-length}
 
-module _ (place : ℤ → Found) where
+module _ (place : ℤ → Option ℕ) where
   -- ---- one line more
   from_more : (k : ℕ) (named : List ℤ) (id : ℤ) (v : ℕ)
       → its_line_from place (suc k) (named ++ (id ∷ [])) v
@@ -115,9 +114,9 @@ module _ (place : ℤ → Found) where
     pub all : (u : ℕ) → u < n → its_line place (named ++ (id ∷ [])) u ≡ its_line place named u
     pub stray : is_new place named (place id) ≡ false
 
-  abbrev pub Grown : ℕ → List ℤ → ℤ → Found → Type 0
-  Grown n named id (At v) = NewLine n named id v
-  Grown n named id Missing = NoLine n named id
+  abbrev pub Grown : ℕ → List ℤ → ℤ → Option ℕ → Type 0
+  Grown n named id (Some v) = NewLine n named id v
+  Grown n named id None = NoLine n named id
 
   -- ---- the record after k lines
   pub record Recorded (n width : ℕ) (named : List ℤ) (lines : List ℕ) (k stray : ℕ) : Type 0 where
@@ -133,7 +132,7 @@ module _ (place : ℤ → Found) where
 
   module _ {n width : ℕ} {named : List ℤ} {lines : List ℕ} {k stray : ℕ} (h : Recorded n width named lines k stray) where
     module _ (id : ℤ) where
-      grown-at : (v : ℕ) → place id ≡ At v → v < n → (t : Bool) → eqb (get_or lines v 0) 0 ≡ t → Grown n named id (cond t (At v) Missing)
+      grown-at : (v : ℕ) → place id ≡ Some v → v < n → (t : Bool) → eqb (get_or lines v 0) 0 ≡ t → Grown n named id (cond t (Some v) None)
       grown-at v e l true t =
           let b : its_line place named v ≡ 0 = sym (h.maps v l) ∙ eqb-true (get_or lines v 0) 0 t in
           record {
@@ -156,9 +155,9 @@ module _ (place : ℤ → Found) where
             stray = rw e (ne_eqb (its_line place named v) 0 b);
           }
 
-      grown-by : (f : Found) → place id ≡ f → FoundBelow f n → Grown n named id (new_in lines f)
-      grown-by (At v) e l = grown-at v e l (eqb (get_or lines v 0) 0) refl
-      grown-by Missing e l =
+      grown-by : (f : Option ℕ) → place id ≡ f → FoundBelow f n → Grown n named id (new_in lines f)
+      grown-by (Some v) e l = grown-at v e l (eqb (get_or lines v 0) 0) refl
+      grown-by None e l =
           record { all = λ u m. line-more named id u ∙ rw e (or-zero (its_line place named u)); stray = rw e }
 
       pub grown : FoundBelow (place id) n → Grown n named id (new_in lines (place id))
@@ -166,9 +165,9 @@ module _ (place : ℤ → Found) where
 
     -- one line more
     module _ (id : ℤ) (room : n ≤ width) where
-      next-by : (r : Found) → Grown n named id r
+      next-by : (r : Option ℕ) → Grown n named id r
           → Recorded n width (named ++ (id ∷ [])) (set_at lines r (k + 1)) (k + 1) (stray_step r k stray)
-      next-by (At v) g =
+      next-by (Some v) g =
           record {
             count = length-append named (id ∷ []) ∙ omega (arith, h.count);
             wide = length-set lines v (k + 1) ∙ h.wide;
@@ -181,7 +180,7 @@ module _ (place : ℤ → Found) where
                 ];
             strays = h.strays ∙ sym (stray-more named id ∙ rw g.fresh (or-zero (stray_line place named)));
           }
-      next-by Missing g =
+      next-by None g =
           record {
             count = length-append named (id ∷ []) ∙ omega (arith, h.count);
             wide = h.wide;
@@ -189,10 +188,15 @@ module _ (place : ℤ → Found) where
             strays = ap₂ (λ (a b : ℕ). or_else a (b + 1)) h.strays (sym h.count) ∙ sym (stray-more named id ∙ rw g.stray);
           }
 
-      pub recorded-next : FoundBelow (place id) n → {r : Found} → r ≡ new_in lines (place id) → {left : List ℕ}
+      pub recorded-next : FoundBelow (place id) n → {r : Option ℕ} → r ≡ new_in lines (place id) → {left : List ℕ}
           → left ≡ set_at lines r (k + 1)
           → {i : ℕ} → i ≡ stray_step r k stray → Recorded n width (named ++ (id ∷ [])) left (k + 1) i
       recorded-next l {r} p q t = rw (q, t, p) (next-by (new_in lines (place id)) (grown id l))
+
+    -- the first stray line is one of them
+    pub strays-bound : stray ≤ k
+    unfolding stray_line
+    strays-bound = let b = failing-bound (names_new place named) (length named) 0 in omega (arith, h.strays, h.count)
 
     -- the claim ends after k lines
     pub recorded-end : end_line lines n k stray ≡ incomplete_line place n named

@@ -1,5 +1,6 @@
 -- What completeness means, for identifiers that rise: the claim line of a vertex, the least place at which a claim lacks a vertex, and
 -- the values in vertex order. Assumes nothing.
+use Rattle.std.specs.Prelude.{Option, Some, None}
 use mathlib.Core.Path.{◌≡◌, refl, sym, ap, ◌∙◌, fun_ext}
 use mathlib.Core.Bool.{Bool, true, false, not, cond}
 use mathlib.Core.Logic.{◌↔◌, ◌⊎◌, inl, inr}
@@ -19,8 +20,6 @@ use Rattle.basis.specs.Scan.{every, or_else}
 use Rattle.basis.proofs.Areas.{column-at, column-is, column-length}
 use Rattle.basis.proofs.Scans.{every-at, every_some}
 use Rattle.basis.proofs.Tests.{bool_cases, clash, no-case}
-use Rattle.graph.specs.declared.find.Found.{Found}
-use Rattle.graph.specs.declared.find.Found.TheVariants.{At, Missing}
 use Rattle.graph.specs.Find.{place_in, bisected}
 use Rattle.graph.proofs.Finds.{place_at, find-rising}
 use Rattle.matching.specs.Claim.{ids_of, claimed_of}
@@ -56,14 +55,14 @@ module _ (ids : List ℤ) (r : rising_z ids ≡ true) where
         by false e h =
             finds-later k (λ g. clash g.1 e) (λ j g. (omega (arith, g.0), g.1)) (λ j g. (omega (arith, g.0), g.1)) h
 
-    vertex-of : (f : Found) → is_vertex f v ≡ true → f ≡ At v
-    vertex-of (At u) e = ap At (eqb-true u v e)
-    vertex-of Missing e = clash e refl
+    vertex-of : (f : Option ℕ) → is_vertex f v ≡ true → f ≡ Some v
+    vertex-of (Some u) e = ap Some (eqb-true u v e)
+    vertex-of None e = clash e refl
 
-  named-place : {named : List ℤ} {v i : ℕ} → LineOf ids named v i → place_in ids (get_or named i (pos 0)) ≡ At v
+  named-place : {named : List ℤ} {v i : ℕ} → LineOf ids named v i → place_in ids (get_or named i (pos 0)) ≡ Some v
   named-place {named} {v} {i} h = (place_at ids (get_or named i (pos 0)) r v).1 (h.vertex, sym h.names)
 
-  place-named : {named : List ℤ} {v i : ℕ} → i < length named → place_in ids (get_or named i (pos 0)) ≡ At v → LineOf ids named v i
+  place-named : {named : List ℤ} {v i : ℕ} → i < length named → place_in ids (get_or named i (pos 0)) ≡ Some v → LineOf ids named v i
   place-named {named} {v} {i} l e =
       let h = (place_at ids (get_or named i (pos 0)) r v).0 e in record { vertex = h.0; line = l; names = sym h.1 }
 
@@ -99,21 +98,21 @@ module _ (ids : List ℤ) (r : rising_z ids ≡ true) where
         l : i < length named
         l = omega (arith, h.1)
 
-        before : (v : ℕ) → place_in ids (get_or named i (pos 0)) ≡ At v
+        before : (v : ℕ) → place_in ids (get_or named i (pos 0)) ≡ Some v
             → Finds (LineOf ids (take i named) v) 0 (its_line (place_in ids) (take i named) v)
             → (its_line (place_in ids) (take i named) v ≡ 0 → ⊥)
             → Lacks ids named i
         before v e (inl g) n = absurd (n g.0)
         before v e (inr g) n = let f = in-front {i = i} (omega arith) g.2.here in again v g.0 f.0 f.1 (place-named l e)
 
-        by : (f : Found) → place_in ids (get_or named i (pos 0)) ≡ f → is_new (place_in ids) (take i named) f ≡ false → Lacks ids named i
-        by (At v) e n = before v e (line-finds (take i named) v) (eqb-false (its_line (place_in ids) (take i named) v) 0 n)
-        by Missing e n = unknown l (λ v g. no-case (let z : At v ≡ Missing = sym (named-place g) ∙ e in cc))
+        by : (f : Option ℕ) → place_in ids (get_or named i (pos 0)) ≡ f → is_new (place_in ids) (take i named) f ≡ false → Lacks ids named i
+        by (Some v) e n = before v e (line-finds (take i named) v) (eqb-false (its_line (place_in ids) (take i named) v) 0 n)
+        by None e n = unknown l (λ v g. no-case (let z : Some v ≡ None = sym (named-place g) ∙ e in cc))
 
-    new-not : (i : ℕ) → i < length named → (f : Found) → place_in ids (get_or named i (pos 0)) ≡ f → ((v : ℕ) → LineOf ids named v i → ⊥)
+    new-not : (i : ℕ) → i < length named → (f : Option ℕ) → place_in ids (get_or named i (pos 0)) ≡ f → ((v : ℕ) → LineOf ids named v i → ⊥)
         → is_new (place_in ids) (take i named) f ≡ false
-    new-not i l (At v) e n = absurd (n v (place-named l e))
-    new-not i l Missing e n = refl
+    new-not i l (Some v) e n = absurd (n v (place-named l e))
+    new-not i l None e n = refl
 
     -- a place at which a claim lacks a vertex is such a line, or the one after the last
     lacks-stray : (i : ℕ) → Lacks ids named i → Fails (names_new (place_in ids) named) (length named) 0 i ⊎ (i ≡ length named)
@@ -197,10 +196,10 @@ module _ (ids : List ℤ) (r : rising_z ids ≡ true) where
           all = λ v l. line v l (line-finds named v);
         }
       where
-        vertex : (i : ℕ) → i < length named → (f : Found) → place_in ids (get_or named i (pos 0)) ≡ f → (v : ℕ) × LineOf ids named v i
-        vertex i l (At v) e = (v, place-named l e)
-        vertex i l Missing e =
-            absurd (n i (unknown l (λ v g. no-case (let z : At v ≡ Missing = sym (named-place g) ∙ e in cc))))
+        vertex : (i : ℕ) → i < length named → (f : Option ℕ) → place_in ids (get_or named i (pos 0)) ≡ f → (v : ℕ) × LineOf ids named v i
+        vertex i l (Some v) e = (v, place-named l e)
+        vertex i l None e =
+            absurd (n i (unknown l (λ v g. no-case (let z : Some v ≡ None = sym (named-place g) ∙ e in cc))))
 
         one : (v i j : ℕ) → LineOf ids named v i → LineOf ids named v j → i ≡ j
         one v i j h g =

@@ -1,8 +1,9 @@
 -- What the loop over a claim's decimals keeps, and how it ends. Assumes nothing.
+use Rattle.std.specs.Prelude.{Option, Some, None, Result, Ok}
 use mathlib.Core.Path.{◌≡◌, refl, sym, ap, ap₂, ◌∙◌}
 use mathlib.Core.Bool.{Bool, true, false, cond, ◌||◌}
 use mathlib.Core.List.{List, [], ◌∷◌, ◌++◌}
-use Prim.Native.Nat.{ℕ, zero, suc, ◌+◌, ◌^◌, ◌≤◌, ◌<◌}
+use Prim.Native.Nat.{ℕ, zero, suc, ◌+◌, ◌-◌, ◌^◌, ◌≤◌, ◌<◌}
 use native.Mathlib.Decide.{ℕ_discrete}
 use native.Mathlib.Omega.{arith}
 use lib.Dec.{ltb, eqb}
@@ -23,37 +24,35 @@ use Rattle.text.specs.declared.line.CoefficientLine.{CoefficientLine}
 use Rattle.text.specs.declared.line.CoefficientLine.TheVariants as CL
 use Rattle.text.proofs.Places.{coefficient-range, line-moves}
 use Rattle.text.proofs.Files.{Passed, passed_none, passed-next, passed-end, passed-fault, passed-full, passed_over}
-use Rattle.graph.specs.declared.find.Found.{Found}
-use Rattle.graph.specs.declared.find.Found.TheVariants.{At, Missing}
 use Rattle.graph.specs.Find.{bisected}
-use Rattle.matching.specs.declared.judged.Judged.{Judged}
+use Rattle.matching.specs.declared.judged.Verdict as judged
 use Rattle.matching.specs.Close.{is_close}
 use Rattle.matching.specs.Claim.{coefficient_lines, ids_of}
 use Rattle.matching.specs.Cover.{failing_place, its_line_from, its_line, incomplete_line, value_of, in_order, reported_line}
 use Rattle.matching.specs.Verdict.{verdict_of, says, judged_by}
 use Rattle.matching.specs.Calls.{near_within, far_within, fraction_in, fractions, no_decimal, room_in_three, told}
 use Rattle.matching.specs.Calls.{coefficients_call}
-use Rattle.matching.specs.Steps.{new_in, set_at, stray_step, lesser_fault, far_step, end_line, reported_in, JudgedOf}
+use Rattle.matching.specs.Steps.{new_in, set_at, stray_step, lesser_fault, far_step, end_line, counted, reported_in, Reportable, JudgedOf}
 use Rattle.matching.proofs.FirstPlaces.{bits_back, failing-same, failing-bound, first-column}
 use Rattle.matching.proofs.Leasts.{failing-now}
-use Rattle.matching.proofs.Covering.{Grown, Recorded, recorded-none, grown, recorded-next, recorded-end, value-old, value-new}
+use Rattle.matching.proofs.Covering.{Grown, Recorded, recorded-none, grown, recorded-next, recorded-end, strays-bound, value-old, value-new}
 use Rattle.matching.proofs.Covering.{maps-reported}
 use Rattle.matching.proofs.Readings.{ids_more, ids-length}
-use Rattle.matching.proofs.NumberLines.{found_within, end-zero}
+use Rattle.matching.proofs.NumberLines.{found_within, end-zero, end-bound}
 
 -- ---- one fraction and one decimal
 module _ (a b : ℕ) (s : Decimal) where
-  pub near-above : 4294967295 < a → false ≡ near_within (a, b) s
+  pub near-above : (a < 2 ^ 32 → ⊥) → false ≡ near_within (a, b) s
   unfolding near_within
-  near-above h = rw (le-ltb a (2 ^ 32) (omega arith))
+  near-above h = rw (le-ltb a (2 ^ 32) (omega (arith, h)))
 
-  pub near-below : 4294967295 < b → false ≡ near_within (a, b) s
+  pub near-below : (b < 2 ^ 32 → ⊥) → false ≡ near_within (a, b) s
   unfolding near_within
-  near-below h = rw (le-ltb b (2 ^ 32) (omega arith)) (sym (and-off (ltb a (2 ^ 32)) false refl))
+  near-below h = rw (le-ltb b (2 ^ 32) (omega (arith, h))) (sym (and-off (ltb a (2 ^ 32)) false refl))
 
-  pub near_within_lem : a ≤ 4294967295 → b ≤ 4294967295 → (r : Bool) → r ≡ is_close a b s → r ≡ near_within (a, b) s
+  pub near_within_lem : a < 2 ^ 32 → b < 2 ^ 32 → (r : Bool) → r ≡ is_close a b s → r ≡ near_within (a, b) s
   unfolding near_within
-  near_within_lem h g r e = rw (lt-ltb a (2 ^ 32) (omega arith), lt-ltb b (2 ^ 32) (omega arith)) e
+  near_within_lem h g r e = rw (lt-ltb a (2 ^ 32) h, lt-ltb b (2 ^ 32) g) e
 
 -- ---- the lines: k of them are done, up to a place
 -- a vertex has no claim line yet, or its decimal is near
@@ -85,17 +84,28 @@ module _ (most : ℕ) (ids : List ℤ) (nums dens s : List ℕ) where
       }
 
   module _ {width : ℕ} {lines : List ℕ} {place k stray far : ℕ} (h : Decimals most ids nums dens s width lines place k stray far) where
-    pub decimals-far : length ids ≤ width → far ≤ length lines
-    decimals-far room =
-        let b = failing-bound (near_yet ids nums dens h.done) (length ids) 0 in omega (arith, h.fars, h.recorded.wide)
+    far-bound : far ≤ length ids
+    far-bound = let b = failing-bound (near_yet ids nums dens h.done) (length ids) 0 in omega (arith, h.fars)
+
+    -- what is found at the end has its line
+    pub decimals-reportable : length ids ≤ width → k < 2 ^ 64 - 1 → (m : ℕ) → m ≡ k
+        → (i f : Option ℕ) → counted i ≡ end_line lines (length ids) m stray → counted f ≡ far → Reportable i f lines
+    decimals-reportable room b m g (Some l) f q p =
+        let a : stray ≤ m = rw g (strays-bound (bisected ids) h.recorded) in
+        let e = end-bound lines (length ids) m stray a in omega (arith, q)
+    decimals-reportable room b m g None None q p = tt
+    decimals-reportable room b m g None (Some v) q p = (
+      omega (arith, far-bound, p, h.recorded.wide),
+      end-zero lines (length ids) m stray (sym q) v (omega (arith, far-bound, p)),
+    )
 
     -- a claim that ends after k lines: where none is incomplete, none is missing
-    ended : coefficient_lines most s ≡ gives h.done → (i : ℕ) → i ≡ end_line lines (length ids) k stray
-        → (l : ℕ) → l ≡ reported_in lines far → (j : Judged) → says j ≡ gives (verdict_of i l)
-        → JudgedOf most ids nums dens s width lines (says j)
+    ended : coefficient_lines most s ≡ gives h.done → (i : Option ℕ) → counted i ≡ end_line lines (length ids) k stray
+        → (j : judged.Verdict) → says (Ok j) ≡ gives (verdict_of (counted i) (reported_in lines far))
+        → JudgedOf most ids nums dens s width lines (says (Ok j))
     unfolding judged_by near_yet
-    ended e i q l p j f =
-        record { tells = f ∙ rw e (ap gives (by i q)); wide = h.recorded.wide }
+    ended e i q j f =
+        record { tells = f ∙ rw e (ap gives (by (counted i) q)); wide = h.recorded.wide }
       where
         covered : incomplete_line (bisected ids) (length ids) (ids_of h.done) ≡ end_line lines (length ids) k stray
         covered = sym (recorded-end (bisected ids) h.recorded)
@@ -114,13 +124,12 @@ module _ (most : ℕ) (ids : List ℤ) (nums dens s : List ℕ) where
             ∙ sym (first-column near_within (fraction_in nums dens) (value_of (bisected ids) no_decimal h.done) (length ids) 0)
 
         by : (i : ℕ) → i ≡ end_line lines (length ids) k stray
-            → verdict_of i l ≡ verdict_of (incomplete_line (bisected ids) (length ids) (ids_of h.done))
+            → verdict_of i (reported_in lines far) ≡ verdict_of (incomplete_line (bisected ids) (length ids) (ids_of h.done))
             (reported_line (bisected ids) (ids_of h.done)
             (far_within (fractions (length ids) nums dens) (in_order (bisected ids) no_decimal (length ids) h.done)))
         by zero q =
-            let b = failing-bound (near_yet ids nums dens h.done) (length ids) 0 in
             rw (covered, ← q, ← fault (sym q)) (ap (verdict_of 0)
-            (p ∙ maps-reported (bisected ids) (length ids) (ids_of h.done) lines h.recorded.maps far (omega (arith, h.fars))))
+            (maps-reported (bisected ids) (length ids) (ids_of h.done) lines h.recorded.maps far far-bound))
         by (suc i) q = rw (covered, ← q)
 
     -- a vertex whose line is as before
@@ -131,10 +140,10 @@ module _ (most : ℕ) (ids : List ℤ) (nums dens s : List ℕ) where
     yet-same id d u e = rw (e, value-old (bisected ids) no_decimal h.done (id, d) u e)
 
     -- the smallest vertex at fault, after a line that names a new vertex or none
-    far-next : (id : ℤ) (d : Decimal) (r : Found) → Grown (bisected ids) (length ids) (ids_of h.done) id r
+    far-next : (id : ℤ) (d : Decimal) (r : Option ℕ) → Grown (bisected ids) (length ids) (ids_of h.done) id r
         → far_step nums dens r d far ≡ failing_place (near_yet ids nums dens (h.done ++ ((id, d) ∷ []))) (length ids) 0
     unfolding near_yet
-    far-next id d (At v) g = by (near_within (fraction_in nums dens v) d) refl
+    far-next id d (Some v) g = by (near_within (fraction_in nums dens v) d) refl
       where
         before : ℕ → Bool
         before = near_yet ids nums dens h.done
@@ -168,15 +177,15 @@ module _ (most : ℕ) (ids : List ℤ) (nums dens s : List ℕ) where
         by false t =
             ap (λ (f : ℕ). lesser_fault f (v + 1)) h.fars
             ∙ sym (failing-now before after (length ids) v g.inside held-before others (now ∙ t))
-    far-next id d Missing g =
+    far-next id d None g =
         h.fars ∙ failing-same (near_yet ids nums dens h.done) (near_yet ids nums dens (h.done ++ ((id, d) ∷ []))) (length ids) 0
         (λ u a b. sym (yet-same id d u (rw (ids_more h.done (id, d)) (g.all u (omega arith)))))
 
     -- the line at the place
     module _ {x : CoefficientLine} (e : coefficient_says x ≡ coefficient_line s place) where
-      pub decimals-end : (c : Cursor) → x ≡ CL.End c → (i : ℕ) → i ≡ end_line lines (length ids) k stray
-          → (l : ℕ) → l ≡ reported_in lines far → (j : Judged) → says j ≡ gives (verdict_of i l)
-          → JudgedOf most ids nums dens s width lines (says j)
+      pub decimals-end : (c : Cursor) → x ≡ CL.End c → (i : Option ℕ) → counted i ≡ end_line lines (length ids) k stray
+          → (j : judged.Verdict) → says (Ok j) ≡ gives (verdict_of (counted i) (reported_in lines far))
+          → JudgedOf most ids nums dens s width lines (says (Ok j))
       decimals-end c q =
           ended (passed-end (pair_form decimal_form) claim_file most no_test s h.passed c.at (sym e ∙ ap coefficient_says q))
 
@@ -196,7 +205,7 @@ module _ (most : ℕ) (ids : List ℤ) (nums dens s : List ℕ) where
             }
 
         pub decimals-next : (id : ℤ) (d : Decimal) (c : Cursor) → x ≡ CL.Line id d c → length ids ≤ width
-            → {r : Found} → r ≡ new_in lines (bisected ids (to_z w64 (of_z w64 id))) → {record' : List ℕ} → record' ≡ set_at lines r (k + 1)
+            → {r : Option ℕ} → r ≡ new_in lines (bisected ids (to_z w64 (of_z w64 id))) → {record' : List ℕ} → record' ≡ set_at lines r (k + 1)
             → {f : ℕ} → f ≡ far_step nums dens r d far → {i : ℕ} → i ≡ stray_step r k stray
             → Decimals most ids nums dens s width record' c.at (k + 1) i f
         decimals-next id d c q wide {r} p t t' y =
@@ -217,16 +226,24 @@ module _ (most : ℕ) (ids : List ℤ) (nums dens s : List ℕ) where
             new = p ∙ ap (λ (z : ℤ). new_in lines (bisected ids z)) (bits_back id (coefficient-range s place id d c.at here))
 
     -- no line more is allowed, or none is left
-    pub decimals-over : most ≤ k → place < length s → (r : Refusal) → r ≡ at too_many claim_file (k + 1)
-        → JudgedOf most ids nums dens s width lines (refuses r)
-    unfolding judged_by
-    decimals-over l g r p =
-        record { tells = rw (passed_over (pair_form decimal_form) claim_file most no_test s h.passed l g, p); wide = h.recorded.wide }
+    module _ (m : k ≤ most) (l : most ≤ k) where
+      pub decimals-over : place < length s → (r : Refusal) → r ≡ at too_many claim_file (most + 1)
+          → JudgedOf most ids nums dens s width lines (refuses r)
+      unfolding judged_by
+      decimals-over g r p =
+          let e : most ≡ k = omega arith in
+          record {
+            tells = rw (passed_over (pair_form decimal_form) claim_file most no_test s h.passed l g, rw e at p);
+            wide = h.recorded.wide;
+          }
 
-    pub decimals-full : length s ≤ place → (i : ℕ) → i ≡ end_line lines (length ids) k stray
-        → (l : ℕ) → l ≡ reported_in lines far → (j : Judged) → says j ≡ gives (verdict_of i l)
-        → JudgedOf most ids nums dens s width lines (says j)
-    decimals-full g = ended (passed-full (pair_form decimal_form) claim_file most no_test s h.passed g)
+      pub decimals-full : length s ≤ place → (i : Option ℕ) → counted i ≡ end_line lines (length ids) most stray
+          → (j : judged.Verdict) → says (Ok j) ≡ gives (verdict_of (counted i) (reported_in lines far))
+          → JudgedOf most ids nums dens s width lines (says (Ok j))
+      decimals-full g i q =
+          let e : most ≡ k = omega arith in
+          ended (passed-full (pair_form decimal_form) claim_file most no_test s h.passed g) i
+          (q ∙ ap (λ (j : ℕ). end_line lines (length ids) j stray) e)
 
   -- ---- the whole call, by the test of room t, with the record cleared first
   module _ (lines : List ℕ) {before : List ℕ} (c : before ≡ cleared lines)
@@ -240,7 +257,7 @@ module _ (most : ℕ) (ids : List ℤ) (nums dens s : List ℕ) where
     coefficients-short f r q = let k : room_in_three (length ids) (length nums) (length dens) (length lines) ≡ false
         = ap (room_in_three (length ids) (length nums) (length dens)) (sym wide) ∙ failed t _ e f in rw (k, q, c)
 
-    pub coefficients-done : t ≡ true → (left : List ℕ) (j : Judged) → JudgedOf most ids nums dens s (length before) left (says j)
+    pub coefficients-done : t ≡ true → (left : List ℕ) (j : Result judged.Verdict Refusal) → JudgedOf most ids nums dens s (length before) left (says j)
         → (end : List ℕ) → end ≡ cleared left → told (says j) end ≡ coefficients_call most ids nums dens s lines
     unfolding coefficients_call
     coefficients-done f left j h end q =

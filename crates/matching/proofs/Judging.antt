@@ -1,8 +1,9 @@
 -- Laws of the verdict on a claim that was read: one for each way out of the code. Assumes nothing.
-use mathlib.Core.Path.{◌≡◌, refl, sym, ap, ap₂, ◌∙◌}
+use Rattle.std.specs.Prelude.{Option, Some, None, Result, Ok, Err}
+use mathlib.Core.Path.{◌≡◌, refl, sym, ap, ◌∙◌}
 use mathlib.Core.Bool.{Bool, true, false, cond}
 use mathlib.Core.List.{List}
-use Prim.Native.Nat.{ℕ, zero, suc, ◌≤◌}
+use Prim.Native.Nat.{ℕ, zero, suc, ◌-◌, ◌^◌, ◌≤◌, ◌<◌}
 use native.Mathlib.Omega.{arith}
 use lib.Dec.{eqb}
 use lib.IntN.{ℤ, pos}
@@ -14,49 +15,33 @@ use Rattle.basis.specs.Area.{cleared, cleared_z}
 use Rattle.basis.specs.Order.{same_z}
 use Rattle.basis.proofs.Tests.{failed, held}
 use Rattle.graph.specs.Find.{bisected}
-use Rattle.matching.specs.declared.judged.Judged.{Judged}
-use Rattle.matching.specs.declared.judged.Judged.TheVariants as J
+use Rattle.matching.specs.declared.judged.Verdict as judged
+use Rattle.matching.specs.declared.judged.Verdict.TheVariants as V
 use Rattle.matching.specs.declared.numbers.Rule.{Rule}
 use Rattle.matching.specs.declared.numbers.Rule.TheVariants.{Exact, Equivalence}
-use Rattle.matching.specs.declared.reading.Read.{Read}
-use Rattle.matching.specs.declared.reading.Read.TheVariants.{Lines, Fault}
 use Rattle.matching.specs.Claim.{number_lines, ids_of}
 use Rattle.matching.specs.Cover.{incomplete_line, in_order, reported_line}
-use Rattle.matching.specs.Verdict.{Verdict, matched, incomplete_at, mismatch_at, says, unequal_vertex}
+use Rattle.matching.specs.Verdict.{Verdict, says, unequal_vertex}
 use Rattle.matching.specs.Verdict.{agrees, unlike_vertex, mismatch_vertex, verdict_of, judged_by}
 use Rattle.matching.specs.Calls.{outcome, room_in_three, numbers_call}
-use Rattle.matching.specs.Steps.{reported_in, ReadOf, read_judged}
+use Rattle.matching.specs.Steps.{counted, NoneMissing, Reportable, ReadWell, reported_in, ReadOf, read_judged}
 use Rattle.matching.proofs.Covering.{maps-reported}
 use Rattle.matching.proofs.FirstPlaces.{failing-bound, first-bound, room-first, room-second, room-third}
 
 -- ---- what is said tells the answers apart
-heard : Said Verdict → Judged
-heard (gives v) = cond (eqb v.number 0) J.Match (cond (eqb v.number 20) (J.Incomplete v.line) (J.Mismatch v.line))
-heard (refuses r) = J.Refused r
+heard : Said Verdict → Result judged.Verdict Refusal
+heard (gives v) = Ok (cond (eqb v.number 0) V.Match (cond (eqb v.number 20) (V.Incomplete v.line) (V.Mismatch v.line)))
+heard (refuses r) = Err r
 
-heard-back : (j : Judged) → heard (says j) ≡ j
+heard-back : (j : Result judged.Verdict Refusal) → heard (says j) ≡ j
 unfolding heard
-heard-back J.Match = refl
-heard-back (J.Incomplete l) = refl
-heard-back (J.Mismatch l) = refl
-heard-back (J.Refused r) = refl
+heard-back (Ok V.Match) = refl
+heard-back (Ok (V.Incomplete l)) = refl
+heard-back (Ok (V.Mismatch l)) = refl
+heard-back (Err r) = refl
 
-pub says-apart : (i j : Judged) → says i ≡ says j → i ≡ j
+pub says-apart : (i j : Result judged.Verdict Refusal) → says i ≡ says j → i ≡ j
 says-apart i j e = sym (heard-back i) ∙ ap heard e ∙ heard-back j
-
--- ---- by the first incomplete line and the line of the mismatch
-pub verdict-incomplete : (incomplete mismatch : ℕ) → (incomplete ≡ 0 → ⊥)
-    → gives (incomplete_at incomplete) ≡ gives (verdict_of incomplete mismatch)
-verdict-incomplete zero mismatch h = absurd (h refl)
-verdict-incomplete (suc i) mismatch h = refl
-
-pub verdict-mismatch : (incomplete mismatch : ℕ) → incomplete ≡ 0 → (mismatch ≡ 0 → ⊥)
-    → gives (mismatch_at mismatch) ≡ gives (verdict_of incomplete mismatch)
-verdict-mismatch incomplete zero e h = absurd (h refl)
-verdict-mismatch incomplete (suc m) e h = rw e
-
-pub verdict-match : (incomplete mismatch : ℕ) → incomplete ≡ 0 → mismatch ≡ 0 → gives matched ≡ gives (verdict_of incomplete mismatch)
-verdict-match incomplete mismatch e h = rw (e, h)
 
 -- ---- by the rule
 module _ (rule : Rule) (a b : List ℤ) (r : ℕ) where
@@ -69,33 +54,33 @@ module _ (rule : Rule) (a b : List ℤ) (r : ℕ) where
 outcomes : {x y : Said Verdict} {a b : List ℤ} {c d : List ℕ} → x ≡ y → a ≡ b → c ≡ d → outcome x a c ≡ outcome y b d
 outcomes p q r = cc
 
--- ---- by what was read
-module _ (rule : Rule) (a b : List ℤ) (lines : List ℕ) (read : Read) where
-  pub read-fault : (r : Refusal) → read ≡ Fault r → refuses r ≡ read_judged rule a b lines read
-  read-fault r e = sym (ap (read_judged rule a b lines) e)
-
-  module _ (i : ℕ) (e : read ≡ Lines i) where
-    pub read-incomplete : (i ≡ 0 → ⊥) → gives (incomplete_at i) ≡ read_judged rule a b lines read
-    read-incomplete h = verdict-incomplete i (reported_in lines (mismatch_vertex rule a b)) h ∙ sym (ap (read_judged rule a b lines) e)
-
-    pub read-complete : i ≡ 0 → (m : ℕ) → m ≡ mismatch_vertex rule a b → (l : ℕ) → l ≡ reported_in lines m
-        → (j : Judged) → says j ≡ gives (verdict_of 0 l) → says j ≡ read_judged rule a b lines read
-    read-complete h m q l p j f =
-        f ∙ ap₂ (λ (x y : ℕ). gives (verdict_of x y)) (sym h) (p ∙ ap (reported_in lines) q) ∙ sym (ap (read_judged rule a b lines) e)
-
 -- the smallest vertex at fault is one of the vertices
 mismatch-bound : (rule : Rule) (a b : List ℤ) → length a ≡ length b → mismatch_vertex rule a b ≤ length b
 unfolding unlike_vertex
 mismatch-bound Exact a b e = let h = first-bound same_z 0 a b e in omega arith
 mismatch-bound Equivalence a b e = let h = failing-bound (agrees a b) (length a) 0 in omega arith
 
-pub fault-inside : (rule : Rule) (a b : List ℤ) (lines : List ℕ) → (length a ≡ length b) × (length b ≤ length lines)
-    → (m : ℕ) → m ≡ mismatch_vertex rule a b → m ≤ length lines
-fault-inside rule a b lines h m q = let l = mismatch-bound rule a b h.0 in omega (arith, h.1)
+-- it has its line in the record, where no vertex is missing there
+pub fault-reportable : (rule : Rule) (a b : List ℤ) (lines : List ℕ) → (length a ≡ length b) × (length b ≤ length lines)
+    → NoneMissing (length b) lines → (fault : Option ℕ) → counted fault ≡ mismatch_vertex rule a b → Reportable None fault lines
+fault-reportable rule a b lines h w None e = tt
+fault-reportable rule a b lines h w (Some v) e =
+    let l = mismatch-bound rule a b h.0 in (omega (arith, h.1), w v (omega arith))
+
+-- what is found of a claim that was read has its line, by whether a line is incomplete
+module _ {read : Result (Option ℕ) Refusal} (n : ℕ) (lines : List ℕ) (w : ReadWell read n lines) {i : Option ℕ} (e : read ≡ Ok i) where
+  pub well-some : {k : ℕ} → i ≡ Some k → (fault : Option ℕ) → Reportable i fault lines
+  well-some f fault = let g = e ∙ ap (λ (x : Option ℕ). Ok x) f in rw f (rw g at w)
+
+  pub well-none : (rule : Rule) (a b : List ℤ) → (length a ≡ length b) × (length b ≤ length lines) → length b ≡ n → i ≡ None
+      → {fault found : Option ℕ} → fault ≡ found → counted found ≡ mismatch_vertex rule a b → Reportable i fault lines
+  well-none rule a b h m f {fault} {found} t q =
+      let g = e ∙ ap (λ (x : Option ℕ). Ok x) f in
+      rw (f, t) (fault-reportable rule a b lines h (rw (g, ← m) at w) found q)
 
 -- ---- what was read, where there was room in areas of these sizes
 module _ (most : ℕ) (ids reference : List ℤ) (s : List ℕ) (size width : ℕ) {t : Bool}
-    (e : t ≡ room_in_three (length ids) (length reference) size width) (f : t ≡ true) (mid : List ℤ) (record' : List ℕ) (read : Read)
+    (e : t ≡ room_in_three (length ids) (length reference) size width) (f : t ≡ true) (mid : List ℤ) (record' : List ℕ) (read : Result (Option ℕ) Refusal)
     (h : ReadOf most ids s size width mid record' read) where
   pub judge-kept : length ids ≤ length mid
   judge-kept = omega (arith, room-second (length ids) (length reference) size width e f, h.kept)
@@ -107,6 +92,15 @@ module _ (most : ℕ) (ids reference : List ℤ) (s : List ℕ) (size width : �
   pub judge-wide : length (take (length ids) mid) ≤ length record'
   judge-wide =
       omega (arith, length-take-le (length ids) mid judge-kept, h.wide, room-third (length ids) (length reference) size width e f)
+
+  pub judge-well : length s < 2 ^ 64 - 1 → ReadWell read (length (take (length ids) mid)) record'
+  judge-well l = by read h
+    where
+      by : (read : Result (Option ℕ) Refusal) → ReadOf most ids s size width mid record' read
+          → ReadWell read (length (take (length ids) mid)) record'
+      by (Err r) h = tt
+      by (Ok None) h = λ v k. h.tells.recorded refl v (omega (arith, length-take-le (length ids) mid judge-kept))
+      by (Ok (Some k)) h = omega (arith, h.tells.short)
 
 -- ---- the whole call, by the test of room t, with the record cleared first
 module _ (rule : Rule) (most : ℕ) (ids reference : List ℤ) (s : List ℕ) (claimed : List ℤ) (lines : List ℕ)
@@ -124,13 +118,13 @@ module _ (rule : Rule) (most : ℕ) (ids reference : List ℤ) (s : List ℕ) (c
   unfolding numbers_call
   judge-short f r q left g = rw (rooms ∙ failed t _ e f, q, g, c)
 
-  read_as : t ≡ true → (mid : List ℤ) (record' : List ℕ) (read : Read)
+  read_as : t ≡ true → (mid : List ℤ) (record' : List ℕ) (read : Result (Option ℕ) Refusal)
       → ReadOf most ids s (length claimed) (length before) mid record' read
       → read_judged rule (take (length ids) reference) (take (length ids) mid) record' read
       ≡ judged_by (bisected ids) (length ids) (pos 0) (mismatch_vertex rule (take (length ids) reference)) (number_lines most s)
   unfolding judged_by
-  read_as f mid record' (Fault r) h = rw h.tells
-  read_as f mid record' (Lines i) h = let w = h.tells in rw w.are (ap gives (by i w.first w.values))
+  read_as f mid record' (Err r) h = rw h.tells
+  read_as f mid record' (Ok i) h = let w = h.tells in rw w.are (ap gives (by (counted i) w.first w.values))
     where
       by : (i : ℕ) → i ≡ incomplete_line (bisected ids) (length ids) (ids_of h.tells.lines)
           → (i ≡ 0 → take (length ids) mid ≡ in_order (bisected ids) (pos 0) (length ids) h.tells.lines)
@@ -139,18 +133,18 @@ module _ (rule : Rule) (most : ℕ) (ids reference : List ℤ) (s : List ℕ) (c
           (reported_line (bisected ids) (ids_of h.tells.lines)
           (mismatch_vertex rule (take (length ids) reference) (in_order (bisected ids) (pos 0) (length ids) h.tells.lines)))
       by zero p v =
-          let long = judge-lengths most ids reference s (length claimed) (length before) e f mid record' (Lines i) h in
+          let long = judge-lengths most ids reference s (length claimed) (length before) e f mid record' (Ok i) h in
           let short = length-take-le (length ids) mid
-          (judge-kept most ids reference s (length claimed) (length before) e f mid record' (Lines i) h) in
+          (judge-kept most ids reference s (length claimed) (length before) e f mid record' (Ok i) h) in
           rw (← p, ← v refl)
           (ap (verdict_of 0) (maps-reported (bisected ids) (length ids) (ids_of h.tells.lines) record' h.tells.maps
           (mismatch_vertex rule (take (length ids) reference) (take (length ids) mid))
           (omega (arith, mismatch-bound rule (take (length ids) reference) (take (length ids) mid) long))))
       by (suc i) p v = rw (← p)
 
-  pub judge-done : t ≡ true → (mid : List ℤ) (record' : List ℕ) (read : Read)
+  pub judge-done : t ≡ true → (mid : List ℤ) (record' : List ℕ) (read : Result (Option ℕ) Refusal)
       → ReadOf most ids s (length claimed) (length before) mid record' read
-      → (j : Judged) → says j ≡ read_judged rule (take (length ids) reference) (take (length ids) mid) record' read
+      → (j : Result judged.Verdict Refusal) → says j ≡ read_judged rule (take (length ids) reference) (take (length ids) mid) record' read
       → (left : List ℤ) → left ≡ cleared_z mid → (end : List ℕ) → end ≡ cleared record'
       → outcome (says j) left end ≡ numbers_call rule most ids reference s claimed lines
   unfolding numbers_call

@@ -1,4 +1,5 @@
 -- What the verdicts mean: a complete claim is accepted exactly when it matches, by 000's rule, at every vertex. Assumes nothing.
+use Rattle.std.specs.Prelude.{Some}
 use mathlib.Core.Path.{◌≡◌, refl, sym, ap, ap₂, ◌∙◌, subst}
 use mathlib.Core.Bool.{Bool, true, false, cond, beq, ◌&&◌}
 use mathlib.Core.Logic.{◌↔◌}
@@ -15,7 +16,6 @@ use lib.Seq.{ext_get_or}
 use Rattle.basis.specs.Refusal.{Said, gives}
 use Rattle.basis.specs.Order.{same_z, rising_z}
 use Rattle.basis.proofs.Areas.{column-length}
-use Rattle.graph.specs.declared.find.Found.TheVariants.{At}
 use Rattle.graph.specs.Find.{place_in}
 use Rattle.graph.proofs.Finds.{place_at}
 use Rattle.basis.proofs.Tests.{clash, bool_cases, same_test}
@@ -193,7 +193,7 @@ module _ {A : Type 0} (ids : List ℤ) (r : rising_z ids ≡ true) (z : A) (l : 
       let m : i < length ids = rw e at h.line in
       let p = place_at ids (get_or ids v (pos 0)) r in
       let q : get_or ids i (pos 0) ≡ get_or ids v (pos 0) = ap (λ (k : List ℤ). get_or k i (pos 0)) (sym e) ∙ h.names in
-      let t : At i ≡ At v = sym ((p i).1 (m, q)) ∙ (p v).1 (h.vertex, refl) in
+      let t : Some i ≡ Some v = sym ((p i).1 (m, q)) ∙ (p v).1 (h.vertex, refl) in
       cc
 
   line-own : (v : ℕ) → v < length ids → LineOf ids (ids_of l) v v

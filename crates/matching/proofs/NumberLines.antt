@@ -1,4 +1,5 @@
 -- What the loop over a claim's numbers keeps, and how it ends. Assumes nothing.
+use Rattle.std.specs.Prelude.{Option, Some, None, Ok, Err}
 use mathlib.Core.Path.{◌≡◌, refl, sym, ap, ◌∙◌}
 use mathlib.Core.Bool.{Bool, true, false, not, cond}
 use mathlib.Core.List.{List, [], ◌∷◌, ◌++◌}
@@ -26,40 +27,37 @@ use Rattle.text.specs.declared.line.EdgeLine.{EdgeLine}
 use Rattle.text.specs.declared.line.EdgeLine.TheVariants as EL
 use Rattle.text.proofs.Places.{edge-range, line-moves}
 use Rattle.text.proofs.Files.{Passed, passed_none, passed-next, passed-end, passed-fault, passed-full, passed_over}
-use Rattle.graph.specs.declared.find.Found.{Found}
-use Rattle.graph.specs.declared.find.Found.TheVariants.{At, Missing}
 use Rattle.graph.specs.Find.{bisected}
 use Rattle.graph.proofs.Finds.{bisected-below}
-use Rattle.matching.specs.declared.reading.Read.TheVariants.{Lines, Fault}
 use Rattle.matching.specs.Claim.{number_lines, ids_of}
 use Rattle.matching.specs.Cover.{its_line_from, its_line, value_of}
-use Rattle.matching.specs.Steps.{new_in, set_at, FoundBelow, stray_step, is_recorded, end_line, ReadOf}
+use Rattle.matching.specs.Steps.{new_in, set_at, FoundBelow, stray_step, is_recorded, end_line, counted, ReadOf}
 use Rattle.matching.proofs.FirstPlaces.{bits_back}
-use Rattle.matching.proofs.Covering.{Grown, Recorded, recorded-none, grown, recorded-next, recorded-end, value-old, value-new}
+use Rattle.matching.proofs.Covering.{Grown, Recorded, recorded-none, grown, recorded-next, recorded-end, strays-bound, value-old, value-new}
 use Rattle.matching.proofs.Readings.{ids_more, ids-length}
 
 -- ---- what is found by bisection is one of the vertices, and what is new of it too
 pub found_within : (ids : List ℤ) (id : ℤ) → FoundBelow (bisected ids id) (length ids)
 found_within ids id = by (bisected ids id) (bisected-below ids id)
   where
-    by : (f : Found) → ((i : ℕ) → f ≡ At i → i < length ids) → FoundBelow f (length ids)
-    by (At v) h = h v refl
-    by Missing h = tt
+    by : (f : Option ℕ) → ((i : ℕ) → f ≡ Some i → i < length ids) → FoundBelow f (length ids)
+    by (Some v) h = h v refl
+    by None h = tt
 
-new-within : (lines : List ℕ) (f : Found) (n : ℕ) → FoundBelow f n → FoundBelow (new_in lines f) n
-new-within lines (At v) n h = by (eqb (get_or lines v 0) 0)
+new-within : (lines : List ℕ) (f : Option ℕ) (n : ℕ) → FoundBelow f n → FoundBelow (new_in lines f) n
+new-within lines (Some v) n h = by (eqb (get_or lines v 0) 0)
   where
-    by : (t : Bool) → FoundBelow (cond t (At v) Missing) n
+    by : (t : Bool) → FoundBelow (cond t (Some v) None) n
     by true = h
     by false = tt
-new-within lines Missing n h = tt
+new-within lines None n h = tt
 
-within_more : (f : Found) (n m : ℕ) → FoundBelow f n → n ≤ m → FoundBelow f m
-within_more (At v) n m h l = omega (arith, h)
-within_more Missing n m h l = tt
+within_more : (f : Option ℕ) (n m : ℕ) → FoundBelow f n → n ≤ m → FoundBelow f m
+within_more (Some v) n m h l = omega (arith, h)
+within_more None n m h l = tt
 
 -- the vertex that a line newly names has its place in an area with n places
-pub named-within : (ids : List ℤ) (id : ℤ) (lines : List ℕ) {r : Found} → r ≡ new_in lines (bisected ids id) → (m : ℕ) → length ids ≤ m
+pub named-within : (ids : List ℤ) (id : ℤ) (lines : List ℕ) {r : Option ℕ} → r ≡ new_in lines (bisected ids id) → (m : ℕ) → length ids ≤ m
     → FoundBelow r m
 named-within ids id lines e m l =
     rw e
@@ -74,6 +72,16 @@ end-zero lines n k zero e v l z =
     (λ t. clash (every-at (is_recorded lines) n v l t) (ap not (eq-eqb (get_or lines v 0) 0 z)))
     (λ t. let f : k + 1 ≡ 0 = rw t at e in omega arith)
 end-zero lines n k (suc i) e v l z = omega arith
+
+-- an end is past no more lines than there are
+pub end-bound : (lines : List ℕ) (n k stray : ℕ) → stray ≤ k → end_line lines n k stray ≤ k + 1
+unfolding end_line
+end-bound lines n k (suc i) h = omega arith
+end-bound lines n k zero h = by (every n (is_recorded lines))
+  where
+    by : (t : Bool) → cond t 0 (k + 1) ≤ k + 1
+    by true = omega arith
+    by false = omega arith
 
 -- ---- k lines are done, up to a place: the vertices that they name have their values in the area
 pub record Numbers (most : ℕ) (ids : List ℤ) (s : List ℕ) (size width : ℕ) (claimed : List ℤ) (lines : List ℕ) (place k stray : ℕ)
@@ -103,14 +111,16 @@ module _ (most : ℕ) (ids : List ℤ) (s : List ℕ) where
   module _ {size width : ℕ} {claimed : List ℤ} {lines : List ℕ} {place k stray : ℕ}
       (h : Numbers most ids s size width claimed lines place k stray) (room : length ids ≤ size) where
     -- a claim that ends after k lines
-    ended : number_lines most s ≡ gives h.done → {l : ℕ} → l ≡ end_line lines (length ids) k stray
-        → ReadOf most ids s size width claimed lines (Lines l)
+    ended : number_lines most s ≡ gives h.done → {l : Option ℕ} → counted l ≡ end_line lines (length ids) k stray
+        → ReadOf most ids s size width claimed lines (Ok l)
     ended e q =
         record {
           tells =
               record {
                 lines = h.done;
                 are = e;
+                short = let b = end-bound lines (length ids) k stray (strays-bound (bisected ids) h.recorded) in omega (arith, q, h.short);
+                recorded = λ z. end-zero lines (length ids) k stray (sym q ∙ z);
                 first = q ∙ recorded-end (bisected ids) h.recorded;
                 maps = h.recorded.maps;
                 values = λ z.
@@ -124,10 +134,10 @@ module _ (most : ℕ) (ids : List ℤ) (s : List ℕ) where
         }
 
     -- the values of the vertices named so far, after a line that names a new one or none
-    stored_next : (id v : ℤ) (r : Found) → Grown (bisected ids) (length ids) (ids_of h.done) id r
+    stored_next : (id v : ℤ) (r : Option ℕ) → Grown (bisected ids) (length ids) (ids_of h.done) id r
         → (u : ℕ) → u < length ids → (its_line (bisected ids) (ids_of h.done ++ (id ∷ [])) u ≡ 0 → ⊥)
         → get_or (set_at claimed r v) u (pos 0) ≡ value_of (bisected ids) (pos 0) (h.done ++ ((id, v) ∷ [])) u
-    stored_next id v (At w) g u m n =
+    stored_next id v (Some w) g u m n =
         let more = ids_more h.done (id, v) in
         elim (ℕ_discrete u w) as (λ _. get_or (set claimed w v) u (pos 0) ≡ value_of (bisected ids) (pos 0) (h.done ++ ((id, v) ∷ [])) u) [
           | yes q ↦ rw q (get_or-set_same claimed w v (pos 0) (omega (arith, g.inside, h.kept))
@@ -139,24 +149,24 @@ module _ (most : ℕ) (ids : List ℤ) (s : List ℕ) where
               get_or-set_other claimed w u v (pos 0) d ∙ h.stored u m old
               ∙ sym (value-old (bisected ids) (pos 0) h.done (id, v) u (rw more same))
         ]
-    stored_next id v Missing g u m n =
+    stored_next id v None g u m n =
         let same = g.all u m in
         let old : its_line (bisected ids) (ids_of h.done) u ≡ 0 → ⊥ = λ z. n (same ∙ z) in
         h.stored u m old ∙ sym (value-old (bisected ids) (pos 0) h.done (id, v) u (rw (ids_more h.done (id, v)) same))
 
-    kept_next : (r : Found) (v : ℤ) → length (set_at claimed r v) ≡ size
-    kept_next (At w) v = length-set claimed w v ∙ h.kept
-    kept_next Missing v = h.kept
+    kept_next : (r : Option ℕ) (v : ℤ) → length (set_at claimed r v) ≡ size
+    kept_next (Some w) v = length-set claimed w v ∙ h.kept
+    kept_next None v = h.kept
 
     -- the line at the place
     module _ {x : EdgeLine} (e : edge_says x ≡ claim_line s place) where
-      pub numbers-end : (c : Cursor) → x ≡ EL.End c → {i : ℕ} → i ≡ end_line lines (length ids) k stray
-          → ReadOf most ids s size width claimed lines (Lines i)
+      pub numbers-end : (c : Cursor) → x ≡ EL.End c → {i : Option ℕ} → counted i ≡ end_line lines (length ids) k stray
+          → ReadOf most ids s size width claimed lines (Ok i)
       numbers-end c q = ended (passed-end edge_form claim_file most no_test s h.passed c.at (sym e ∙ ap edge_says q))
 
       module _ (l : k < most) where
         pub numbers-fault : (n d : ℕ) (c : Cursor) → x ≡ EL.Fault n d c → {r : Refusal} → r ≡ at_column n claim_file (k + 1) d
-            → ReadOf most ids s size width claimed lines (Fault r)
+            → ReadOf most ids s size width claimed lines (Err r)
         numbers-fault n d c q p =
             record {
               tells = passed-fault edge_form claim_file most no_test s h.passed l n d c.at (sym e ∙ ap edge_says q)
@@ -166,7 +176,7 @@ module _ (most : ℕ) (ids : List ℤ) (s : List ℕ) where
             }
 
         pub numbers-next : (id v : ℤ) (c : Cursor) → x ≡ EL.Line id v c → length ids ≤ width
-            → {r : Found} → r ≡ new_in lines (bisected ids (to_z w64 (of_z w64 id))) → {record' : List ℕ} → record' ≡ set_at lines r (k + 1)
+            → {r : Option ℕ} → r ≡ new_in lines (bisected ids (to_z w64 (of_z w64 id))) → {record' : List ℕ} → record' ≡ set_at lines r (k + 1)
             → {left : List ℤ} → left ≡ set_at claimed r (to_z w64 (of_z w64 v)) → {i : ℕ} → i ≡ stray_step r k stray
             → Numbers most ids s size width left record' c.at (k + 1) i
         numbers-next id v c q wide {r} p t t' y =
@@ -189,15 +199,19 @@ module _ (most : ℕ) (ids : List ℤ) (s : List ℕ) where
             new = p ∙ ap (λ (z : ℤ). new_in lines (bisected ids z)) (bits_back id (edge-range s place id v c.at here).0)
 
     -- no line more is allowed, or none is left
-    pub numbers-over : most ≤ k → place < length s → {r : Refusal} → r ≡ at too_many claim_file (k + 1)
-        → ReadOf most ids s size width claimed lines (Fault r)
-    numbers-over l g p =
-        record {
-          tells = passed_over edge_form claim_file most no_test s h.passed l g ∙ ap refuses (sym p);
-          kept = h.kept;
-          wide = h.recorded.wide;
-        }
+    module _ (m : k ≤ most) (l : most ≤ k) where
+      pub numbers-over : place < length s → {r : Refusal} → r ≡ at too_many claim_file (most + 1)
+          → ReadOf most ids s size width claimed lines (Err r)
+      numbers-over g p =
+          let e : most ≡ k = omega arith in
+          record {
+            tells = passed_over edge_form claim_file most no_test s h.passed l g ∙ ap refuses (sym (rw e at p));
+            kept = h.kept;
+            wide = h.recorded.wide;
+          }
 
-    pub numbers-full : length s ≤ place → {i : ℕ} → i ≡ end_line lines (length ids) k stray
-        → ReadOf most ids s size width claimed lines (Lines i)
-    numbers-full g = ended (passed-full edge_form claim_file most no_test s h.passed g)
+      pub numbers-full : length s ≤ place → {i : Option ℕ} → counted i ≡ end_line lines (length ids) most stray
+          → ReadOf most ids s size width claimed lines (Ok i)
+      numbers-full g q =
+          let e : most ≡ k = omega arith in
+          ended (passed-full edge_form claim_file most no_test s h.passed g) (q ∙ ap (λ (j : ℕ). end_line lines (length ids) j stray) e)

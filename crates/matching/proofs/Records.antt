@@ -1,107 +1,61 @@
 -- Laws of the functions that keep the record of claim lines and what stands on it: one for each way out. Assumes nothing.
+use Rattle.std.specs.Prelude.{Option, Some, None}
+use Rattle.std.specs.Option.{is_some}
+use Rattle.std.specs.List.{list_any}
+use Rattle.std.proofs.Math.Bool.{not-not}
+use Rattle.std.proofs.lemmas.List.Folds.{list_any_more}
 use mathlib.Core.Path.{◌≡◌, refl, sym, ap, ◌∙◌}
-use mathlib.Core.Bool.{Bool, true, false, not}
+use mathlib.Core.Bool.{Bool, true, false, not, ◌&&◌, ◌||◌}
 use mathlib.Core.List.{List}
-use Prim.Native.Nat.{ℕ, zero, suc, ◌+◌, ◌-◌, ◌≤◌, ◌<◌, min}
+use Prim.Native.Nat.{ℕ, zero, suc, ◌≤◌, ◌<◌}
+use native.Mathlib.Numerals.{add-one}
 use native.Mathlib.Omega.{arith}
+use lib.Dec.{eqb}
 use lib.IntN.{ℤ}
-use lib.ListN.{length, get_or, set}
-use borrow.Author.Tests.{eq-eqb, ne_eqb}
+use lib.ListN.{length, get_or, take}
 use Rattle.basis.specs.Scan.{every}
-use Rattle.basis.proofs.Scans.{or_kept, every_more, every-fail, every-end}
-use Rattle.text.specs.declared.decimal.Decimal.{Decimal}
-use Rattle.graph.specs.declared.find.Found.{Found}
-use Rattle.graph.specs.declared.find.Found.TheVariants.{At, Missing}
 use Rattle.graph.specs.Find.{bisected, Searched}
 use Rattle.graph.proofs.Finds.{searched-is, bisected-below}
-use Rattle.matching.specs.Calls.{near_within, fraction_in}
-use Rattle.matching.specs.Steps.{new_in, set_at, FoundBelow, stray_step, lesser_fault, far_step, is_recorded, end_line, reported_in}
+use Rattle.matching.specs.Steps.{counted, is_recorded, end_line}
 
 -- ---- a line's vertex, by what a search has found
-module _ (ids : List ℤ) (lines : List ℕ) (id : ℤ) {sought : ℤ} (q : sought ≡ id) {f : Found} (e : Searched ids sought f) where
+module _ (ids : List ℤ) (lines : List ℕ) (id : ℤ) {sought : ℤ} (q : sought ≡ id) {f : Option ℕ} (e : Searched ids sought f) where
   found-is : bisected ids id ≡ f
   found-is = ap (bisected ids) (sym q) ∙ sym (searched-is e)
 
-  pub names-none : f ≡ Missing → Missing ≡ new_in lines (bisected ids id)
-  names-none h = rw (found-is, h)
-
-  module _ {v : ℕ} (h : f ≡ At v) where
-    pub found_below : length ids ≤ length lines → v < length lines
-    found_below l = omega (arith, bisected-below ids id v (found-is ∙ h))
-
-    pub names-again : {x : ℕ} → x ≡ get_or lines v 0 → (x ≡ 0 → ⊥) → Missing ≡ new_in lines (bisected ids id)
-    names-again p n = rw (found-is, h, ne_eqb (get_or lines v 0) 0 (λ z. n (p ∙ z)))
-
-    pub names-new : {x : ℕ} → x ≡ get_or lines v 0 → x ≡ 0 → At v ≡ new_in lines (bisected ids id)
-    names-new p z = rw (found-is, h, eq-eqb (get_or lines v 0) 0 (sym p ∙ z))
-
--- ---- the first stray line
-module _ (vertex : Found) (k stray : ℕ) where
-  pub stray-none : {v : ℕ} → vertex ≡ At v → stray ≡ stray_step vertex k stray
-  stray-none h = rw h
-
-  module _ (h : vertex ≡ Missing) where
-    pub stray-kept : (stray ≡ 0 → ⊥) → stray ≡ stray_step vertex k stray
-    stray-kept n = rw h (or_kept stray (k + 1) n)
-
-    pub stray-here : stray ≡ 0 → k + 1 ≡ stray_step vertex k stray
-    stray-here z = rw (h, z)
+  pub found_below : {v : ℕ} → f ≡ Some v → length ids ≤ length lines → v < length lines
+  found_below {v} h l = omega (arith, bisected-below ids id v (found-is ∙ h))
 
 -- ---- the end of a claim
-pub end_later : (lines : List ℕ) (v : ℕ) → every v (is_recorded lines) ≡ true → {x : ℕ} → x ≡ get_or lines v 0 → (x ≡ 0 → ⊥)
-    → every (v + 1) (is_recorded lines) ≡ true
-unfolding is_recorded
-end_later lines v h p e = every_more (is_recorded lines) v h (ap not (ne_eqb (get_or lines v 0) 0 (λ q. e (p ∙ q))))
+-- a vertex is missing exactly where one of the numbers in the record is 0
+any-missing : (lines : List ℕ) (n : ℕ) → n ≤ length lines
+    → list_any (λ y. eqb y 0) (take n lines) ≡ not (every n (is_recorded lines))
+unfolding is_recorded every
+any-missing lines zero h = refl
+any-missing lines (suc n) h =
+    let e = list_any_more (λ (y : ℕ). eqb y 0) lines n 0 (omega arith) in
+    rw (rw add-one at e, any-missing lines n (omega arith)) (by (every n (is_recorded lines)) (eqb (get_or lines n 0) 0))
+  where
+    by : (a b : Bool) → (not a || b) ≡ not (a && not b)
+    by true b = sym (not-not b)
+    by false b = refl
 
-module _ (lines : List ℕ) (n k stray : ℕ) where
-  pub end-stray : (stray ≡ 0 → ⊥) → stray ≡ end_line lines n k stray
+module _ (lines : List ℕ) (n k : ℕ) where
+  pub end-stray : (stray : Option ℕ) → is_some stray ≡ true → counted stray ≡ end_line lines n k (counted stray)
   unfolding end_line
-  end-stray h = or_kept stray _ h
+  end-stray (Some i) h = refl
+  end-stray None h = cc
 
-  module _ (z : stray ≡ 0) (v : ℕ) where
-    pub end-missing : v < n → {x : ℕ} → x ≡ get_or lines v 0 → x ≡ 0 → k + 1 ≡ end_line lines n k stray
-    unfolding end_line is_recorded
-    end-missing l p e = rw (z, every-fail (is_recorded lines) n v l (ap not (eq-eqb (get_or lines v 0) 0 (sym p ∙ e))))
+  module _ (l : n ≤ length lines) {t : Bool} (e : t ≡ list_any (λ y. eqb y 0) (take n lines)) where
+    told : every n (is_recorded lines) ≡ not t
+    told = sym (ap not (e ∙ any-missing lines n l) ∙ not-not (every n (is_recorded lines)))
 
-    pub end_whole : every v (is_recorded lines) ≡ true → n ≤ v → v ≤ n → 0 ≡ end_line lines n k stray
+    pub end-missing : (stray : Option ℕ) → is_some stray ≡ false → t ≡ true → suc k ≡ end_line lines n k (counted stray)
     unfolding end_line
-    end_whole h a b = rw (z, ← every-end (is_recorded lines) n v a b h)
+    end-missing (Some i) h p = cc
+    end-missing None h p = rw (told, p) (sym (add-one k))
 
--- ---- the line that is reported
-pub reported-line : (lines : List ℕ) (fault : ℕ) → (fault ≡ 0 → ⊥) → {x : ℕ} → x ≡ get_or lines (fault - 1) 0 → x ≡ reported_in lines fault
-reported-line lines zero n p = absurd (n refl)
-reported-line lines (suc v) n p = let e : suc v - 1 ≡ v = omega arith in rw e at p
-
--- ---- an area's place for a vertex
-pub within-at : {vertex : Found} {v : ℕ} {n : ℕ} → FoundBelow vertex n → vertex ≡ At v → v < n
-within-at {v = v} {n = n} w h = let l : FoundBelow (At v) n = rw h at w in l
-
-pub set-none : {A : Type 0} (l : List A) (x : A) {vertex : Found} → vertex ≡ Missing → l ≡ set_at l vertex x
-set-none l x h = rw h
-
-pub set_here : {A : Type 0} (l : List A) (x : A) {vertex : Found} {v : ℕ} {y : A} → vertex ≡ At v → y ≡ x → set l v y ≡ set_at l vertex x
-set_here l x h e = rw (h, e)
-
--- ---- the smallest vertex at fault
-module _ (nums dens : List ℕ) (vertex : Found) (s : Decimal) (far : ℕ) where
-  pub far_none : vertex ≡ Missing → far ≡ far_step nums dens vertex s far
-  far_none h = rw h
-
-  module _ {v : ℕ} (h : vertex ≡ At v) {a b : ℕ} (p : a ≡ get_or nums v 0) (q : b ≡ get_or dens v 0)
-      {t : Bool} (e : t ≡ near_within (a, b) s) where
-    tested : near_within (fraction_in nums dens v) s ≡ t
-    tested = sym (e ∙ rw (p, q))
-
-    pub far-near : t ≡ true → far ≡ far_step nums dens vertex s far
-    far-near y = rw (h, tested, y)
-
-    module _ (y : t ≡ false) where
-      pub far-first : far ≡ 0 → v + 1 ≡ far_step nums dens vertex s far
-      far-first z = rw (h, tested, y, z)
-
-      pub far-lesser : (far ≡ 0 → ⊥) → {m : ℕ} → m ≡ min far (v + 1) → m ≡ far_step nums dens vertex s far
-      far-lesser n r = r ∙ rw (h, tested, y) (by far n)
-        where
-          by : (g : ℕ) → (g ≡ 0 → ⊥) → min g (v + 1) ≡ lesser_fault g (v + 1)
-          by zero n = absurd (n refl)
-          by (suc g) n = refl
+    pub end_whole : (stray : Option ℕ) → t ≡ false → counted stray ≡ end_line lines n k (counted stray)
+    unfolding end_line
+    end_whole (Some i) p = refl
+    end_whole None p = rw (told, p)

@@ -1,9 +1,7 @@
 -- 02 "Claims in any order": which line of a claim is a vertex's, and whether its lines name "each vertex exactly once".
-use Rattle.std.specs.Prelude.{ℕ, zero, suc, ◌+◌, Bool, false, not, cond, List, [], ◌∷◌, ℤ, pos, length, get_or, take, eqb}
+use Rattle.std.specs.Prelude.{ℕ, zero, suc, ◌+◌, Bool, false, not, cond, List, [], ◌∷◌, ℤ, pos, length, get_or, take, eqb, Option, Some, None}
 use Rattle.basis.specs.Area.{column}
 use Rattle.basis.specs.Scan.{every, or_else}
-use Rattle.graph.specs.declared.find.Found.{Found}
-use Rattle.graph.specs.declared.find.Found.TheVariants.{At, Missing}
 use Rattle.matching.specs.Claim.{ids_of, claimed_of}
 
 -- the first of so many places, from i on, that fails a test, counted from 1; 0 where there is none
@@ -12,12 +10,12 @@ failing_place p zero i = 0
 failing_place p (suc n) i = cond (p i) (failing_place p n (i + 1)) (i + 1)
 
 -- what is found is vertex v
-abbrev pub is_vertex : Found → ℕ → Bool
-is_vertex (At u) v = eqb u v
-is_vertex Missing v = false
+abbrev pub is_vertex : Option ℕ → ℕ → Bool
+is_vertex (Some u) v = eqb u v
+is_vertex None v = false
 
 -- a claim's lines, by the identifiers that they name: each stands for the vertex at its place, or for none
-module _ (place : ℤ → Found) where
+module _ (place : ℤ → Option ℕ) where
   -- the first line that names vertex v, the next line being k; 0 where none does
   unfoldable pub its_line_from : ℕ → List ℤ → ℕ → ℕ
   its_line_from k [] v = 0
@@ -32,9 +30,9 @@ module _ (place : ℤ → Found) where
   has_line named v = not (eqb (its_line named v) 0)
 
   -- what is found is no "unknown or already named vertex", after these lines
-  abbrev pub is_new : List ℤ → Found → Bool
-  is_new earlier (At v) = eqb (its_line earlier v) 0
-  is_new earlier Missing = false
+  abbrev pub is_new : List ℤ → Option ℕ → Bool
+  is_new earlier (Some v) = eqb (its_line earlier v) 0
+  is_new earlier None = false
 
   -- the line at place i names a vertex that no line before it names
   unfoldable pub names_new : List ℤ → ℕ → Bool

@@ -3,8 +3,6 @@ use Rattle.std.specs.Prelude.{ℕ, zero, suc, ◌+◌, ◌<◌, ◌≤◌, min, 
 use Rattle.basis.specs.Refusal.{Said, gives, refuses}
 use Rattle.basis.specs.declared.refusal.Refusal.{Refusal}
 use Rattle.basis.specs.Scan.{every, or_else}
-use Rattle.graph.specs.declared.find.Found.{Found}
-use Rattle.graph.specs.declared.find.Found.TheVariants.{At, Missing}
 use Rattle.graph.specs.Find.{bisected}
 use Rattle.matching.specs.declared.numbers.Rule.{Rule}
 use Rattle.text.specs.declared.decimal.Decimal.{Decimal}
@@ -19,24 +17,24 @@ counted None = 0
 counted (Some i) = suc i
 
 -- what is found is a vertex that the record of claim lines has no line for, or is missing
-abbrev pub new_in : List ℕ → Found → Found
-new_in lines (At v) = cond (eqb (get_or lines v 0) 0) (At v) Missing
-new_in lines Missing = Missing
+abbrev pub new_in : List ℕ → Option ℕ → Option ℕ
+new_in lines (Some v) = cond (eqb (get_or lines v 0) 0) (Some v) None
+new_in lines None = None
 
 -- an area with x at the place that was found, if one was
-abbrev pub set_at : {A : Type 0} → List A → Found → A → List A
-set_at l (At v) x = set l v x
-set_at l Missing x = l
+abbrev pub set_at : {A : Type 0} → List A → Option ℕ → A → List A
+set_at l (Some v) x = set l v x
+set_at l None x = l
 
 -- what is found is one of n places
-abbrev pub FoundBelow : Found → ℕ → Type 0
-FoundBelow (At v) n = v < n
-FoundBelow Missing n = Unit {0}
+abbrev pub FoundBelow : Option ℕ → ℕ → Type 0
+FoundBelow (Some v) n = v < n
+FoundBelow None n = Unit {0}
 
 -- the first stray line once the line after k others has named a new vertex or none: one found before, or this where it names none
-abbrev pub stray_step : Found → ℕ → ℕ → ℕ
-stray_step (At v) k stray = stray
-stray_step Missing k stray = or_else stray (k + 1)
+abbrev pub stray_step : Option ℕ → ℕ → ℕ → ℕ
+stray_step (Some v) k stray = stray
+stray_step None k stray = or_else stray (k + 1)
 
 -- the lesser of two vertices at fault, counted from 1; the first may be 0, none
 abbrev pub lesser_fault : ℕ → ℕ → ℕ
@@ -44,9 +42,9 @@ lesser_fault zero other = other
 lesser_fault (suc v) other = min (suc v) other
 
 -- the smallest vertex at fault once a new vertex, or none, has claimed s: one found before, or this where s is not near its fraction
-abbrev pub far_step : List ℕ → List ℕ → Found → Decimal → ℕ → ℕ
-far_step nums dens (At v) s far = cond (near_within (fraction_in nums dens v) s) far (lesser_fault far (v + 1))
-far_step nums dens Missing s far = far
+abbrev pub far_step : List ℕ → List ℕ → Option ℕ → Decimal → ℕ → ℕ
+far_step nums dens (Some v) s far = cond (near_within (fraction_in nums dens v) s) far (lesser_fault far (v + 1))
+far_step nums dens None s far = far
 
 -- the record has a line for vertex v
 unfoldable pub is_recorded : List ℕ → ℕ → Bool
@@ -78,7 +76,7 @@ ReadWell (Ok (Some k)) n lines = k < 2 ^ 64 - 1
 ReadWell (Err r) n lines = Unit {0}
 
 -- the first n places of the record hold the claim lines of n vertices, which identifiers name so
-abbrev pub Maps : (ℤ → Found) → ℕ → List ℤ → List ℕ → Type 0
+abbrev pub Maps : (ℤ → Option ℕ) → ℕ → List ℤ → List ℕ → Type 0
 Maps place n named lines = (v : ℕ) → v < n → get_or lines v 0 ≡ its_line place named v
 
 -- the lines of a claim that was read whole: the first incomplete one, the claim lines of its vertices in the record, and where none is

@@ -1,5 +1,5 @@
 -- 01 "Claims and verdicts", 02 "Claims in any order" and 000, 2.4: what a claim's lines are worth beside a reference output.
-use Rattle.std.specs.Prelude.{ℕ, zero, suc, ◌+◌, Bool, cond, List, [], ◌∷◌, ℤ, pos, length, get_or, Result, Ok, Err}
+use Rattle.std.specs.Prelude.{ℕ, zero, suc, ◌+◌, Bool, cond, List, [], ◌∷◌, ℤ, pos, length, get_or, Result, Ok, Err, Option}
 use Rattle.std.specs.Bool.{beq}
 use Rattle.basis.specs.Refusal.{Said, gives, refuses, claim_file}
 use Rattle.basis.specs.declared.refusal.Refusal.{Refusal}
@@ -11,7 +11,6 @@ use Rattle.matching.specs.declared.judged.Verdict.TheVariants as V
 use Rattle.matching.specs.declared.numbers.Rule.{Rule}
 use Rattle.matching.specs.declared.numbers.Rule.TheVariants.{Exact, Equivalence}
 use Rattle.matching.specs.Close.{is_close}
-use Rattle.graph.specs.declared.find.Found.{Found}
 use Rattle.matching.specs.Claim.{ids_of}
 use Rattle.matching.specs.Cover.{failing_place, incomplete_line, in_order, reported_line}
 
@@ -97,7 +96,7 @@ verdict_of zero zero = matched
 
 -- "All lines are read for 1, 2 and 3 first": what is said of a claim on n vertices, whose identifiers stand at these places,
 -- by the smallest vertex at fault among the values in vertex order; z stands for that of a vertex without a line
-unfoldable pub judged_by : {A : Type 0} → (ℤ → Found) → ℕ → A → (List A → ℕ) → Said (List (ℤ × A)) → Said Verdict
+unfoldable pub judged_by : {A : Type 0} → (ℤ → Option ℕ) → ℕ → A → (List A → ℕ) → Said (List (ℤ × A)) → Said Verdict
 judged_by place n z mismatch (gives l) =
     gives (verdict_of (incomplete_line place n (ids_of l)) (reported_line place (ids_of l) (mismatch (in_order place z n l))))
 judged_by place n z mismatch (refuses r) = refuses r

@@ -12,7 +12,6 @@ use crate::reading::{ended, recorded, strayed};
 use basis::Refusal;
 use basis::area::clear;
 use basis::refusal::{CLAIM_FILE, NO_ROOM, TOO_MANY};
-use graph::find::Found;
 use text::Cursor;
 use text::decimal::Decimal;
 use text::line::CoefficientLine;
@@ -31,25 +30,20 @@ fn near_within(a: usize, b: usize, s: Decimal) -> bool
 fn measured(
     numerators: &[usize],
     denominators: &[usize],
-    vertex: Found,
+    vertex: Option<usize>,
     s: Decimal,
     far: Option<usize>,
 ) -> Option<usize>
     requires { (FoundBelow vertex (length numerators.now)) × (FoundBelow vertex (length denominators.now)) }
     ensures { counted result ≡ far_step numerators.now denominators.now vertex s (counted far) }
 {
-    match vertex {
-        Found::Missing => far,
-        Found::At(v) => {
-            if near_within(numerators[v], denominators[v], s) {
-                return far;
-            }
-            match far {
-                None => Some(v),
-                Some(u) => Some(u.min(v)),
-            }
-        }
+    let Some(v) = vertex else {
+        return far;
+    };
+    if near_within(numerators[v], denominators[v], s) {
+        return far;
     }
+    Some(far.map_or(v, |u| u.min(v)))
 }
 
 // All lines are read, whatever is found in them, since a fault in a later one comes first. `lines` is zero before.

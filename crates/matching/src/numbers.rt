@@ -1,5 +1,6 @@
 // A claim whose values are in identifier form, beside the reference output.
-ghost use Rattle.std.specs.Prelude.{◌≡◌, length, ◌≤◌, Ok};
+ghost use Rattle.std.specs.Prelude.{◌≡◌, length, ◌≤◌, Ok, not, position, zip};
+ghost use Rattle.basis.specs.Order.{same_z};
 ghost use Rattle.basis.specs.Refusal.{gives};
 ghost use Rattle.matching.specs.Verdict.{says, unequal_vertex, mismatch_vertex, verdict_of};
 ghost use Rattle.matching.specs.Calls.{outcome, room_in_three, numbers_call};
@@ -22,7 +23,7 @@ pub enum Rule {
 // The first vertex at which two lists differ.
 fn first_unequal(a: &[i64], b: &[i64]) -> Option<usize>
     requires { length a.now ≡ length b.now }
-    ensures { counted result ≡ unequal_vertex a.now b.now }
+    ensures { result ≡ position (λ x. not (same_z x.0 x.1)) (zip a.now b.now) }
 {
     a.iter().zip(b).position(|(x, y)| x != y)
 }
@@ -39,7 +40,11 @@ fn mismatch(rule: Rule, reference: &[i64], claimed: &[i64]) -> Option<usize>
 }
 
 // The verdict by the place of the first incomplete line and by the smallest vertex at fault, which is reported by its claim line.
-pub(crate) fn verdict_of(incomplete: Option<usize>, fault: Option<usize>, lines: &[usize]) -> Verdict
+pub(crate) fn verdict_of(
+    incomplete: Option<usize>,
+    fault: Option<usize>,
+    lines: &[usize],
+) -> Verdict
     requires { Reportable incomplete fault lines.now }
     ensures { says (Ok result) ≡ gives (verdict_of (counted incomplete) (reported_in lines.now (counted fault))) }
 {

@@ -6,36 +6,31 @@ ghost use Rattle.matching.specs.Steps.{counted, new_in, set_at, FoundBelow, stra
 
 use basis::Refusal;
 use basis::refusal::{CLAIM_FILE, TOO_MANY};
-use graph::find::{Found, find};
+use graph::find::find;
 use text::Cursor;
 use text::line::EdgeLine;
 
 // The line after k others names id: its vertex, if it is one that no earlier line names, has this claim line from now on.
-pub(crate) fn recorded(ids: &[i64], lines: &mut [usize], k: usize, id: i64) -> Found
+pub(crate) fn recorded(ids: &[i64], lines: &mut [usize], k: usize, id: i64) -> Option<usize>
     requires { (length ids.now ≤ length lines.old) × (k < 2 ^ 64 - 1) }
     ensures value { result ≡ new_in lines.old (bisected ids.now id) }
     ensures lines_after { lines.new ≡ set_at lines.old result (k + 1) }
 {
-    let found = find(ids, id);
-    match found {
-        Found::Missing => Found::Missing,
-        Found::At(v) => {
-            if lines[v] != 0 {
-                return Found::Missing;
-            }
-            lines[v] = k + 1;
-            Found::At(v)
-        }
+    let v = find(ids, id)?;
+    if lines[v] != 0 {
+        return None;
     }
+    lines[v] = k + 1;
+    Some(v)
 }
 
 // The place of the first stray line, once the line after k others has named a new vertex or none.
-pub(crate) fn strayed(vertex: Found, k: usize, stray: Option<usize>) -> Option<usize>
+pub(crate) fn strayed(vertex: Option<usize>, k: usize, stray: Option<usize>) -> Option<usize>
     ensures { counted result ≡ stray_step vertex k (counted stray) }
 {
     match vertex {
-        Found::At(_) => stray,
-        Found::Missing => stray.or(Some(k)),
+        Some(_) => stray,
+        None => stray.or(Some(k)),
     }
 }
 
@@ -52,15 +47,12 @@ pub(crate) fn ended(lines: &[usize], n: usize, k: usize, stray: Option<usize>) -
 }
 
 // A new vertex's value is kept.
-fn keep(claimed: &mut [i64], vertex: Found, value: i64)
+fn keep(claimed: &mut [i64], vertex: Option<usize>, value: i64)
     requires { FoundBelow vertex (length claimed.old) }
     ensures { claimed.new ≡ set_at claimed.old vertex value }
 {
-    match vertex {
-        Found::Missing => {}
-        Found::At(v) => {
-            claimed[v] = value;
-        }
+    if let Some(v) = vertex {
+        claimed[v] = value;
     }
 }
 

@@ -1,4 +1,5 @@
 -- The verdict on coefficients, from LCC's promise. Assumes nothing.
+use Rattle.std.specs.Prelude.{Option}
 use mathlib.Core.Path.{◌≡◌, refl, sym, ap, ap₂, ◌∙◌, subst}
 use mathlib.Core.Bool.{Bool, true, cond}
 use mathlib.Core.List.{List, [], ◌∷◌}
@@ -13,7 +14,6 @@ use Rattle.basis.specs.Refusal.{Said, gives, refuses, no_room, check}
 use Rattle.basis.specs.Area.{column, cleared, leaves}
 use Rattle.basis.proofs.Tests.{and_first, and_second, and_both}
 use Rattle.basis.proofs.Areas.{column-at, column-is, column-length}
-use Rattle.graph.specs.declared.find.Found.{Found}
 use Rattle.graph.specs.Find.{place_in, bisected}
 use Rattle.graph.specs.Sound.{Graph, outward, inward, names, sound_graph}
 use Rattle.graph.proofs.Sounds.{sound-of}
@@ -43,7 +43,7 @@ first-same p q z k (x ∷ xs) [] h = refl
 first-same p q z k (x ∷ xs) (y ∷ ys) h =
     ap₂ (λ (t : Bool) (l : ℕ). cond t l k) (h 0 (omega arith) y) (first-same p q z (k + 1) xs ys (λ i l. h (suc i) (omega arith)))
 
-judged-same : {A : Type 0} (place : ℤ → Found) (n : ℕ) (z : A) (f g : List A → ℕ) (x : Said (List (ℤ × A))) → ((l : List A) → f l ≡ g l)
+judged-same : {A : Type 0} (place : ℤ → Option ℕ) (n : ℕ) (z : A) (f g : List A → ℕ) (x : Said (List (ℤ × A))) → ((l : List A) → f l ≡ g l)
     → judged_by place n z f x ≡ judged_by place n z g x
 unfolding judged_by
 judged-same place n z f g (gives l) h =
@@ -131,7 +131,7 @@ module _ (g : Graph) (F S W : List ℕ) {a : Said (Unit {0})} {F' S' W' : List �
     says_same =
         then_same a
         (λ d. ap (λ (x : Said Verdict). check room no_room x)
-        (ap₂ (λ (l : List Fraction) (f : ℤ → Found). judged_by f (length (names g)) no_decimal (far_within l) (coefficient_lines most s))
+        (ap₂ (λ (l : List Fraction) (f : ℤ → Option ℕ). judged_by f (length (names g)) no_decimal (far_within l) (coefficient_lines most s))
         (fractions-are g F' S' (ran-front upper-ran d) (ran-front lower-ran d))
         (same-places (names g) (sound-of g (ran-fine upper-ran d).is_sound).ids_rise)
         ∙ judged-same (place_in (names g)) (length (names g)) no_decimal (far_within (coefficients g)) (far_vertex (coefficients g))

@@ -1,4 +1,5 @@
 -- Each kernel's run, from its promise. Assumes nothing.
+use Rattle.std.specs.Prelude.{Option, Some, None}
 use mathlib.Core.Path.{◌≡◌, refl, ap, ◌∙◌}
 use mathlib.Core.Bool.{Bool, true}
 use mathlib.Core.List.{List}
@@ -11,8 +12,6 @@ use Rattle.basis.specs.Refusal.{Said}
 use Rattle.basis.specs.Area.{cleared}
 use Rattle.basis.proofs.Tests.{clash, and_first, and_both}
 use Rattle.basis.proofs.Areas.{column-length}
-use Rattle.graph.specs.declared.find.Found.{Found}
-use Rattle.graph.specs.declared.find.Found.TheVariants.{At, Missing}
 use Rattle.graph.specs.Find.{place_in, is_there}
 use Rattle.graph.specs.Sound.{Graph, outward, names, sound_graph}
 use Rattle.graph.proofs.Sounds.{sound-of}
@@ -30,9 +29,9 @@ use Rattle.verdicts.specs.Steps.{Known, Roomy, Numbers, numbers_on, numbers_verd
 use Rattle.verdicts.proofs.Running.{Ran, ran-known, ran-roomy, numbers-verdict}
 
 -- ---- BFS
-pub bfs-length : (g : Graph) (p : Found) → is_there p ≡ true → length (bfs.depths_from g p) ≡ g.vertices
-bfs-length g (At root) e = column-length (depth_of g.vertices (outward g) root) 0 g.vertices
-bfs-length g Missing e = clash e refl
+pub bfs-length : (g : Graph) (p : Option ℕ) → is_there p ≡ true → length (bfs.depths_from g p) ≡ g.vertices
+bfs-length g (Some root) e = column-length (depth_of g.vertices (outward g) root) 0 g.vertices
+bfs-length g None e = clash e refl
 
 module _ (g : Graph) (root : ℤ) {root' : ℤ} (p : root' ≡ root) (R : List ℤ) (F : List ℕ) {a : Said (Unit {0})} {R' : List ℤ} {F' : List ℕ}
     (e : bfs.outcome a R' F' ≡ bfs.bfs_call g root' R F) where

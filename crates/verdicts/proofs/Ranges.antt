@@ -1,4 +1,5 @@
 -- Each kernel's results are in the range of an identifier, if the identifiers are. Assumes nothing.
+use Rattle.std.specs.Prelude.{Option, Some, None}
 use mathlib.Core.Bool.{Bool, true, false, cond}
 use mathlib.Core.List.{List, [], ◌∷◌}
 use Prim.Native.Nat.{ℕ, zero, suc, ◌≤◌, ◌<◌}
@@ -12,8 +13,6 @@ use mir.Val.{SFits}
 use Rattle.basis.specs.Limits.{most_vertices}
 use Rattle.basis.specs.Area.{column}
 use Rattle.basis.specs.Order.{same_z}
-use Rattle.graph.specs.declared.find.Found.{Found}
-use Rattle.graph.specs.declared.find.Found.TheVariants.{At, Missing}
 use Rattle.graph.specs.Sound.{Graph, outward, inward, names}
 use Rattle.bfs.specs.Depth.{ring_depth, depth_of}
 use Rattle.bfs.specs.Call.{depths_from}
@@ -39,11 +38,11 @@ fit-column f h s (suc n) = (h s, fit-column f h (suc s) n)
 depth-fits : (n k : ℕ) → n ≤ most_vertices → SFits w64 (ring_depth n k)
 depth-fits n k h = depth-cases (SFits w64) n k (λ l. fit_small k (omega arith)) (fit_small 9223372036854775807 (omega arith))
 
-pub bfs-fits : (g : Graph) → g.vertices ≤ most_vertices → (place : Found) → AllFit (depths_from g place)
+pub bfs-fits : (g : Graph) → g.vertices ≤ most_vertices → (place : Option ℕ) → AllFit (depths_from g place)
 unfolding depth_of
-bfs-fits g h (At root) =
+bfs-fits g h (Some root) =
     fit-column (depth_of g.vertices (outward g) root) (λ v. depth-fits g.vertices _ h) 0 g.vertices
-bfs-fits g h Missing = tt
+bfs-fits g h None = tt
 
 -- ---- CDLP: a label is one of those before it
 standing-fits : (k : ℕ) (ls cs : List ℤ) → AllFit cs → AllFit (standing same_z k ls cs)

@@ -1,4 +1,5 @@
 -- What a kernel's run leaves for the verdict, for any kernel; and that the verdict then is the definition's. Assumes nothing.
+use Rattle.std.specs.Prelude.{Option}
 use mathlib.Core.Path.{◌≡◌, refl, sym, ap, ap₂, ◌∙◌}
 use mathlib.Core.Bool.{Bool, true, false}
 use mathlib.Core.List.{List}
@@ -12,7 +13,6 @@ use Rattle.basis.proofs.Tests.{clash}
 use Rattle.basis.proofs.Areas.{pad-length}
 use Rattle.basis.proofs.Saids.{refused-given}
 use Rattle.basis.specs.Order.{rising_z}
-use Rattle.graph.specs.declared.find.Found.{Found}
 use Rattle.graph.specs.Find.{place_in, bisected}
 use Rattle.kernels.specs.Answer.{kernel_says}
 use Rattle.matching.specs.declared.numbers.Rule.{Rule}
@@ -119,7 +119,7 @@ module _ (k : Reference) {n : ℕ} (ids : List ℤ) {sound own : Bool} (R : List
   unfolding numbers_says verdict_says
   says_same =
       then_same answer
-      (λ e. ap₂ (λ (l : List ℤ) (f : ℤ → Found). check room no_room
+      (λ e. ap₂ (λ (l : List ℤ) (f : ℤ → Option ℕ). check room no_room
       (judged_by f (length (take n ids)) (pos 0) (mismatch_vertex rule l) (number_lines most s)))
       (ran-front h e) (same-places (take n ids) (rises (ran-fine h e).is_sound)))
       ∙ rw (h.said, ← q) (says-rooms sound k.given k.number own room k.judged r)

@@ -1,8 +1,9 @@
 use Rattle.basis.proofs.Areas.{cleared-again}
 use Rattle.matching.proofs.FirstPlaces.{room-first, room-second, room-third}
+use native.Mathlib.Omega.{arith}
 use lib.Seq.{length-take-le}
 use mathlib.Core.Path.{sym}
-use Rattle.matching.proofs.Judging.{judge-short, judge-kept, judge-lengths, judge-wide, judge-done}
+use Rattle.matching.proofs.Judging.{judge-short, judge-kept, judge-lengths, judge-wide, judge-well, judge-done}
 use Rattle.matching.proofs.numbers.judge_numbers.Goals as goal
 
 pub returns-then-not-has_room : goal.returns-then-not-has_room
@@ -31,7 +32,10 @@ judged_on-judged-requires c =
     let e = c.has_room.ensures in
     let f = c.if-not-has_room.false in
     let h = c.read_numbers-read.ensures in
-    (judge-lengths _ _ a _ _ _ e f _ _ _ h, judge-wide _ _ a _ _ _ e f _ _ _ h)
+    record {
+      same_size = (judge-lengths _ _ a _ _ _ e f _ _ _ h, judge-wide _ _ a _ _ _ e f _ _ _ h);
+      well_read = judge-well _ _ a _ _ _ e f _ _ _ h (omega arith);
+    }
 
 pub returns : goal.returns
 returns c = search judge-done

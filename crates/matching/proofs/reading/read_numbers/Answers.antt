@@ -25,8 +25,8 @@ keep-requires c =
 pub loop-k-preserved : goal.loop-k-preserved
 loop-k-preserved c = search (numbers-next, rules)
 
-pub returns-then-at-claim : goal.returns-then-at-claim
-returns-then-at-claim c = search numbers-over
+pub returns-then-cursor-claim : goal.returns-then-cursor-claim
+returns-then-cursor-claim c = search numbers-over
 
 pub returns : goal.returns
 returns c = search numbers-full
