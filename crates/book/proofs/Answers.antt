@@ -9,90 +9,70 @@ use lib.ListN.{take}
 use Rattle.basis.proofs.Tests.{no-case}
 use Rattle.basis.proofs.Saids.{one_of, refused-given, given-one}
 use Rattle.basis.specs.declared.refusal.Refusal.{Refusal}
-use Rattle.basis.specs.Refusal.{Said, gives, refuses, plain, no_room, onward}
-use Rattle.book.specs.declared.Opened.{Opened}
-use Rattle.book.specs.declared.Joined.{Joined}
-use Rattle.book.specs.declared.JoinedEach.{JoinedEach}
-use Rattle.book.specs.declared.Headed.{Headed}
-use Rattle.book.specs.declared.Compared.{Compared}
-use Rattle.book.specs.declared.Reading.{Reading}
+use Rattle.basis.specs.Refusal.{Said, gives, refuses, plain, no_room, said, onward, mapped}
+use Rattle.std.specs.Prelude.{Result, Ok, Err}
+use Rattle.book.specs.declared.joining.Joining as Code
+use Rattle.book.specs.declared.joining.Stopped.{Stopped}
+use Rattle.book.specs.declared.Head.{Head}
 use Rattle.book.specs.Rules.{WalkEnd, Heads, Step, already, merge, Joining, merged, same, Machine, Outcome}
 use Rattle.book.specs.Rules.{outcome, heads_of, link_heads, decide, open_book, write_book, join_book, Each}
 use Rattle.book.specs.Rules.{all, stopped, EachOutcome, each_outcome, counted, behind, and_on, join_each}
-use Rattle.book.specs.Says.{says_opened, says_joined, says_joined_each, says_headed, says_compared, says_reading}
+use Rattle.book.specs.Says.{says_opened, as_joining, as_end, says_joined, says_joined_each, says_headed, says_compared, says_reading}
 use Rattle.book.proofs.Calls.{heads-inside}
 use Rattle.book.proofs.Joins.{link-already}
 
 -- ---- two answers that say the same are the same: what is said leads back to the answer
-abbrev opened : Said (Unit {0}) → Opened
-opened (gives x) = Opened.Ready
-opened (refuses r) = Opened.Refused r
+module _ {A B : Type 0} (there : A → B) (back : B → A) (known : (a : A) → back (there a) ≡ a) where
+  abbrev answered : Said B → Result A Refusal
+  answered (gives x) = Ok (back x)
+  answered (refuses r) = Err r
 
-opened-back : (a : Opened) → opened (says_opened a) ≡ a
-opened-back Opened.Ready = refl
-opened-back (Opened.Refused r) = refl
+  answered-back : (a : Result A Refusal) → answered (mapped there (said a)) ≡ a
+  answered-back (Ok x) = ap Ok (known x)
+  answered-back (Err r) = refl
 
-pub one-opened : (a b : Opened) → says_opened a ≡ says_opened b → a ≡ b
-one-opened = one_of says_opened opened opened-back
+  one-answer : (a b : Result A Refusal) → mapped there (said a) ≡ mapped there (said b) → a ≡ b
+  one-answer = one_of (λ a. mapped there (said a)) answered answered-back
 
-abbrev joined : Said Joining → Joined
-joined (gives merged) = Joined.Merged
-joined (gives same) = Joined.Already
-joined (refuses r) = Joined.Refused r
+one_said : {A : Type 0} (a b : Result A Refusal) → said a ≡ said b → a ≡ b
+one_said (Ok x) (Ok y) e = ap Ok (given-one e)
+one_said (Ok x) (Err r) e = refused-given (sym e)
+one_said (Err r) (Ok y) e = refused-given e
+one_said (Err r) (Err q) e = cc
 
-joined_back : (a : Joined) → joined (says_joined a) ≡ a
-joined_back Joined.Merged = refl
-joined_back Joined.Already = refl
-joined_back (Joined.Refused r) = refl
+pub one-opened : (a b : Result (Unit {0}) Refusal) → says_opened a ≡ says_opened b → a ≡ b
+one-opened = one_said
 
-pub one-joined : (a b : Joined) → says_joined a ≡ says_joined b → a ≡ b
-one-joined = one_of says_joined joined joined_back
+abbrev joining : Joining → Code.Joining
+joining merged = Code.Joining.Merged
+joining same = Code.Joining.Already
 
-abbrev joined_each : Each → JoinedEach
-joined_each (all merges) = JoinedEach.All merges
-joined_each (stopped joined merges r) = JoinedEach.Stopped joined merges r
+joining-back : (j : Code.Joining) → joining (as_joining j) ≡ j
+joining-back Code.Joining.Merged = refl
+joining-back Code.Joining.Already = refl
 
-joined_each-back : (a : JoinedEach) → joined_each (says_joined_each a) ≡ a
-joined_each-back (JoinedEach.All merges) = refl
-joined_each-back (JoinedEach.Stopped joined merges r) = refl
+pub one-joined : (a b : Result Code.Joining Refusal) → says_joined a ≡ says_joined b → a ≡ b
+one-joined = one-answer as_joining joining joining-back
 
-pub one-joined_each : (a b : JoinedEach) → says_joined_each a ≡ says_joined_each b → a ≡ b
+abbrev joined_each : Each → Result ℕ Stopped
+joined_each (all merges) = Ok merges
+joined_each (stopped joined merges r) = Err (record { joined = joined; merges = merges; refusal = r })
+
+joined_each-back : (a : Result ℕ Stopped) → joined_each (says_joined_each a) ≡ a
+joined_each-back (Ok merges) = refl
+joined_each-back (Err s) = refl
+
+pub one-joined_each : (a b : Result ℕ Stopped) → says_joined_each a ≡ says_joined_each b → a ≡ b
 one-joined_each = one_of says_joined_each joined_each joined_each-back
 
-abbrev headed : Said WalkEnd → Headed
-headed (gives f) = Headed.Head f.head f.moves
-headed (refuses r) = Headed.Refused r
+pub one-headed : (a b : Result Head Refusal) → says_headed a ≡ says_headed b → a ≡ b
+one-headed = one-answer as_end (λ f. record { head = f.head; moves = f.moves }) (λ h. refl)
 
-headed-back : (a : Headed) → headed (says_headed a) ≡ a
-headed-back (Headed.Head h moves) = refl
-headed-back (Headed.Refused r) = refl
+pub one-compared : (a b : Result Bool Refusal) → says_compared a ≡ says_compared b → a ≡ b
+one-compared = one_said
 
-pub one-headed : (a b : Headed) → says_headed a ≡ says_headed b → a ≡ b
-one-headed = one_of says_headed headed headed-back
-
-abbrev compared : Said Bool → Compared
-compared (gives true) = Compared.Together
-compared (gives false) = Compared.Apart
-compared (refuses r) = Compared.Refused r
-
-compared-back : (a : Compared) → compared (says_compared a) ≡ a
-compared-back Compared.Together = refl
-compared-back Compared.Apart = refl
-compared-back (Compared.Refused r) = refl
-
-pub one-compared : (a b : Compared) → says_compared a ≡ says_compared b → a ≡ b
-one-compared = one_of says_compared compared compared-back
-
-abbrev reading : Said ℕ → Reading
-reading (gives k) = Reading.Value k
-reading (refuses r) = Reading.Refused r
-
-reading-back : (a : Reading) → reading (says_reading a) ≡ a
-reading-back (Reading.Value k) = refl
-reading-back (Reading.Refused r) = refl
-
-pub one-reading : (a b : Reading) → says_reading a ≡ says_reading b → a ≡ b
-one-reading = one_of says_reading reading reading-back
+pub one-reading : (a b : Result ℕ Refusal) → says_reading a ≡ says_reading b → a ≡ b
+one-reading = one_said
 
 -- ---- "Refused book calls change nothing"
 module _ (M : Machine) (a : M.Area) where

@@ -10,9 +10,6 @@ use lib.Dec.{eqb}
 use lib.Pow.{pow_mono, pow_pos}
 use borrow.Author.Tests.{eq-eqb, ne_eqb}
 use Rattle.basis.specs.Limits.{most_vertices}
-use Rattle.book.specs.declared.Headed.{Headed}
-use Rattle.book.specs.declared.Pair.{Pair}
-use Rattle.book.specs.declared.Reading.{Reading}
 use Rattle.basis.specs.Refusal.{gives, refuses, plain, not_there, onward}
 use Rattle.book.specs.Rules.{most_moves, stop, View, walk_end, heads, Step, already, merge}
 use Rattle.book.specs.Rules.{Machine, walk_from, head_of, pair, heads_of, same_group}
@@ -82,19 +79,19 @@ module _ (n : ℕ) (w : View) (js : List Slip) (m : ℕ) (S : Sound n w js m) wh
   heads-answer u v k l = heads-walks w u v S.fit (in_area u k) (in_area v l) ∙ ap₂ pair (walk_is u k) (walk_is v l)
 
   pub same_answer : (u v : ℕ) → u < n → v < n → same_group w u v ≡ gives (eqb (S.forest.head u) (S.forest.head v))
-  same_answer u v k l = sym (same-is w u v (Pair.Heads (S.forest.head u) (S.forest.head v)) (sym (heads-answer u v k l)) _ _ refl)
+  same_answer u v k l = sym (same-is w u v (S.forest.head u) (S.forest.head v) (sym (heads-answer u v k l)))
 
   pub size-answer : (v : ℕ) → v < n → group_size w v ≡ gives (w.size (S.forest.head v))
   size-answer v l =
-      sym (size_is w v (Headed.Head (S.forest.head v) (S.forest.depth v)) (sym (head-answer v l)) _ _ refl (size-pos v l) (size-le v l))
+      sym (size_is w v (S.forest.head v) (S.forest.depth v) (sym (head-answer v l)) (size-pos v l) (size-le v l))
 
   pub limit-answer : (v : ℕ) → v < n → step_limit w v ≡ gives (largest most_moves (w.size (S.forest.head v)))
-  limit-answer v l = sym (limit_is w v (Reading.Value (w.size (S.forest.head v))) (sym (size-answer v l)) _ refl _ refl)
+  limit-answer v l = sym (limit_is w v (w.size (S.forest.head v)) (sym (size-answer v l)) _ refl)
 
   pub count-answer : group_count w ≡ gives (n - m)
   count-answer =
       let e : tally (λ v. is_stop (w.next v)) n ≡ n - m = omega (arith, S.forest.counted) in
-      sym (count-is w true (sym S.fit) n (n - m) refl (omega (arith, S.count)) (omega (arith, S.count)) (sym e))
+      sym (count-is w true (sym S.fit) (n - m) refl (rw S.count (sym e)))
 
   pub linked-iff : (u v : ℕ) → u < n → v < n → (S.forest.head u ≡ S.forest.head v) ↔ Linked (Accepted js) u v
   linked-iff u v k l = (
@@ -110,7 +107,7 @@ module _ (n : ℕ) (w : View) (js : List Slip) (m : ℕ) (S : Sound n w js m) wh
 -- ---- a join
 
 above-true : (a b g h : ℕ) → above a b g h ≡ true → b ≤ a
-above-true a b g h e = elim (dec_lt a b) [ yes l ↦ clash e (sym (above-smaller a b g h (omega arith) l)) | no l ↦ omega arith ]
+above-true a b g h e = elim (dec_lt a b) [ yes l ↦ clash e (sym (above-smaller a b g h (omega arith) (λ e. omega arith))) | no l ↦ omega arith ]
 
 above-false : (a b g h : ℕ) → above a b g h ≡ false → a ≤ b
 above-false a b g h e = elim (dec_lt b a) [ yes l ↦ clash (sym (above-larger a b g h l)) e | no l ↦ omega arith ]

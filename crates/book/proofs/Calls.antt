@@ -2,25 +2,18 @@
 use mathlib.Core.Path.{◌≡◌, refl, sym, ap, ap₂, ◌∙◌}
 use mathlib.Core.Bool.{Bool, true, false, ◌&&◌}
 use mathlib.Core.Logic.{◌⊎◌, inl, inr}
-use Prim.Native.Nat.{ℕ, suc, ◌+◌, ◌≤◌, ◌<◌}
+use Prim.Native.Nat.{ℕ, ◌≤◌, ◌<◌}
 use native.Mathlib.Omega.{arith}
 use native.Mathlib.Decide.{dec_lt}
-use native.Mathlib.Numerals.{add-one}
 use lib.Dec.{leb, ltb, eqb}
-use borrow.Author.Tests.{ltb-true, leb-true, lt-ltb, le-ltb, le-leb, lt-leb, eq-eqb, ne_eqb}
+use borrow.Author.Tests.{ltb-true, leb-true, lt-ltb, le-ltb, le-leb, lt-leb}
 use Rattle.basis.proofs.Saids.{refused-given, given-one, check-on, check-off, check-passed, onward-passed}
 use Rattle.basis.specs.declared.refusal.Refusal.{Refusal}
 use Rattle.basis.specs.Refusal.{Said, gives, refuses, plain, no_room, unsound, not_there, onward}
 use Rattle.basis.proofs.Tests.{and_first, and_second, and_both, and-off, failed, held}
-use Rattle.book.specs.declared.Headed.{Headed}
-use Rattle.book.specs.declared.Pair.{Pair}
-use Rattle.book.specs.declared.Reading.{Reading}
-use Rattle.book.specs.Rules.{most_moves, Next, stop, View, WalkEnd, walk_end, Heads, heads, walk_from, head_of, pair, heads_of, one_head}
+use Rattle.book.specs.Rules.{most_moves, stop, View, WalkEnd, walk_end, Heads, heads, walk_from, head_of, pair, heads_of, one_head}
 use Rattle.book.specs.Rules.{same_group, size_at, group_size, tally, is_stop, group_count, largest, limit_of, step_limit}
-use Rattle.book.specs.Says.{says_headed, says_reading}
-use Rattle.book.specs.Steps.{says_pair}
 use Rattle.book.proofs.Walks.{walk_from-in}
-use Rattle.book.proofs.Tally.{tally-yes, tally-no}
 
 -- ---- the head
 module _ (w : View) (v : ℕ) where
@@ -128,32 +121,24 @@ module _ (w : View) (u v : ℕ) where
       go (inr l) (yes y) = heads-missing2 true (sym f) (plain not_there) refl y (omega (arith, c)) refl
 
   -- ---- whether two are of one group
-  module _ (r : Pair) (e : says_pair r ≡ heads_of w u v) where
-    pub same-refused : (x : Refusal) → r ≡ Pair.Refused x → refuses x ≡ same_group w u v
-    unfolding same_group
-    same-refused x f = ap (λ s. onward s one_head) (sym (ap says_pair f) ∙ e)
+  pub same-refused : (x : Refusal) → refuses x ≡ heads_of w u v → refuses x ≡ same_group w u v
+  unfolding same_group
+  same-refused x e = ap (λ s. onward s one_head) e
 
-    module _ (g h : ℕ) (f : r ≡ Pair.Heads g h) where
-      pub same-is : gives (eqb g h) ≡ same_group w u v
-      unfolding same_group
-      same-is = ap (λ s. onward s one_head) (sym (ap says_pair f) ∙ e)
-
-      pub same-yes : g ≡ h → gives true ≡ same_group w u v
-      same-yes q = ap gives (sym (eq-eqb g h q)) ∙ same-is
-
-      pub same-no : (g ≡ h → ⊥) → gives false ≡ same_group w u v
-      same-no q = ap gives (sym (ne_eqb g h q)) ∙ same-is
+  pub same-is : (g h : ℕ) → gives (heads g h) ≡ heads_of w u v → gives (eqb g h) ≡ same_group w u v
+  unfolding same_group
+  same-is g h e = ap (λ s. onward s one_head) e
 
 -- ---- the size
 module _ (w : View) (v : ℕ) where
-  pub size-refused : (r : Headed) (x : Refusal) → says_headed r ≡ head_of w v → r ≡ Headed.Refused x → refuses x ≡ group_size w v
+  pub size-refused : (x : Refusal) → refuses x ≡ head_of w v → refuses x ≡ group_size w v
   unfolding group_size
-  size-refused r x e f = ap (λ s. onward s (size_at w)) (sym (ap says_headed f) ∙ e)
+  size-refused x e = ap (λ s. onward s (size_at w)) e
 
-  module _ (r : Headed) (e : says_headed r ≡ head_of w v) (h k : ℕ) (f : r ≡ Headed.Head h k) where
+  module _ (h k : ℕ) (e : gives (walk_end h k) ≡ head_of w v) where
     size-at : group_size w v ≡ size_at w (walk_end h k)
     unfolding group_size
-    size-at = ap (λ s. onward s (size_at w)) (sym e ∙ ap says_headed f)
+    size-at = ap (λ s. onward s (size_at w)) (sym e)
 
     pub size-large : (x : Refusal) → w.count < w.size h → x ≡ plain unsound → refuses x ≡ group_size w v
     size-large x a p =
@@ -166,7 +151,7 @@ module _ (w : View) (v : ℕ) where
     -- the head that is read is one, in the area
     pub size_below : (w.fit ≡ true) × (h < w.count) × (w.next h ≡ stop)
     size_below =
-        let t = head-inside w v (walk_end h k) (sym e ∙ ap says_headed f) in
+        let t = head-inside w v (walk_end h k) (sym e) in
         let b = walk_from-in w.next w.count v (walk_end h k) t.1 t.2 in
         (t.0, b.0, b.1)
 
@@ -184,34 +169,24 @@ module _ (w : View) (v : ℕ) where
       )
 
   -- ---- the step limit
-  module _ (r : Reading) (e : says_reading r ≡ group_size w v) where
-    pub limit-refused : (x : Refusal) → r ≡ Reading.Refused x → refuses x ≡ step_limit w v
+  pub limit-refused : (x : Refusal) → refuses x ≡ group_size w v → refuses x ≡ step_limit w v
+  unfolding step_limit
+  limit-refused x e = ap (λ s. onward s limit_of) e
+
+  module _ (s : ℕ) (e : gives s ≡ group_size w v) where
+    pub limit_is : (k : ℕ) → k ≡ largest most_moves s → gives k ≡ step_limit w v
     unfolding step_limit
-    limit-refused x f = ap (λ s. onward s limit_of) (sym (ap says_reading f) ∙ e)
+    limit_is k a = ap gives a ∙ ap (λ s. onward s limit_of) e
 
-    module _ (s : ℕ) (f : r ≡ Reading.Value s) where
-      pub limit_is : (k : ℕ) → k ≡ largest most_moves s → gives k ≡ step_limit w v
-      unfolding step_limit
-      limit_is k a = ap gives a ∙ ap (λ s. onward s limit_of) (sym (ap says_reading f) ∙ e)
+    pub limit-size : (w.fit ≡ true) × (0 < s) × (s ≤ w.count)
+    limit-size = size-inside s (sym e)
 
-      pub limit-size : (w.fit ≡ true) × (0 < s) × (s ≤ w.count)
-      limit-size = size-inside s (sym e ∙ ap says_reading f)
-
--- ---- the count: t says whether i is a head
-module _ (next : ℕ → Next) (i : ℕ) (t : Bool) (e : t ≡ is_stop (next i)) where
-  pub count_head : t ≡ true → tally (λ v. is_stop (next v)) (i + 1) ≡ suc (tally (λ v. is_stop (next v)) i)
-  count_head h = rw add-one (tally-yes (λ v. is_stop (next v)) i (sym e ∙ h))
-
-  pub count-other : t ≡ false → tally (λ v. is_stop (next v)) (i + 1) ≡ tally (λ v. is_stop (next v)) i
-  count-other h = rw add-one (tally-no (λ v. is_stop (next v)) i (sym e ∙ h))
-
+-- ---- the count
 module _ (w : View) (t : Bool) (e : t ≡ w.fit) where
   pub count-unlent : (x : Refusal) → t ≡ false → x ≡ plain no_room → refuses x ≡ group_count w
   unfolding group_count
   count-unlent x f p = ap refuses p ∙ sym (check-off w.fit no_room _ (failed t _ e f))
 
-  pub count-is : (i k : ℕ) → t ≡ true → w.count ≤ i → i ≤ w.count → k ≡ tally (λ v. is_stop (w.next v)) i → gives k ≡ group_count w
+  pub count-is : (k : ℕ) → t ≡ true → k ≡ tally (λ v. is_stop (w.next v)) w.count → gives k ≡ group_count w
   unfolding group_count
-  count-is i k f a b p =
-      let q : i ≡ w.count = omega arith in
-      sym (check-on w.fit no_room _ (held t _ e f) ∙ ap gives (sym (p ∙ ap (tally (λ v. is_stop (w.next v))) q)))
+  count-is k f p = sym (check-on w.fit no_room _ (held t _ e f) ∙ ap gives (sym p))

@@ -1,29 +1,26 @@
 -- Laws of the joins of one vertex with each of a list, for each `return` of the code and for a turn of its loop. Assumes nothing.
 use mathlib.Core.Path.{◌≡◌, refl, sym, ap, ap₂, ◌∙◌, subst}
 use mathlib.Core.List.{List, [], ◌∷◌}
-use mathlib.Core.Bool.{Bool, true, false, cond}
+use mathlib.Core.Bool.{Bool, true, false}
 use mathlib.Core.Logic.{inl, inr}
 use Prim.Native.Nat.{ℕ, suc, ◌+◌, ◌*◌, ◌/◌, ◌%◌, ◌≤◌, ◌<◌}
 use native.Mathlib.Omega.{arith}
 use native.Mathlib.Numerals.{add-one}
 use lib.IntN.{ℤ}
 use lib.ListN.{length, get_or, drop, drop_of_length-le}
-use lib.Dec.{leb, eqb}
+use lib.Dec.{leb}
 use lib.Seq.{drop-cons}
-use borrow.Author.Tests.{le-leb}
+use borrow.Author.Tests.{le-leb, eq-eqb, ne_eqb}
+use Rattle.std.specs.Prelude.{◌==◌, Result, Ok, Option, Some, None}
 use Rattle.basis.specs.Limits.{most_vertices}
 use Rattle.basis.specs.declared.refusal.Refusal.{Refusal}
-use Rattle.basis.specs.Refusal.{Said, gives, refuses, plain, no_room, not_there, unsound, onward, check}
+use Rattle.basis.specs.Refusal.{Said, gives, refuses, plain, no_room, not_there, unsound, onward}
 use Rattle.basis.proofs.Tests.{clash, no-case}
-use Rattle.book.specs.declared.Joined.{Joined}
-use Rattle.book.specs.declared.Pair.{Pair}
-use Rattle.book.specs.declared.joining.Carried.{Carried}
 use Rattle.book.specs.Rules.{most_moves, Next, stop, is_stop, heads, Step, already, merge, Joining, merged, same, Machine, Outcome}
-use Rattle.book.specs.Rules.{outcome, mergeable, merge_heads, walk_from, heads_of, link_heads, decide, write_book}
+use Rattle.book.specs.Rules.{outcome, walk_from, heads_of, link_heads, decide, write_book}
 use Rattle.book.specs.Rules.{join_book, Each, all, stopped, EachOutcome, each_outcome, counted, behind, and_on, join_each}
 use Rattle.book.specs.One.{next_here, one, one_book}
-use Rattle.book.specs.Says.{says_joined}
-use Rattle.book.specs.Steps.{says_walked, says_pair, AtHead, link_one, Walking, says_carried, carried_on}
+use Rattle.book.specs.Steps.{says_walked, AtHead, link_one, Walking, says_carried, carried_on}
 use Rattle.basis.proofs.Saids.{refused-given, given-one}
 use Rattle.book.proofs.Calls.{heads-unlent, heads-missing, heads-missing2}
 use Rattle.book.proofs.Faithful.{Mergeable}
@@ -48,22 +45,25 @@ module _ (M : Machine) (a : M.Area) (u : ℕ) where
 
 -- ---- the code's `join_each`
 module _ (xs : List ℤ) (u : ℕ) (t : Bool) (e : t ≡ leb (length xs) most_vertices) where
-  module _ (ws : List ℕ) (k : length ws ≡ 0 → ⊥) (x : Refusal) where
-    pub each-unlent : t ≡ false → x ≡ plain no_room → each_outcome (stopped 0 0 x) xs ≡ join_each one_book xs u ws
-    unfolding one
-    each-unlent f p = each-lost one_book xs u x (λ w. join-lost one_book xs u w x (heads-unlent (one xs) u w t e x f p)) ws k
+  module _ (ws : List ℕ) (k : false ≡ (length ws == 0)) where
+    some : length ws ≡ 0 → ⊥
+    some z = clash (eq-eqb (length ws) 0 z) (sym k)
 
-    pub each-missing : t ≡ true → length xs ≤ u → x ≡ plain not_there → each_outcome (stopped 0 0 x) xs ≡ join_each one_book xs u ws
+    pub each-unlent : t ≡ false → each_outcome (stopped 0 0 (plain no_room)) xs ≡ join_each one_book xs u ws
     unfolding one
-    each-missing f l p = each-lost one_book xs u x (λ w. join-lost one_book xs u w x (heads-missing (one xs) u w t e x f l p)) ws k
+    each-unlent f = each-lost one_book xs u _ (λ w. join-lost one_book xs u w _ (heads-unlent (one xs) u w t e _ f refl)) ws some
+
+    pub each-missing : t ≡ true → length xs ≤ u → each_outcome (stopped 0 0 (plain not_there)) xs ≡ join_each one_book xs u ws
+    unfolding one
+    each-missing f l = each-lost one_book xs u _ (λ w. join-lost one_book xs u w _ (heads-missing (one xs) u w t e _ f l refl)) ws some
 
   pub walking_start : (at : ℕ) → t ≡ true → u < length xs → says_walked at ≡ walk_from (next_here xs) (length xs) u → Walking xs u at
   walking_start at f l p = record { lent = lent-within (length xs) t e f; inside = l; walk = p }
 
-pub each_none : (xs : List ℤ) (u : ℕ) (ws : List ℕ) → length ws ≡ 0 → each_outcome (all 0) xs ≡ join_each one_book xs u ws
+pub each_none : (xs : List ℤ) (u : ℕ) (ws : List ℕ) → true ≡ (length ws == 0) → each_outcome (all 0) xs ≡ join_each one_book xs u ws
 unfolding join_each
 each_none xs u [] e = refl
-each_none xs u (w ∷ ws) e = absurd (omega arith)
+each_none xs u (w ∷ ws) e = clash (sym e) (ne_eqb (suc (length ws)) 0 (λ z. omega arith))
 
 -- series behind series
 pub behind-none : {B : Type 0} (e : EachOutcome B) → behind 0 0 e ≡ e
@@ -98,40 +98,45 @@ module _ (a : EachOutcome (List ℤ)) (b : List ℤ) (u : ℕ) (ws : List ℕ) (
       ap (λ (k : ℕ). each_outcome (all k) b) p ∙ ap (λ (x : List ℕ). behind i m (join_each one_book b u x)) (sym (drop_of_length-le ws l))
       ∙ f
 
-  module _ (l : i < length ws) (c : List ℤ) (r : Carried) (e : outcome (says_carried r) c ≡ join_book one_book b u (get_or ws i 0)) where
-    turned : (s : Said Joining) → says_carried r ≡ s → behind i m (and_on s c (join_each one_book c u (drop (i + 1) ws))) ≡ a
+  module _ (l : i < length ws) (c : List ℤ) where
+    turned : (s : Said Joining) → outcome s c ≡ join_book one_book b u (get_or ws i 0)
+        → behind i m (and_on s c (join_each one_book c u (drop (i + 1) ws))) ≡ a
     unfolding join_each
-    turned s q =
-        rw add-one (ap (λ (x : Said Joining). behind i m (and_on x c (join_each one_book c u (drop (suc i) ws)))) (sym q)
-        ∙ ap (λ (d : Outcome Joining (List ℤ)). behind i m (and_on d.said d.area (join_each one_book d.area u (drop (suc i) ws)))) e
+    turned s e =
+        rw add-one (ap (λ (d : Outcome Joining (List ℤ)). behind i m (and_on d.said d.area (join_each one_book d.area u (drop (suc i) ws)))) e
         ∙ ap (λ (x : List ℕ). behind i m (join_each one_book b u x)) (sym (drop-cons ws i 0 l)) ∙ f)
 
-    pub each-merged : (on : ℕ) → r ≡ Carried.Merged on → behind (i + 1) (m + 1) (join_each one_book c u (drop (i + 1) ws)) ≡ a
+    pub each-merged : (r : Result (Option ℕ) Refusal) (on : ℕ) → r ≡ Ok (Some on)
+        → outcome (says_carried r) c ≡ join_book one_book b u (get_or ws i 0)
+        → behind (i + 1) (m + 1) (join_each one_book c u (drop (i + 1) ws)) ≡ a
     unfolding and_on
-    each-merged on q = sym (behind_more i m 1 1 _) ∙ turned (gives merged) (ap says_carried q)
+    each-merged r on q e =
+        sym (behind_more i m 1 1 _)
+        ∙ turned (gives merged) (ap (λ (y : Result (Option ℕ) Refusal). outcome (says_carried y) c) (sym q) ∙ e)
 
-    pub each-already : r ≡ Carried.Already → behind (i + 1) m (join_each one_book c u (drop (i + 1) ws)) ≡ a
+    pub each-already : (r : Result (Option ℕ) Refusal) → r ≡ Ok None
+        → outcome (says_carried r) c ≡ join_book one_book b u (get_or ws i 0)
+        → behind (i + 1) m (join_each one_book c u (drop (i + 1) ws)) ≡ a
     unfolding and_on
-    each-already q =
+    each-already r q e =
         let z : m ≡ m + 0 = omega arith in
         ap (λ (k : ℕ). behind (i + 1) k (join_each one_book c u (drop (i + 1) ws))) z ∙ sym (behind_more i m 1 0 _)
-        ∙ turned (gives same) (ap says_carried q)
+        ∙ turned (gives same) (ap (λ (y : Result (Option ℕ) Refusal). outcome (says_carried y) c) (sym q) ∙ e)
 
-    pub each-refused : (number : ℕ) (x : Refusal) → r ≡ Carried.Refused number → x ≡ plain number → each_outcome (stopped i m x) c ≡ a
+    pub each-refused : (x : Refusal) → outcome (refuses x) c ≡ join_book one_book b u (get_or ws i 0) → each_outcome (stopped i m x) c ≡ a
     unfolding and_on behind
-    each-refused number x q p =
+    each-refused x e =
         let k : i ≡ 0 + i = omega arith in
         let n : m ≡ 0 + m = omega arith in
-        ap₂ (λ (y z : ℕ). each_outcome (stopped y z x) c) k n ∙ ap (λ (y : Refusal). each_outcome (stopped (0 + i) (0 + m) y) c) p
-        ∙ turned (refuses (plain number)) (ap says_carried q)
+        ap₂ (λ (y z : ℕ). each_outcome (stopped y z x) c) k n ∙ turned (refuses x) e
 
--- the walk that is carried on
-module _ (xs : List ℤ) (u at : ℕ) (r : Carried) (x : Walking xs u (carried_on at r)) where
-  pub walking_on : (on : ℕ) → r ≡ Carried.Merged on → Walking xs u on
-  walking_on on q = subst (λ (y : Carried). Walking xs u (carried_on at y)) q x
+-- what a turn that was accepted leaves: the walk, and the series
+module _ (r : Result (Option ℕ) Refusal) (xs : List ℤ) (u at : ℕ) where
+  pub walking_on : (on : ℕ) → r ≡ Ok (Some on) → Walking xs u (carried_on at r) → Walking xs u on
+  walking_on on e x = subst (λ (y : Result (Option ℕ) Refusal). Walking xs u (carried_on at y)) e x
 
-  pub walking-stays : r ≡ Carried.Already → Walking xs u at
-  walking-stays q = subst (λ (y : Carried). Walking xs u (carried_on at y)) q x
+  pub walking-stays : r ≡ Ok None → Walking xs u (carried_on at r) → Walking xs u at
+  walking-stays e x = subst (λ (y : Result (Option ℕ) Refusal). Walking xs u (carried_on at y)) e x
 
 -- ---- a link
 module _ (xs : List ℤ) (g h : ℕ) (ys : List ℤ) where
@@ -151,25 +156,6 @@ module _ (xs : List ℤ) (g h : ℕ) (ys : List ℤ) where
       go (gives (merge t d s)) q = (t, d, s, q, ap (λ (o : Outcome Joining (List ℤ)). o.area) (e ∙ ap (λ d. write_book one_book d xs) q))
       go (refuses r) q = refused-given (sym (ap said_of (e ∙ ap (λ d. write_book one_book d xs) q)))
 
-  -- that is refused is so for a damaged size alone
-  link-refusal : (y : Refusal) → outcome (refuses y) ys ≡ link_one xs g h → y ≡ plain unsound
-  unfolding link_one write_book link_heads
-  link-refusal y e =
-      let a = (one xs).size g in
-      let b = (one xs).size h in
-      size-refusal (eqb g h) (mergeable (one xs).count a b) already (merge_heads a b g h) y
-      (go (link_heads (one xs) (heads g h)) (sym (ap (λ (d : Outcome Joining (List ℤ)). d.said) e)))
-    where
-      size-refusal : (t k : Bool) (x z : Step) (y : Refusal) → cond t (gives x) (check k unsound (gives z)) ≡ refuses y → y ≡ plain unsound
-      size-refusal true k x z y e = refused-given (sym e)
-      size-refusal false true x z y e = refused-given (sym e)
-      size-refusal false false x z y e = cc
-
-      go : (d : Said Step) → (write_book one_book d xs).said ≡ refuses y → d ≡ refuses y
-      go (gives already) q = refused-given (sym q)
-      go (gives (merge top under total)) q = refused-given (sym q)
-      go (refuses r) q = cc
-
 -- ---- the code's `join_next`
 module _ (xs : List ℤ) (u at : ℕ) (x : Walking xs u at) where
   pub walking-within : length xs ≤ most_vertices
@@ -186,76 +172,62 @@ module _ (xs : List ℤ) (u at : ℕ) (x : Walking xs u at) where
     walking-kept s (gives (merge top under total)) e h = absurd (h (ap (λ (b : Outcome Joining (List ℤ)). b.said) e))
     walking-kept s (refuses r) e h = kept (ap (λ (b : Outcome Joining (List ℤ)). b.area) e)
 
-    module _ (r : Joined) (g h : ℕ) (e : outcome (says_joined r) ys ≡ link_one xs g h) where
-      pub walking-already : r ≡ Joined.Already → Walking ys u at
+    module _ (g h : ℕ) where
+      pub walking-already : outcome (gives same) ys ≡ link_one xs g h → Walking ys u at
       unfolding link_one
-      walking-already f = walking-kept (says_joined r) _ e (λ q. (let z : ◌≡◌ {A = ℕ} 0 1 = cc in omega arith))
+      walking-already e = walking-kept (gives same) _ e (λ q. no-case cc)
 
-      pub walking-refused : (y : Refusal) → r ≡ Joined.Refused y → Walking ys u at
+      pub walking-refused : (y : Refusal) → outcome (refuses y) ys ≡ link_one xs g h → Walking ys u at
       unfolding link_one
-      walking-refused y f = walking-kept (says_joined r) _ e (λ q. refused-given (sym (ap says_joined f) ∙ q))
+      walking-refused y e = walking-kept (refuses y) _ e (λ q. refused-given q)
 
   lent : true ≡ (one xs).fit
   unfolding one
   lent = sym (le-leb (length xs) most_vertices x.lent)
 
   module _ (w : ℕ) where
-    pub next-missing : length xs ≤ w → outcome (refuses (plain not_there)) xs ≡ join_book one_book xs u w
+    pub next-missing : (r : Refusal) → length xs ≤ w → r ≡ plain not_there → outcome (refuses r) xs ≡ join_book one_book xs u w
     unfolding one
-    next-missing l = join-lost one_book xs u w (plain not_there) (heads-missing2 (one xs) u w true lent _ refl x.inside l refl)
+    next-missing r l p = join-lost one_book xs u w r (heads-missing2 (one xs) u w true lent r refl x.inside l p)
 
     module _ (l : w < length xs) where
-      pub next-late : most_moves < at / most_vertices → outcome (refuses (plain unsound)) xs ≡ join_book one_book xs u w
+      pub next-late : (r : Refusal) → most_moves < at / most_vertices → r ≡ plain unsound → outcome (refuses r) xs ≡ join_book one_book xs u w
       unfolding one
-      next-late m =
-          join-lost one_book xs u w (plain unsound) (heads-late (one xs) true lent refl u w x.inside l at x.walk _ m refl)
+      next-late r m p = join-lost one_book xs u w r (heads-late (one xs) true lent refl u w x.inside l at x.walk r m p)
 
       module _ (m : at / most_vertices ≤ most_moves) (to : ℕ) (q : says_walked to ≡ walk_from (next_here xs) (length xs) w) where
-        pub next-late2 : most_moves < to / most_vertices → outcome (refuses (plain unsound)) xs ≡ join_book one_book xs u w
+        pub next-late2 : (r : Refusal) → most_moves < to / most_vertices → r ≡ plain unsound
+            → outcome (refuses r) xs ≡ join_book one_book xs u w
         unfolding one
-        next-late2 n =
-            join-lost one_book xs u w (plain unsound) (heads-late2 (one xs) true lent refl u w x.inside l at x.walk m to q _ n refl)
+        next-late2 r n p = join-lost one_book xs u w r (heads-late2 (one xs) true lent refl u w x.inside l at x.walk m to q r n p)
 
         module _ (n : to / most_vertices ≤ most_moves) where
-          both : says_pair (Pair.Heads (at % most_vertices) (to % most_vertices)) ≡ heads_of (one xs) u w
+          both : gives (heads (at % most_vertices) (to % most_vertices)) ≡ heads_of (one xs) u w
           unfolding one
           both = heads-end (one xs) true lent refl u w x.inside l at x.walk m to q n
 
           pub next-first : AtHead xs (at % most_vertices)
-          next-first = one-first xs u w _ both _ _ refl
+          next-first = one-first xs u w _ _ both
 
           pub next-second : AtHead xs (to % most_vertices)
-          next-second = one-second xs u w _ both _ _ refl
+          next-second = one-second xs u w _ _ both
 
           pub next-first-in : (ys : List ℤ) → length ys ≡ length xs → at % most_vertices < length ys
           next-first-in ys e = omega (arith, next-first.inside)
 
           -- what the link says is what the join says
-          module _ (ys : List ℤ) (r : Joined) (e : outcome (says_joined r) ys ≡ link_one xs (at % most_vertices) (to % most_vertices)) where
-            said : (s : Joined) → r ≡ s → outcome (says_joined s) ys ≡ link_one xs (at % most_vertices) (to % most_vertices)
-            said s f = ap (λ (y : Joined). outcome (says_joined y) ys) (sym f) ∙ e
-
-            linked : (s : Joined) → r ≡ s → outcome (says_joined s) ys ≡ join_book one_book xs u w
-            linked s f = one-linked xs u w _ both _ _ refl _ (said s f)
-
-            pub next-merged : r ≡ Joined.Merged → outcome (gives merged) ys ≡ join_book one_book xs u w
-            next-merged = linked Joined.Merged
-
-            pub next-already : r ≡ Joined.Already → outcome (gives same) ys ≡ join_book one_book xs u w
-            next-already = linked Joined.Already
-
-            pub next-refused : (y : Refusal) → r ≡ Joined.Refused y → outcome (refuses (plain unsound)) ys ≡ join_book one_book xs u w
-            next-refused y f =
-                ap (λ (z : Refusal). outcome (refuses z) ys)
-                (sym (link-refusal xs (at % most_vertices) (to % most_vertices) ys y (said (Joined.Refused y) f)))
-                ∙ linked (Joined.Refused y) f
+          module _ (ys : List ℤ) where
+            pub next-joined : (s : Said Joining) → outcome s ys ≡ link_one xs (at % most_vertices) (to % most_vertices)
+                → outcome s ys ≡ join_book one_book xs u w
+            next-joined s e = one-linked xs u w _ _ both _ e
 
             -- where they merge, u's head stays or goes under the other: t says whether it is a head still
-            module _ (f : r ≡ Joined.Merged) (t : Bool) (p : t ≡ is_stop (next_here ys (at % most_vertices))) where
+            module _ (f : outcome (gives merged) ys ≡ link_one xs (at % most_vertices) (to % most_vertices)) (t : Bool)
+                (p : t ≡ is_stop (next_here ys (at % most_vertices))) where
               shape : (top under s : ℕ) × (ys ≡ one_book.merged top under s xs) × Mergeable (one xs) top under s
                   × Whose (λ v. v) (at % most_vertices) (to % most_vertices) top under
               shape =
-                  let o = link-writes xs (at % most_vertices) (to % most_vertices) ys (said Joined.Merged f) in
+                  let o = link-writes xs (at % most_vertices) (to % most_vertices) ys f in
                   let k = link-merged (one xs) u w (at % most_vertices) (to % most_vertices) (sym both) o.0 o.1 o.2 o.3 in
                   (o.0, o.1, o.2, o.4, k.0, k.1)
 

@@ -16,11 +16,10 @@ use Rattle.basis.specs.Limits.{most_vertices}
 use Rattle.basis.specs.declared.refusal.Refusal.{Refusal}
 use Rattle.basis.specs.Refusal.{gives, refuses, plain, unsound, check, onward}
 use Rattle.basis.proofs.Tests.{no-case, and_first, and_both, and-off}
-use Rattle.book.specs.declared.Pair.{Pair}
 use Rattle.book.specs.Rules.{View, heads, Step, already, merge, Joining, same, Outcome, outcome, above}
 use Rattle.book.specs.Rules.{mergeable, merge_heads, link_heads, heads_of, decide, write_book, join_book}
 use Rattle.book.specs.One.{size_here, one, one_book}
-use Rattle.book.specs.Steps.{says_pair, AtHead, link_one, hang_one}
+use Rattle.book.specs.Steps.{AtHead, link_one, hang_one}
 use Rattle.book.proofs.Calls.{heads-inside, heads-below}
 use Rattle.book.proofs.Areas.{size-pos}
 use Rattle.book.proofs.Faithful.{Mergeable}
@@ -28,17 +27,17 @@ use Rattle.book.proofs.Forest.{Whose}
 
 -- ---- which head goes above
 module _ (a b g h : ℕ) where
+  pub above_equal : a ≡ b → ltb g h ≡ above a b g h
+  unfolding above
+  above_equal e = rw (le-ltb b a (omega arith), le-ltb a b (omega arith))
+
   pub above-larger : b < a → true ≡ above a b g h
   unfolding above
   above-larger l = rw (lt-ltb b a l)
 
-  pub above-smaller : a ≤ b → a < b → false ≡ above a b g h
+  pub above-smaller : a ≤ b → (a ≡ b → ⊥) → false ≡ above a b g h
   unfolding above
-  above-smaller k l = rw (le-ltb b a k, lt-ltb a b l)
-
-  pub above_equal : a ≤ b → b ≤ a → ltb g h ≡ above a b g h
-  unfolding above
-  above_equal k l = rw (le-ltb b a k, le-ltb a b l)
+  above-smaller k n = rw (le-ltb b a k, lt-ltb a b (omega (arith, n)))
 
   pub merge-above : above a b g h ≡ true → merge_heads a b g h ≡ merge g h (a + b)
   unfolding merge_heads
@@ -171,27 +170,24 @@ module _ (xs : List ℤ) (g h : ℕ) where
         one_below f r = r ∙ one-merges _ (merge-below a b g h (sym e ∙ f))
 
 -- ---- the code's `join`
-module _ (xs : List ℤ) (u v : ℕ) (r : Pair) (e : says_pair r ≡ heads_of (one xs) u v) where
-  pub one-refused : (x : Refusal) → r ≡ Pair.Refused x → outcome (refuses x) xs ≡ join_book one_book xs u v
+module _ (xs : List ℤ) (u v : ℕ) where
+  pub one-refused : (x : Refusal) → refuses x ≡ heads_of (one xs) u v → outcome (refuses x) xs ≡ join_book one_book xs u v
   unfolding join_book decide write_book
-  one-refused x f = ap (λ s. write_book one_book (onward s (link_heads (one xs))) xs) (sym (ap says_pair f) ∙ e)
+  one-refused x e = ap (λ s. write_book one_book (onward s (link_heads (one xs))) xs) e
 
-  module _ (g h : ℕ) (f : r ≡ Pair.Heads g h) where
-    both : heads_of (one xs) u v ≡ gives (heads g h)
-    both = sym e ∙ ap says_pair f
-
+  module _ (g h : ℕ) (e : gives (heads g h) ≡ heads_of (one xs) u v) where
     pub one-linked : (d : Outcome Joining (List ℤ)) → d ≡ link_one xs g h → d ≡ join_book one_book xs u v
     unfolding join_book link_one decide
-    one-linked d a = a ∙ sym (ap (λ s. write_book one_book (onward s (link_heads (one xs))) xs) both)
+    one-linked d a = a ∙ ap (λ s. write_book one_book (onward s (link_heads (one xs))) xs) e
 
     lent : length xs ≤ most_vertices
     unfolding one
-    lent = leb-true (length xs) most_vertices (heads-inside (one xs) u v g h both).0
+    lent = leb-true (length xs) most_vertices (heads-inside (one xs) u v g h (sym e)).0
 
     pub one-first : AtHead xs g
     unfolding one
-    one-first = let b = heads-below (one xs) u v g h both in record { lent = lent; inside = b.0; head = b.1 }
+    one-first = let b = heads-below (one xs) u v g h (sym e) in record { lent = lent; inside = b.0; head = b.1 }
 
     pub one-second : AtHead xs h
     unfolding one
-    one-second = let b = heads-below (one xs) u v g h both in record { lent = lent; inside = b.2; head = b.3 }
+    one-second = let b = heads-below (one xs) u v g h (sym e) in record { lent = lent; inside = b.2; head = b.3 }

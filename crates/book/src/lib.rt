@@ -18,54 +18,13 @@ pub mod joining;
 pub mod opening;
 pub mod readings;
 
-#[derive(Drop)]
-pub enum Opened {
-    Ready,
-    Refused(Refusal),
-}
-
-// A join is accepted where it merged two groups or found one group.
-#[derive(Drop)]
-pub enum Joined {
-    Merged,
-    Already,
-    Refused(Refusal),
-}
-
-// A vertex joined with each of a list: all joins were accepted, and how many merged two groups. Or one was refused, and those behind
-// it were not tried: how many were accepted before it, how many of those merged two groups, and its refusal.
-#[derive(Drop)]
-pub enum JoinedEach {
-    All(usize),
-    Stopped(usize, usize, Refusal),
-}
+pub use joining::{Joining, Stopped};
 
 // The head and the number of moves that reach it.
-#[derive(Drop)]
-pub enum Headed {
-    Head(usize, usize),
-    Refused(Refusal),
-}
-
-#[derive(Drop)]
-pub enum Compared {
-    Together,
-    Apart,
-    Refused(Refusal),
-}
-
-// A number read off the book: a size, a count or a step limit.
-#[derive(Drop)]
-pub enum Reading {
-    Value(usize),
-    Refused(Refusal),
-}
-
-// The heads of two vertices.
-#[derive(Drop)]
-enum Pair {
-    Heads(usize, usize),
-    Refused(Refusal),
+#[derive(Clone, Copy, Debug, PartialEq, Eq)]
+pub struct Head {
+    pub head: usize,
+    pub moves: usize,
 }
 
 // How many moves a walk may take.
@@ -106,25 +65,25 @@ fn walk(entries: &[i64], v: usize) -> usize
 }
 
 // The heads of two vertices, with the checks of a call that names both: both are checked before any walk.
-fn heads(entries: &[i64], u: usize, v: usize) -> Pair
+fn heads(entries: &[i64], u: usize, v: usize) -> Result<(usize, usize), Refusal>
     ensures { says_pair result ≡ heads_of (one entries.now) u v }
 {
     if !well_lent(entries) {
-        return Pair::Refused(Refusal::plain(NO_ROOM));
+        return Err(Refusal::plain(NO_ROOM));
     }
     if entries.len() <= u {
-        return Pair::Refused(Refusal::plain(NOT_THERE));
+        return Err(Refusal::plain(NOT_THERE));
     }
     if entries.len() <= v {
-        return Pair::Refused(Refusal::plain(NOT_THERE));
+        return Err(Refusal::plain(NOT_THERE));
     }
     let a = walk(entries, u);
     if MOST_MOVES < a / MOST_VERTICES {
-        return Pair::Refused(Refusal::plain(UNSOUND));
+        return Err(Refusal::plain(UNSOUND));
     }
     let b = walk(entries, v);
     if MOST_MOVES < b / MOST_VERTICES {
-        return Pair::Refused(Refusal::plain(UNSOUND));
+        return Err(Refusal::plain(UNSOUND));
     }
-    Pair::Heads(a % MOST_VERTICES, b % MOST_VERTICES)
+    Ok((a % MOST_VERTICES, b % MOST_VERTICES))
 }

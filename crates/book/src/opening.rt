@@ -4,7 +4,7 @@ ghost use Rattle.book.specs.Rules.{outcome, open_book};
 ghost use Rattle.book.specs.One.{one_book};
 ghost use Rattle.book.specs.Says.{says_opened};
 
-use super::{Opened, well_lent};
+use super::well_lent;
 use basis::Refusal;
 use basis::area::fill;
 use basis::refusal::NO_ROOM;
@@ -13,12 +13,12 @@ use basis::refusal::NO_ROOM;
 const FRESH: i64 = -1;
 
 // Each vertex its own group: a new series begins.
-pub fn open_book(entries: &mut [i64]) -> Opened
+pub fn open_book(entries: &mut [i64]) -> Result<(), Refusal>
     ensures { outcome (says_opened result) entries.new ≡ open_book one_book entries.old }
 {
     if !well_lent(entries) {
-        return Opened::Refused(Refusal::plain(NO_ROOM));
+        return Err(Refusal::plain(NO_ROOM));
     }
     fill(entries, FRESH);
-    Opened::Ready
+    Ok(())
 }

@@ -5,77 +5,59 @@ ghost use Rattle.book.specs.Rules.{head_of, same_group, group_size, group_count,
 ghost use Rattle.book.specs.One.{one};
 ghost use Rattle.book.specs.Says.{says_headed, says_compared, says_reading};
 
-use super::entry::{is_head, size_at};
-use super::{Compared, Headed, MOST_MOVES, Pair, Reading, heads, walk, well_lent};
+use super::entry::size_at;
+use super::{Head, MOST_MOVES, heads, walk, well_lent};
 use basis::Refusal;
 use basis::limits::MOST_VERTICES;
 use basis::refusal::{NO_ROOM, NOT_THERE, UNSOUND};
 
 // The head of `v`, with the number of moves from parent to parent that reach it.
-pub fn head(entries: &[i64], v: usize) -> Headed
+pub fn head(entries: &[i64], v: usize) -> Result<Head, Refusal>
     ensures { says_headed result ≡ head_of (one entries.now) v }
 {
     if !well_lent(entries) {
-        return Headed::Refused(Refusal::plain(NO_ROOM));
+        return Err(Refusal::plain(NO_ROOM));
     }
     if entries.len() <= v {
-        return Headed::Refused(Refusal::plain(NOT_THERE));
+        return Err(Refusal::plain(NOT_THERE));
     }
     let a = walk(entries, v);
     if MOST_MOVES < a / MOST_VERTICES {
-        return Headed::Refused(Refusal::plain(UNSOUND));
+        return Err(Refusal::plain(UNSOUND));
     }
-    Headed::Head(a % MOST_VERTICES, a / MOST_VERTICES)
+    Ok(Head {
+        head: a % MOST_VERTICES,
+        moves: a / MOST_VERTICES,
+    })
 }
 
-pub fn same_group(entries: &[i64], u: usize, v: usize) -> Compared
+pub fn same_group(entries: &[i64], u: usize, v: usize) -> Result<bool, Refusal>
     ensures { says_compared result ≡ same_group (one entries.now) u v }
 {
-    match heads(entries, u, v) {
-        Pair::Heads(g, h) => {
-            if g == h {
-                Compared::Together
-            } else {
-                Compared::Apart
-            }
-        }
-        Pair::Refused(r) => Compared::Refused(r),
-    }
+    let (g, h) = heads(entries, u, v)?;
+    Ok(g == h)
 }
 
 // The size that the entry of the head of `v` says.
-pub fn group_size(entries: &[i64], v: usize) -> Reading
+pub fn group_size(entries: &[i64], v: usize) -> Result<usize, Refusal>
     ensures { says_reading result ≡ group_size (one entries.now) v }
 {
-    match head(entries, v) {
-        Headed::Refused(r) => Reading::Refused(r),
-        Headed::Head(h, _) => {
-            let s = size_at(entries, h);
-            if entries.len() < s {
-                return Reading::Refused(Refusal::plain(UNSOUND));
-            }
-            Reading::Value(s)
-        }
+    let top = head(entries, v)?;
+    let size = size_at(entries, top.head);
+    if entries.len() < size {
+        return Err(Refusal::plain(UNSOUND));
     }
+    Ok(size)
 }
 
 // The heads in the area.
-pub fn group_count(entries: &[i64]) -> Reading
+pub fn group_count(entries: &[i64]) -> Result<usize, Refusal>
     ensures { says_reading result ≡ group_count (one entries.now) }
 {
     if !well_lent(entries) {
-        return Reading::Refused(Refusal::plain(NO_ROOM));
+        return Err(Refusal::plain(NO_ROOM));
     }
-    let n = entries.len();
-    let mut count: usize = 0;
-    let mut i: usize = 0;
-    while i < n {
-        if is_head(entries, i) {
-            count += 1;
-        }
-        i += 1;
-    }
-    Reading::Value(count)
+    Ok(entries.iter().filter(|entry| **entry < 0).count())
 }
 
 // The largest k with 2 to the k at most `size`.
@@ -83,16 +65,13 @@ fn power_below(size: usize) -> usize
     requires { (0 < size) × (size ≤ most_vertices) }
     ensures { result ≡ largest 16 size }
 {
-    let zeros = u64::leading_zeros(size as u64);
-    (63 - zeros) as usize
+    size.ilog2() as usize
 }
 
 // The largest k with 2 to the k at most the size of the group of `v`.
-pub fn step_limit(entries: &[i64], v: usize) -> Reading
+pub fn step_limit(entries: &[i64], v: usize) -> Result<usize, Refusal>
     ensures { says_reading result ≡ step_limit (one entries.now) v }
 {
-    match group_size(entries, v) {
-        Reading::Value(s) => Reading::Value(power_below(s)),
-        Reading::Refused(r) => Reading::Refused(r),
-    }
+    let size = group_size(entries, v)?;
+    Ok(power_below(size))
 }

@@ -1,22 +1,26 @@
 use borrow.Author.Rules.{rules}
-use mathlib.Core.Path.{refl}
+use mathlib.Core.Path.{refl, ap, ◌∙◌}
+use Rattle.std.specs.Prelude.{Ok}
 use native.Mathlib.Omega.{arith}
 use Rattle.book.proofs.Walked.{lent-within}
-use Rattle.book.proofs.Each.{each_none, each-unlent, each-missing, walking_start, walking_on}
-use Rattle.book.proofs.Each.{walking-stays, behind-none, each-merged, each-already, each-refused, each-end}
+use Rattle.book.proofs.Each.{each_none, each-unlent, each-missing, walking_start, walking_on, walking-stays}
+use Rattle.book.proofs.Each.{behind-none, each-merged, each-already, each-refused, each-end}
 use Rattle.book.proofs.joining.join_each.Goals as goal
+use Rattle.book.proofs.joining.join_each.Goals.{in-Some, in_default}
 
-pub returns-then-others-eq0 : goal.returns-then-others-eq0
-returns-then-others-eq0 c = search each_none
+pub returns-then-is_empty : goal.returns-then-is_empty
+returns-then-is_empty c = each_none _ _ _ c.if-is_empty.ensures
 
 pub returns-then-not-well_lent : goal.returns-then-not-well_lent
-returns-then-not-well_lent c = search each-unlent
+returns-then-not-well_lent c =
+    let w = c.well_lent in
+    rw c.at_first.ensures (each-unlent _ _ w.result w.ensures _ c.if-is_empty.ensures c.if-not-well_lent.true)
 
 pub returns-then-entries-u : goal.returns-then-entries-u
 returns-then-entries-u c =
     let w = c.well_lent in
-    each-missing _ _ w.result w.ensures _ c.if-others-eq0.false _ c.if-not-well_lent.false
-    c.if-entries-u.true c.plain-then-entries-u.ensures
+    rw c.at_first-then-entries-u.ensures
+    (each-missing _ _ w.result w.ensures _ c.if-is_empty.ensures c.if-not-well_lent.false c.if-entries-u.true)
 
 pub walk-at-requires : goal.walk-at-requires
 walk-at-requires c =
@@ -33,14 +37,20 @@ loop-i-init c =
       behind-none _,
     )
 
-pub loop-i-preserved-in-Merged : goal.loop-i-preserved-in-Merged
-loop-i-preserved-in-Merged c = (omega arith, omega arith, search rules, search walking_on, search each-merged)
-
 pub loop-i-preserved : goal.loop-i-preserved
-loop-i-preserved c = (omega arith, omega arith, search rules, search walking-stays, search each-already)
+loop-i-preserved c =
+    let e = c.join_next.ensures in
+    elim c.match-carried.branch [
+      | in-Some w ↦ let r = c.in-Ok.is ∙ ap Ok w.in-Some.is in
+          (omega arith, omega arith, search rules, rw w.at-is (walking_on _ _ _ _ _ r e.1), rw w.merges-is (search (each-merged, r, e.0)))
+      | in_default w ↦ let r = c.in-Ok.is ∙ ap Ok w.in_default.is in
+          (omega arith, omega arith, search rules, rw w.at-is (walking-stays _ _ _ _ r e.1), rw w.merges-is (search (each-already, r, e.0)))
+    ]
 
-pub returns-in-Refused : goal.returns-in-Refused
-returns-in-Refused c = search each-refused
+pub returns-in-Err : goal.returns-in-Err
+returns-in-Err c =
+    let l = c.loop-i in
+    each-refused _ _ _ _ l.i l.merges l.invariant.4 c.loop-i-test.true _ _ c.in-Err.ensures.0
 
 pub returns : goal.returns
 returns c = search each-end

@@ -1,36 +1,24 @@
-use mathlib.Core.Path.{refl}
-use native.Mathlib.Omega.{arith}
-use Rattle.book.specs.Rules.{tally, is_stop}
-use Rattle.book.specs.One.{next_here, one}
-use Rattle.book.proofs.Tally.{tally-le}
-use Rattle.book.proofs.Calls.{count-unlent, count_head, count-other, count-is}
+use mathlib.Core.Path.{◌∙◌}
+use lib.IntN.{pos}
+use lib.Signed.{lt_z}
+use Rattle.std.proofs.Common.{rules, tests}
+use Rattle.std.proofs.lemmas.Iterator.{YieldsList-from_slice}
+use Rattle.std.proofs.lemmas.Iterator.Consumers.{count_from_yields_List, YieldsList-from_filter}
+use Rattle.book.specs.One.{one}
+use Rattle.book.proofs.Calls.{count-unlent, count-is}
+use Rattle.book.proofs.Areas.{heads-counted}
 use Rattle.book.proofs.readings.group_count.Goals as goal
-use Rattle.book.proofs.readings.group_count.Goals.{then-is_head, else-is_head}
 
 pub returns-then-not-well_lent : goal.returns-then-not-well_lent
 unfolding one
 returns-then-not-well_lent c = search count-unlent
 
-pub loop-i-init : goal.loop-i-init
-unfolding tally
-loop-i-init c = (omega arith, refl)
-
-pub overflow_add-count : goal.overflow_add-count
-overflow_add-count c =
-    omega (arith, tally-le (λ v. is_stop (next_here c.args.entries.now v)) c.loop-i.i)
-
-pub loop-i-preserved : goal.loop-i-preserved
-loop-i-preserved c =
-    let l = c.loop-i in
-    let h = c.is_head in
-    let next = next_here c.args.entries.now in (
-      omega arith,
-      elim c.if-is_head.branch [
-        | then-is_head w ↦ omega (arith, l.invariant.1, count_head next l.i h.result h.ensures w.if-is_head.true)
-        | else-is_head w ↦ omega (arith, l.invariant.1, count-other next l.i h.result h.ensures w.if-is_head.false)
-      ],
-    )
-
 pub returns : goal.returns
 unfolding one
-returns c = search count-is
+returns c =
+    let xs = c.args.entries.now in
+    let w = c.well_lent in
+    count-is _ w.result w.ensures _ c.if-not-well_lent.false
+    (count_from_yields_List c.filter.result _ c.count.ensures.ran (YieldsList-from_filter _ (λ z. lt_z z (pos 0))
+    (YieldsList-from_slice xs (cc)) c.filter.ensures.closure (λ x r q k. search (rules, tests)))
+    ∙ heads-counted xs)
