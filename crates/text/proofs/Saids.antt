@@ -1,10 +1,12 @@
 -- An answer is determined by what it says: each `says` is injective. Assumes nothing.
 use Prim.Native.Nat.{ℕ}
-use mathlib.Core.Path.{◌≡◌, refl}
+use mathlib.Core.Path.{◌≡◌, refl, sym, ap, ◌∙◌}
 use Rattle.std.specs.Prelude.{Option, None, Some, Result, Ok, Err}
+use lib.IntN.{ℤ}
 use Rattle.basis.proofs.Saids.{one_of}
 use Rattle.text.specs.Word.{Word, malformed, outside, value}
 use Rattle.text.specs.Line.{LineSaid, line, none, fault, reader_says}
+use Rattle.text.specs.Weighed.{weighed_says}
 use Rattle.text.specs.Scan.{count_says, scan_says}
 use Rattle.text.specs.declared.count.Scan.{Scan}
 use Rattle.text.specs.declared.line.Cursor.{Cursor}
@@ -46,10 +48,28 @@ module _ {A : Type 0} where
   reader (fault n c p) = (record { at = p }, Some (Err (record { number = n; column = c })))
   reader (line v p) = (record { at = p }, Some (Ok v))
 
-  reader-back : (x : Cursor × Option (Result A Fault)) → reader (reader_says x.0 x.1) ≡ x
-  reader-back (k, None) = refl
-  reader-back (k, Some (Err f)) = refl
-  reader-back (k, Some (Ok v)) = refl
+  reader-back : (k : Cursor) (x : Option (Result A Fault)) → reader (reader_says k x) ≡ (k, x)
+  reader-back k None = refl
+  reader-back k (Some (Err f)) = refl
+  reader-back k (Some (Ok v)) = refl
 
-  pub reader-one : (x y : Cursor × Option (Result A Fault)) → reader_says x.0 x.1 ≡ reader_says y.0 y.1 → x ≡ y
-  reader-one = one_of (λ x. reader_says x.0 x.1) reader reader-back
+  pub reader-one : (k l : Cursor) (x y : Option (Result A Fault)) → reader_says k x ≡ reader_says l y → (x ≡ y) × (k ≡ l)
+  reader-one k l x y e =
+      let q : (k, x) ≡ (l, y) = sym (reader-back k x) ∙ ap reader e ∙ reader-back l y in
+      (ap (λ z. z.1) q, ap (λ z. z.0) q)
+
+-- the same of an edge line with its weight
+abbrev weighed : LineSaid (ℤ × (ℤ × ℕ)) → Cursor × Option (Result (ℤ × ℤ × ℕ) Fault)
+weighed (none p) = (record { at = p }, None)
+weighed (fault n c p) = (record { at = p }, Some (Err (record { number = n; column = c })))
+weighed (line v p) = (record { at = p }, Some (Ok (v.0, v.1.0, v.1.1)))
+
+weighed-back : (k : Cursor) (x : Option (Result (ℤ × ℤ × ℕ) Fault)) → weighed (weighed_says k x) ≡ (k, x)
+weighed-back k None = refl
+weighed-back k (Some (Err f)) = refl
+weighed-back k (Some (Ok v)) = refl
+
+pub weighed-one : (k l : Cursor) (x y : Option (Result (ℤ × ℤ × ℕ) Fault)) → weighed_says k x ≡ weighed_says l y → (x ≡ y) × (k ≡ l)
+weighed-one k l x y e =
+    let q : (k, x) ≡ (l, y) = sym (weighed-back k x) ∙ ap weighed e ∙ weighed-back l y in
+    (ap (λ z. z.1) q, ap (λ z. z.0) q)
