@@ -1,11 +1,12 @@
 -- Laws of the writers of lines, one for each answer of the code. Assumes nothing.
-use Prim.Native.Nat.{ℕ, ◌+◌, ◌≤◌, ◌<◌}
+use Prim.Native.Nat.{ℕ}
 use mathlib.Core.Path.{◌≡◌, refl}
+use native.Mathlib.Omega.{arith}
+use mathlib.Core.Logic.{◌⊎◌, inl, inr}
+use Rattle.basis.proofs.Tests.{no-case}
 use mathlib.Core.List.{List, [], ◌∷◌, ◌++◌}
-use native.Mathlib.Numerals.{add-one}
-use lib.IntN.{ℤ, pos}
-use lib.ListN.{length, get_or, drop, drop_of_length-le}
-use lib.Seq.{drop-cons}
+use lib.IntN.{ℤ}
+use lib.ListN.{length}
 use Rattle.basis.specs.declared.refusal.Refusal.{Refusal}
 use Rattle.text.specs.Bytes.{lf, space}
 use Rattle.write.specs.Put.{Written, written, put_at}
@@ -67,55 +68,35 @@ module _ (o : List ℕ) (at : ℕ) {o₁ o₂ o₃ : List ℕ} {p₁ p₂ p₃ :
   unfolding ratio_text
   ratio-put id x n d e = rw (← e) (three (named_text x) (fraction_text n d) (lf ∷ []))
 
--- ---- lists that have come to their end
-pairs-none : (ids vs : List ℤ) → vs ≡ [] → pair_lines ids vs ≡ []
-unfolding pair_lines
-pairs-none [] vs e = refl
-pairs-none (id ∷ ids) vs e = rw e
-
-ratios-none : (ids : List ℤ) (ns ds : List ℕ) → ns ≡ [] → ratio_lines ids ns ds ≡ []
-unfolding ratio_lines
-ratios-none [] ns ds e = refl
-ratios-none (id ∷ ids) ns ds e = rw e
-
-ratios-none-below : (ids : List ℤ) (ns ds : List ℕ) → ds ≡ [] → ratio_lines ids ns ds ≡ []
-unfolding ratio_lines
-ratios-none-below [] ns ds e = refl
-ratios-none-below (id ∷ ids) [] ds e = refl
-ratios-none-below (id ∷ ids) (n ∷ ns) ds e = rw e
-
 -- ---- the loops: what is left of the lines, written from here on, makes the whole
-module _ {w : Written} (o : List ℕ) (p : ℕ) (ids vs : List ℤ) (i : ℕ) (left : put_at o p (pair_lines (drop i ids) (drop i vs)) ≡ w) where
-  pub pairs_end : length ids ≤ i → written o p ≡ w
+module _ {w : Written} (o : List ℕ) (p : ℕ) where
+  pub pairs_end : (ids vs : List ℤ) → put_at o p (pair_lines ids vs) ≡ w → (length ids ≡ 0) ⊎ (length vs ≡ 0) → written o p ≡ w
   unfolding pair_lines
-  pairs_end h = putting-end o p _ left (rw (drop_of_length-le ids h))
+  pairs_end [] vs left e = putting-end o p _ left refl
+  pairs_end (id ∷ ids) [] left e = putting-end o p _ left refl
+  pairs_end (id ∷ ids) (v ∷ vs) left (inl e) = no-case (omega (arith, e))
+  pairs_end (id ∷ ids) (v ∷ vs) left (inr e) = no-case (omega (arith, e))
 
-  pub pairs-short : length vs ≤ i → written o p ≡ w
-  pairs-short h = putting-end o p _ left (pairs-none (drop i ids) (drop i vs) (drop_of_length-le vs h))
-
-  pub pairs-more : (x y : ℤ) {o' : List ℕ} {p' : ℕ} → i < length ids → i < length vs → x ≡ get_or ids i (pos 0) → y ≡ get_or vs i (pos 0)
-      → written o' p' ≡ put_at o p (pair_text x y) → put_at o' p' (pair_lines (drop (i + 1) ids) (drop (i + 1) vs)) ≡ w
+  pub pairs-more : (x y x' y' : ℤ) (ids vs ids' vs' : List ℤ) {o' : List ℕ} {p' : ℕ} → put_at o p (pair_lines ids vs) ≡ w
+      → (ids ≡ x ∷ ids') × (vs ≡ y ∷ vs') → x' ≡ x → y' ≡ y → written o' p' ≡ put_at o p (pair_text x' y')
+      → put_at o' p' (pair_lines ids' vs') ≡ w
   unfolding pair_lines
-  pairs-more x y h g e f step =
-      putting-more o p (pair_text x y) (pair_lines (drop (i + 1) ids) (drop (i + 1) vs))
-      (rw (e, f, add-one i) (rw (drop-cons ids i (pos 0) h, drop-cons vs i (pos 0) g) at left)) step
+  pairs-more x y x' y' ids vs ids' vs' left h e f step =
+      putting-more o p (pair_text x y) (pair_lines ids' vs') (rw (h.0, h.1) at left) (rw (e, f) at step)
 
-module _ {w : Written} (o : List ℕ) (p : ℕ) (ids : List ℤ) (ns ds : List ℕ) (i : ℕ)
-    (left : put_at o p (ratio_lines (drop i ids) (drop i ns) (drop i ds)) ≡ w) where
-  pub ratios-end : length ids ≤ i → written o p ≡ w
+  pub ratios-end : (ids : List ℤ) (ns ds : List ℕ) → put_at o p (ratio_lines ids ns ds) ≡ w
+      → ((length ids ≡ 0) ⊎ (length ns ≡ 0)) ⊎ (length ds ≡ 0) → written o p ≡ w
   unfolding ratio_lines
-  ratios-end h = putting-end o p _ left (rw (drop_of_length-le ids h))
+  ratios-end [] ns ds left e = putting-end o p _ left refl
+  ratios-end (id ∷ ids) [] ds left e = putting-end o p _ left refl
+  ratios-end (id ∷ ids) (n ∷ ns) [] left e = putting-end o p _ left refl
+  ratios-end (id ∷ ids) (n ∷ ns) (d ∷ ds) left (inl (inl e)) = no-case (omega (arith, e))
+  ratios-end (id ∷ ids) (n ∷ ns) (d ∷ ds) left (inl (inr e)) = no-case (omega (arith, e))
+  ratios-end (id ∷ ids) (n ∷ ns) (d ∷ ds) left (inr e) = no-case (omega (arith, e))
 
-  pub ratios-short : length ns ≤ i → written o p ≡ w
-  ratios-short h = putting-end o p _ left (ratios-none (drop i ids) (drop i ns) (drop i ds) (drop_of_length-le ns h))
-
-  pub ratios-short-below : length ds ≤ i → written o p ≡ w
-  ratios-short-below h = putting-end o p _ left (ratios-none-below (drop i ids) (drop i ns) (drop i ds) (drop_of_length-le ds h))
-
-  pub ratios-more : (x : ℤ) {o' : List ℕ} {p' : ℕ} → i < length ids → i < length ns → i < length ds → x ≡ get_or ids i (pos 0)
-      → written o' p' ≡ put_at o p (ratio_text x (get_or ns i 0) (get_or ds i 0))
-      → put_at o' p' (ratio_lines (drop (i + 1) ids) (drop (i + 1) ns) (drop (i + 1) ds)) ≡ w
+  pub ratios-more : (x x' : ℤ) (n d : ℕ) (ids ids' : List ℤ) (ns ds ns' ds' : List ℕ) {o' : List ℕ} {p' : ℕ}
+      → put_at o p (ratio_lines ids ns ds) ≡ w → ((ids ≡ x ∷ ids') × (ns ≡ n ∷ ns')) × (ds ≡ d ∷ ds') → x' ≡ x
+      → written o' p' ≡ put_at o p (ratio_text x' n d) → put_at o' p' (ratio_lines ids' ns' ds') ≡ w
   unfolding ratio_lines
-  ratios-more x h g k e step =
-      putting-more o p (ratio_text x (get_or ns i 0) (get_or ds i 0)) (ratio_lines (drop (i + 1) ids) (drop (i + 1) ns) (drop (i + 1) ds))
-      (rw (e, add-one i) (rw (drop-cons ids i (pos 0) h, drop-cons ns i 0 g, drop-cons ds i 0 k) at left)) step
+  ratios-more x x' n d ids ids' ns ds ns' ds' left h e step =
+      putting-more o p (ratio_text x n d) (ratio_lines ids' ns' ds') (rw (h.0.0, h.0.1, h.1) at left) (rw e at step)

@@ -59,13 +59,8 @@ pub fn put_pairs(out: &mut [u8], at: usize, ids: &[i64], values: &[i64]) -> usiz
         ≡ put_at out.old at (pair_lines ids.now values.now) }
 {
     let mut next = at;
-    let mut i = 0;
-    while i < ids.len() {
-        if values.len() <= i {
-            return next;
-        }
-        next = put_pair(out, next, ids[i], values[i]);
-        i += 1;
+    for (id, value) in ids.iter().zip(values) {
+        next = put_pair(out, next, *id, *value);
     }
     next
 }
@@ -82,16 +77,8 @@ pub fn put_ratios(
         ≡ put_at out.old at (ratio_lines ids.now numerators.now denominators.now) }
 {
     let mut next = at;
-    let mut i = 0;
-    while i < ids.len() {
-        if numerators.len() <= i {
-            return next;
-        }
-        if denominators.len() <= i {
-            return next;
-        }
-        next = put_ratio(out, next, ids[i], numerators[i], denominators[i]);
-        i += 1;
+    for ((id, numerator), denominator) in ids.iter().zip(numerators).zip(denominators) {
+        next = put_ratio(out, next, *id, *numerator, *denominator);
     }
     next
 }
