@@ -9,8 +9,8 @@ ghost use Rattle.std.specs.Prelude.{◌≤◌, ◌<◌, IfOk, length};
 use std::io;
 use std::io::Read;
 use text::Cursor;
-use text::count::line_end;
-use text::line::{CoefficientLine, EdgeLine, VertexLine};
+use text::count::LF;
+use text::line::Fault;
 
 // How many bytes are read.
 const MOST: usize = 65536;
@@ -24,41 +24,40 @@ fn shown<T: Drop>(rt: &impl Print, line: Option<Result<T, Fault>>) -> io::Result
     }
 }
 
-// The line of a kind at a place.
-fn read_line(rt: &impl Print, s: &[u8], at: usize, kind: u8) -> io::Result<()> {
-    let mut place = Cursor { at };
+// The line of a kind.
+fn read_line(rt: &impl Print, line: &[u8], kind: u8) -> io::Result<()> {
+    let mut place = Cursor { at: 0 };
     match kind {
-        b'v' => shown(rt, place.vertex(s)),
-        b'e' => shown(rt, place.edge(s)),
-        b'c' => shown(rt, place.claim(s)),
-        _ => shown(rt, place.coefficient_claim(s)),
+        b'v' => shown(rt, place.vertex(line)),
+        b'e' => shown(rt, place.edge(line)),
+        b'c' => shown(rt, place.claim(line)),
+        _ => shown(rt, place.coefficient_claim(line)),
     }
 }
 
-// The record from `at` to the LF at `end`.
-fn read_record(rt: &impl Print, s: &[u8], at: usize, end: usize) -> io::Result<()>
-    requires { (at < length s.now) × (end ≤ length s.now) }
-{
-    let kind = s[at];
-    if kind < b'a' {
-        read_line(rt, &s[..end], at + 1, kind + 32)
-    } else {
-        read_line(rt, s, at + 1, kind)
+// A record, with its LF if it has one.
+fn read_record(rt: &impl Print, record: &[u8]) -> io::Result<()> {
+    match record.split_first() {
+        None => Ok(()),
+        Some((kind, line)) if *kind < b'a' => {
+            let line = line.strip_suffix(b"\n").unwrap_or(line);
+            read_line(rt, line, kind.to_ascii_lowercase())
+        }
+        Some((kind, line)) => read_line(rt, line, *kind),
     }
 }
 
 // All records, one after the other.
 fn read_records(rt: &impl Print, s: &[u8]) -> io::Result<()> {
-    let mut at = 0;
-    while at < s.len() {
-        let end = line_end(s, at);
-        read_record(rt, s, at, end)?;
-        at = end + 1;
+    for record in s.split_inclusive(|byte| *byte == LF) {
+        read_record(rt, record)?;
     }
     Ok(())
 }
 
 // Reads until `bytes` is full or the input ends, and says how many bytes it put at the start of `bytes`.
+// Stays: fixed memory. `read_to_end` takes a heap, and `read_exact` keeps no count where the input ends early. `desk` has the same function:
+// a library may not, since no promise fixes what a read gives.
 fn read_full(input: &mut impl Read, bytes: &mut [u8]) -> io::Result<usize>
     ensures { IfOk result (λ n. n ≤ length bytes.new) }
 {

@@ -6,7 +6,6 @@ ghost use Rattle.std.specs.Prelude.{◌≡◌, length};
 use std::io;
 use text::Cursor;
 use text::count::{LF, NINE};
-use text::line::VertexLine;
 
 // How many digits the line has.
 const DIGITS: usize = 1000000;
