@@ -1,5 +1,5 @@
 -- Laws of the call: one for each way that a function of it ends, its premises the code's tests. Assumes nothing.
-use Prim.Native.Nat.{ℕ, ◌≤◌, min}
+use Prim.Native.Nat.{ℕ, ◌≤◌}
 use mathlib.Core.Path.{◌≡◌, refl, sym, ap, ◌∙◌, subst}
 use mathlib.Core.Bool.{Bool, true, false, ◌&&◌}
 use mathlib.Core.List.{List, ◌++◌}
@@ -7,23 +7,20 @@ use native.Mathlib.Omega.{arith}
 use lib.IntN.{ℤ, pos}
 use lib.ListN.{length, get_or, take, drop, length-replicate}
 use lib.Seq.{length-take-le}
-use lib.Dec.{leb, ltb}
+use lib.Dec.{leb}
 use borrow.Author.Tests.{leb-true, le-leb}
 use Rattle.basis.specs.Refusal.{Said, gives, refuses, plain, no_room, unsound, not_there, unweighted}
 use Rattle.basis.specs.Area.{cleared, cleared_z}
 use Rattle.basis.specs.Limits.{most_weight}
 use Rattle.basis.proofs.Tests.{and_first, and_second, failed, held}
 use Rattle.basis.proofs.Scans.{each_of}
-use Rattle.basis.proofs.Orders.{leb-min}
 use Rattle.basis.proofs.Areas.{column-length}
-use Rattle.graph.specs.declared.Size.{Size}
-use Rattle.graph.specs.declared.find.Found.{Found}
-use Rattle.graph.specs.declared.find.Found.TheVariants.{At, Missing}
+use Rattle.std.specs.Prelude.{Option, Some, None}
 use Rattle.graph.specs.Part.{part_of}
 use Rattle.graph.specs.Find.{Searched, place_in}
-use Rattle.graph.specs.Sound.{outward, names, lent}
+use Rattle.graph.specs.Sound.{outward, names}
 use Rattle.graph.specs.Walk.{arcs_checked}
-use Rattle.graph.specs.Weights.{Weighted, weighing, counts_weighted, is_weighted, out_legs, legs_of, sound_weighted}
+use Rattle.graph.specs.Weights.{Weighted, counts_weighted, is_weighted, out_legs, legs_of, sound_weighted}
 use Rattle.graph.proofs.Walks.{check-told, check-area}
 use Rattle.graph.proofs.Sounds.{names-length, outward-below, vertex-found}
 use Rattle.graph.proofs.Finds.{place_at, searched-is}
@@ -32,13 +29,6 @@ use Rattle.kernels.proofs.Results.{front-padded, front-cleared}
 use Rattle.sssp.specs.Distance.{distances, as_signed}
 use Rattle.sssp.specs.Call.{Outcome, outcome, refusal, room_for, left_by, sssp_says, sssp_call}
 use Rattle.sssp.specs.Steps.{Ready, WeighedAll, Lent}
-
--- ---- room for n places in the shortest area
-pub room-all : (n : ℕ) (D : List ℤ) (S W T : List ℕ) {a b c : ℕ} → a ≡ min (length D) (length S) → b ≡ min (length W) (length T)
-    → c ≡ min a b → leb n c ≡ room_for n D S W T
-unfolding room_for
-room-all n D S W T {a} {b} {c} p q r =
-    rw (r, leb-min n a b, p, q, leb-min n (length D) (length S), leb-min n (length W) (length T)) refl
 
 -- equal parts, equal outcomes
 outcomes : {s t : Said (Unit {0})} {D D' : List ℤ} {S S' W W' T T' : List ℕ} → s ≡ t → D ≡ D' → S ≡ S' → W ≡ W' → T ≡ T'
@@ -95,13 +85,9 @@ sound-inside g h t u l =
     }
 
 -- ---- the first n places of the areas, of a graph's n vertices
-module _ (size : Size) (ids : List ℤ) (oo ot io is ow iw : List ℕ) (v : ℕ) (D : List ℤ) (S W T : List ℕ)
-    (x : Ready (weighing (lent size ids oo ot io is) true ow iw) v D S W T) where
-  abbrev g : Weighted
-  g = weighing (lent size ids oo ot io is) true ow iw
-
+module _ {g : Weighted} {v : ℕ} {D : List ℤ} {S W T : List ℕ} (x : Ready g v D S W T) where
   abbrev n : ℕ
-  n = size.vertices
+  n = g.graph.vertices
 
   lent-distance : n ≤ length D
   lent-distance = room-distance n D S W T x.room
@@ -125,9 +111,9 @@ module _ (size : Size) (ids : List ℤ) (oo ot io is ow iw : List ℕ) (v : ℕ)
   taken-tree = sym (length-take-le n T lent-tree)
 
   -- what the search needs
-  pub fill-inside : WeighedAll (length (take n S)) (part_of (length (take n S)) oo ot) (part_of (length (take n S)) oo ow)
+  pub fill-inside : WeighedAll (length (take n S)) (part_of (length (take n S)) g.graph.out_offsets g.graph.out_targets) (part_of (length (take n S)) g.graph.out_offsets g.out_weights)
   fill-inside =
-      subst (λ (m : ℕ). WeighedAll m (part_of m oo ot) (part_of m oo ow)) taken-settled (sound-inside g x.sound x.weighted)
+      subst (λ (m : ℕ). WeighedAll m (part_of m g.graph.out_offsets g.graph.out_targets) (part_of m g.graph.out_offsets g.out_weights)) taken-settled (sound-inside g x.sound x.weighted)
 
   pub fill-lent : Lent v (take n S) (take n W) (take n T)
   fill-lent =
@@ -151,14 +137,14 @@ module _ (size : Size) (ids : List ℤ) (oo ot io is ow iw : List ℕ) (v : ℕ)
   fill-long E e = sym (fill-taken E e) ∙ taken-settled
 
   pub fill-all : (E A : List ℤ) (B C F S₁ W₁ T₁ : List ℕ) → E ≡ cleared_z D
-      → A ≡ as_signed (length (take n S)) (distances (length (take n S)) (legs_of (length (take n S)) oo ot ow) v)
+      → A ≡ as_signed (length (take n S)) (distances (length (take n S)) (legs_of (length (take n S)) g.graph.out_offsets g.graph.out_targets g.out_weights) v)
       → length B ≡ length (take n S) → length C ≡ length (take n W) → length F ≡ length (take n T)
       → (S₁ ≡ cleared (B ++ drop n S)) × (W₁ ≡ cleared (C ++ drop n W)) × (T₁ ≡ cleared (F ++ drop n T))
-      → outcome (gives tt) (A ++ drop n E) S₁ W₁ T₁ ≡ left_by (gives tt) g (At v) D S W T
+      → outcome (gives tt) (A ++ drop n E) S₁ W₁ T₁ ≡ left_by (gives tt) g (Some v) D S W T
   unfolding left_by
   fill-all E A B C F S₁ W₁ T₁ e a b c d z =
       let f : A ≡ as_signed n (distances n (out_legs g) v) =
-      a ∙ ap (λ (m : ℕ). as_signed m (distances m (legs_of m oo ot ow) v)) (sym taken-settled) in
+      a ∙ ap (λ (m : ℕ). as_signed m (distances m (legs_of m g.graph.out_offsets g.graph.out_targets g.out_weights) v)) (sym taken-settled) in
       outcomes refl
       (front-padded (pos 0) n D E (as_signed n (distances n (out_legs g) v)) A
       (column-length (λ u. pos (get_or (distances n (out_legs g) v) u 0)) 0 n) e f)
@@ -172,13 +158,9 @@ unfolding sssp_call left_by room_for
 call-over g root D S W T T₁ q = rw (q, length-replicate {A = ℕ} (length T) 0)
 
 -- T₁ is the tree that it left; s and t say that the graph is sound, and that it is weighted; z is the root as it is handed on
-module _ (size : Size) (weighted : Bool) (ids : List ℤ) (oo ot io is ow iw : List ℕ) (root : ℤ) (D : List ℤ) (S W T T₁ : List ℕ)
-    (o : Outcome) (s : Bool)
-    (e : arcs_checked s T₁ ≡ arcs_checked (sound_weighted (weighing (lent size ids oo ot io is) weighted ow iw)) (cleared T)) where
-  abbrev graph : Weighted
-  graph = weighing (lent size ids oo ot io is) weighted ow iw
-
-  abbrev place : Found
+module _ (graph : Weighted) (root : ℤ) (D : List ℤ) (S W T T₁ : List ℕ) (o : Outcome) (s : Bool)
+    (e : arcs_checked s T₁ ≡ arcs_checked (sound_weighted graph) (cleared T)) where
+  abbrev place : Option ℕ
   place = place_in (names graph.graph) root
 
   over : sssp_call graph root D S W T₁ ≡ sssp_call graph root D S W T
@@ -188,17 +170,17 @@ module _ (size : Size) (weighted : Bool) (ids : List ℤ) (oo ot io is ow iw : L
   unfolding sssp_call sssp_says left_by
   call-unsound h q = rw (failed s (sound_weighted graph) (check-told e) h) q ∙ over
 
-  module _ (h : s ≡ true) (t : Bool) (f : t ≡ counts_weighted weighted size.arcs) where
+  module _ (h : s ≡ true) (t : Bool) (f : t ≡ counts_weighted graph.weighted graph.graph.arcs) where
     sound : sound_weighted graph ≡ true
     sound = held s (sound_weighted graph) (check-told e) h
 
     pub call-plain : t ≡ false → o ≡ refusal unweighted D S W T₁ → o ≡ sssp_call graph root D S W T
     unfolding sssp_call sssp_says left_by
-    call-plain k q = rw (sound, failed t (counts_weighted weighted size.arcs) f k) q ∙ over
+    call-plain k q = rw (sound, failed t (counts_weighted graph.weighted graph.graph.arcs) f k) q ∙ over
 
-    module _ (k : t ≡ true) (z : ℤ) (same : z ≡ root) (x : Found) (b : Searched (names graph.graph) z x) where
+    module _ (k : t ≡ true) (z : ℤ) (same : z ≡ root) (x : Option ℕ) (b : Searched (names graph.graph) z x) where
       weights : is_weighted graph ≡ true
-      weights = held t (counts_weighted weighted size.arcs) f k
+      weights = held t (counts_weighted graph.weighted graph.graph.arcs) f k
 
       -- a bisection of the names of a sound graph finds a vertex by its identifier
       found : place ≡ x
@@ -206,37 +188,31 @@ module _ (size : Size) (weighted : Bool) (ids : List ℤ) (oo ot io is ow iw : L
           sym (searched-is b ∙ vertex-found graph.graph (weighted-of graph sound).graph z
           ∙ ap (place_in (names graph.graph)) same)
 
-      pub call-missing : x ≡ Missing → o ≡ refusal not_there D S W T₁ → o ≡ sssp_call graph root D S W T
+      pub call-missing : x ≡ None → o ≡ refusal not_there D S W T₁ → o ≡ sssp_call graph root D S W T
       unfolding sssp_call sssp_says left_by
       call-missing a q = rw (sound, weights, found ∙ a) q ∙ over
 
-      module _ (v : ℕ) (a : x ≡ At v) (r : Bool) (i : r ≡ room_for size.vertices D S W T₁) where
+      module _ (v : ℕ) (a : x ≡ Some v) (r : Bool) (i : r ≡ room_for graph.graph.vertices D S W T₁) where
         pub call-short : r ≡ false → o ≡ refusal no_room D S W T₁ → o ≡ sssp_call graph root D S W T
         unfolding sssp_call sssp_says left_by
-        call-short l q = rw (sound, weights, found ∙ a, failed r (room_for size.vertices D S W T₁) i l) q ∙ over
+        call-short l q = rw (sound, weights, found ∙ a, failed r (room_for graph.graph.vertices D S W T₁) i l) q ∙ over
 
-        pub call-done : r ≡ true → o ≡ left_by (gives tt) (weighing (lent size ids oo ot io is) true ow iw) (At v) D S W T₁
+        pub call-done : r ≡ true → o ≡ left_by (gives tt) graph (Some v) D S W T₁
             → o ≡ sssp_call graph root D S W T
         unfolding sssp_call sssp_says left_by
-        call-done l q = rw (sound, weights, found ∙ a, held r (room_for size.vertices D S W T₁) i l) q ∙ over
+        call-done l q = rw (sound, weights, found ∙ a, held r (room_for graph.graph.vertices D S W T₁) i l) q ∙ over
 
 -- and with weights, a root that is there and room, the areas can be filled
-pub call-ready : (size : Size) (weighted : Bool) (ids : List ℤ) (oo ot io is ow iw : List ℕ) (root : ℤ) (D : List ℤ) (S W T : List ℕ)
-    (s : Bool) → s ≡ sound_weighted (weighing (lent size ids oo ot io is) weighted ow iw) → s ≡ true
-    → (t : Bool) → t ≡ counts_weighted weighted size.arcs → t ≡ true → (f : Found) → Searched (names (lent size ids oo ot io is))
-    root f
-    → (v : ℕ) → f ≡ At v → (r : Bool) → r ≡ room_for size.vertices D S W T → r ≡ true
-    → Ready (weighing (lent size ids oo ot io is) true ow iw) v D S W T
-call-ready size weighted ids oo ot io is ow iw root D S W T s e h t k j f b v a r i l =
-    let g = weighing (lent size ids oo ot io is) weighted ow iw in
-    let w : counts_weighted weighted size.arcs ≡ true = held t (counts_weighted weighted size.arcs) k j in
-    let on : weighted ≡ true = and_first weighted (ltb 0 size.arcs) w in
+pub call-ready : (g : Weighted) (root : ℤ) (D : List ℤ) (S W T : List ℕ) (s : Bool) → s ≡ sound_weighted g → s ≡ true
+    → (t : Bool) → t ≡ is_weighted g → t ≡ true → (f : Option ℕ) → Searched (names g.graph) root f → (v : ℕ) → f ≡ Some v
+    → (r : Bool) → r ≡ room_for g.graph.vertices D S W T → r ≡ true → Ready g v D S W T
+call-ready g root D S W T s e h t k j f b v a r i l =
     let sound = held s (sound_weighted g) e h in
     let d = (weighted-of g sound).graph in
     let p = sym (searched-is b ∙ vertex-found g.graph d root) ∙ a in
     record {
-      sound = rw on at sound;
-      weighted = rw on at w;
+      sound = sound;
+      weighted = held t (is_weighted g) k j;
       there = omega (arith, ((place_at (names g.graph) root d.ids_rise v).0 p).0, names-length g.graph d);
-      room = held r (room_for size.vertices D S W T) i l;
+      room = held r (room_for g.graph.vertices D S W T) i l;
     }

@@ -18,8 +18,7 @@ use Rattle.basis.specs.Scan.{mem}
 use Rattle.basis.proofs.Alls.{All}
 use Rattle.basis.proofs.Areas.{column-length, column-at}
 use Rattle.basis.proofs.Tests.{and_first, and_second, and_both, and-off, or-first, or-second, or_cases, clash, eqb_swap}
-use Rattle.graph.specs.declared.find.Found.{Found}
-use Rattle.graph.specs.declared.find.Found.TheVariants.{At, Missing}
+use Rattle.std.specs.Prelude.{Option, Some, None}
 use Rattle.graph.specs.Find.{place_in}
 use Rattle.graph.specs.Part.{part_of}
 use Rattle.graph.specs.Sound.{outward, names, Sound}
@@ -249,18 +248,18 @@ module _ (g : Weighted) (root : ℤ) (sound : sound_weighted g ≡ true) where
   s = (weighted-of g sound).graph
 
   -- where the root stands
-  place : (v : ℕ) → HasName g.graph v root → place_in (names g.graph) root ≡ At v
+  place : (v : ℕ) → HasName g.graph v root → place_in (names g.graph) root ≡ Some v
   place v h =
       (place_at (names g.graph) root s.ids_rise v).1 (let e = names-length g.graph s in let l = h.0 in omega arith, h.1)
 
-  nowhere : ((v : ℕ) → HasName g.graph v root → ⊥) → place_in (names g.graph) root ≡ Missing
+  nowhere : ((v : ℕ) → HasName g.graph v root → ⊥) → place_in (names g.graph) root ≡ None
   nowhere none = by (place_in (names g.graph) root) refl
     where
-      by : (f : Found) → place_in (names g.graph) root ≡ f → f ≡ Missing
-      by (At v) e =
+      by : (f : Option ℕ) → place_in (names g.graph) root ≡ f → f ≡ None
+      by (Some v) e =
           let p = (place_at (names g.graph) root s.ids_rise v).0 e in
           absurd (none v (let q = names-length g.graph s in let l = p.0 in omega arith, p.1))
-      by Missing e = refl
+      by None e = refl
 
   module _ (weighted : is_weighted g ≡ true) (D : List ℤ) (S W T : List ℕ) (v : ℕ) (h : HasName g.graph v root) where
     call-done : room_for g.graph.vertices D S W T ≡ true → Done g v D S W T (sssp_call g root D S W T)

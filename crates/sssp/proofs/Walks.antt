@@ -1,14 +1,16 @@
 -- Laws of the steps: a vertex that is met, and the walk over the arcs of one vertex. Assumes nothing.
 use Prim.Native.Nat.{ℕ, ◌+◌, ◌≤◌, ◌<◌}
 use mathlib.Core.Path.{◌≡◌, refl, sym, ap, ◌∙◌}
-use mathlib.Core.List.{List}
-use native.Mathlib.Numerals.{add-one}
+use mathlib.Core.Logic.{◌⊎◌, inl, inr}
+use mathlib.Core.List.{List, [], ◌∷◌}
+use native.Mathlib.Nat.{suc_inj}
 use native.Mathlib.Decide.{dec_lt}
 use native.Mathlib.Omega.{arith}
-use lib.ListN.{length, get_or, set, drop, length-set, drop_of_length-le}
-use lib.Seq.{drop-cons}
-use lib.Dec.{leb}
+use lib.ListN.{length, set, length-set}
+use lib.Dec.{leb, ltb}
 use borrow.Author.Tests.{lt-ltb, le-ltb, leb-true}
+use Rattle.basis.specs.Scan.{each}
+use Rattle.basis.proofs.Tests.{and_second, no-case}
 use Rattle.basis.proofs.Scans.{each_at, below_at}
 use Rattle.basis.specs.Limits.{most_weight}
 use Rattle.graph.specs.Weights.{Leg, legs}
@@ -39,41 +41,59 @@ pub relax-far : (dist key tree : List ℕ) (w d x : ℕ) → x ≡ known_at dist
     → Replayed (lowered dist w d key) key tree
 relax-far dist key tree w d x e h p = record { same = lowered-far dist key w d (omega arith); played = p }
 
--- ---- the walk over a vertex's arcs, i of them walked
-pub record Walking (dist : List ℕ) (d : ℕ) (ws cs key₀ key tree : List ℕ) (i : ℕ) : Type 0 where
+-- ---- the walk over a vertex's arcs, of which those to ws' that weigh cs' are left
+pub record Walking (dist : List ℕ) (d : ℕ) (ws cs key₀ key tree ws' cs' : List ℕ) : Type 0 where
   pub played : Played None key tree
   pub long : length key ≡ length key₀
-  pub rest : walked dist d (legs (drop i ws) (drop i cs)) key ≡ walked dist d (legs ws cs) key₀
+  pub left : WeighedPart (length key₀) ws' cs'
+  pub rest : walked dist d (legs ws' cs') key ≡ walked dist d (legs ws cs) key₀
 
-module _ (n : ℕ) (ws cs : List ℕ) (weighed : WeighedPart n ws cs) (i : ℕ) (h : i < length ws) where
-  pub arc-low : get_or ws i 0 < n
-  arc-low = below_at n ws weighed.low i h
+pub walking-first : (dist : List ℕ) (d : ℕ) (ws cs key tree ws' cs' : List ℕ) → Played None key tree → WeighedPart (length key) ws cs
+    → ws' ≡ ws → cs' ≡ cs
+    → Walking dist d ws cs key key tree ws' cs'
+walking-first dist d ws cs key tree ws' cs' p l e f = rw (e, f) (record { played = p; long = refl; left = l; rest = refl })
 
-  pub arc-light : get_or cs i 0 ≤ most_weight
-  arc-light = leb-true (get_or cs i 0) most_weight (each_at (λ c. leb c most_weight) 0 cs weighed.light i (omega (arith, weighed.long)))
+-- an arc to w that weighs c, and others
+weighed-tail : {n w c : ℕ} {ws cs : List ℕ} → WeighedPart n (w ∷ ws) (c ∷ cs) → WeighedPart n ws cs
+unfolding each
+weighed-tail {n} {w} {c} p =
+    record {
+      low = and_second (ltb w n) _ p.low;
+      long = suc_inj p.long;
+      light = and_second (leb c most_weight) _ p.light;
+    }
 
-  walk_step : (dist : List ℕ) (d : ℕ) (key : List ℕ)
-      → walked dist d (legs (drop i ws) (drop i cs)) key ≡ walked dist d (legs (drop (i + 1) ws) (drop (i + 1) cs)) (lowered dist
-      (get_or ws i 0) (d + get_or cs i 0) key)
-  unfolding walked legs
-  walk_step dist d key =
-      rw (drop-cons ws i 0 h, drop-cons cs i 0 (omega (arith, weighed.long)), add-one)
+legs-none : (ws cs : List ℕ) → (ws ≡ []) ⊎ (cs ≡ []) → legs ws cs ≡ []
+unfolding legs
+legs-none [] cs h = refl
+legs-none (w ∷ ws) cs (inl e) = no-case (let z : (w ∷ ws) ≡ [] = e in cc)
+legs-none (w ∷ ws) cs (inr e) = rw e refl
 
-  pub walking-more : (dist : List ℕ) (d : ℕ) (key₀ key tree key' tree' : List ℕ) → Walking dist d ws cs key₀ key tree i
-      → Replayed (lowered dist (get_or ws i 0) (d + get_or cs i 0) key) key' tree' → Walking dist d ws cs key₀ key' tree' (i + 1)
-  walking-more dist d key₀ key tree key' tree' k r =
-      record {
-        played = r.played;
-        long = ap length r.same ∙ lowered-length dist key (get_or ws i 0) (d + get_or cs i 0) ∙ k.long;
-        rest =
-            ap (walked dist d (legs (drop (i + 1) ws) (drop (i + 1) cs))) r.same ∙ sym (walk_step dist d key) ∙ k.rest;
-      }
+module _ {dist : List ℕ} {d : ℕ} {ws cs key₀ key tree ws' cs' : List ℕ} (k : Walking dist d ws cs key₀ key tree ws' cs') where
+  module _ {w c : ℕ} {us bs : List ℕ} (e : ws' ≡ w ∷ us) (f : cs' ≡ c ∷ bs) where
+    weighed : WeighedPart (length key₀) (w ∷ us) (c ∷ bs)
+    weighed = rw (e, f) at k.left
 
-pub walking-end : (dist : List ℕ) (d : ℕ) (ws cs key₀ key tree : List ℕ) (i : ℕ) → Walking dist d ws cs key₀ key tree i → length ws ≤ i
-    → Replayed (walked dist d (legs ws cs) key₀) key tree
-unfolding walked legs
-walking-end dist d ws cs key₀ key tree i k h =
-    record { same = ap (λ l. walked dist d (legs l (drop i cs)) key) (sym (drop_of_length-le ws h)) ∙ k.rest; played = k.played }
+    pub arc-low : w < length key
+    arc-low = let h = below_at (length key₀) (w ∷ us) weighed.low 0 (omega arith) in omega (arith, k.long)
+
+    pub arc-light : c ≤ most_weight
+    arc-light = leb-true c most_weight (each_at (λ c. leb c most_weight) 0 (c ∷ bs) weighed.light 0 (omega arith))
+
+    pub walking-more : {key' tree' : List ℕ} → Replayed (lowered dist w (d + c) key) key' tree'
+        → Walking dist d ws cs key₀ key' tree' us bs
+    unfolding walked legs
+    walking-more r =
+        record {
+          played = r.played;
+          long = ap length r.same ∙ lowered-length dist key w (d + c) ∙ k.long;
+          left = weighed-tail weighed;
+          rest = ap (walked dist d (legs us bs)) r.same ∙ (rw (e, f) at k.rest);
+        }
+
+  pub walking-end : (ws' ≡ []) ⊎ (cs' ≡ []) → Replayed (walked dist d (legs ws cs) key₀) key tree
+  unfolding walked
+  walking-end h = record { same = ap (λ l. walked dist d l key) (sym (legs-none ws' cs' h)) ∙ k.rest; played = k.played }
 
 pub serve-end : (keys key key' tree tree' dist dist' : List ℕ) (l : List Leg) (d : ℕ) → Replayed keys key tree → dist ≡ dist'
     → Replayed (walked dist d l key) key' tree'

@@ -1,9 +1,7 @@
 -- 02 K3: what the SSSP call answers, and what it leaves in the areas lent for writing.
-use Rattle.std.specs.Prelude.{ℕ, Bool, ◌&&◌, List, [], ℤ, pos, length, leb}
+use Rattle.std.specs.Prelude.{ℕ, Bool, ◌&&◌, Option, Some, None, List, [], ℤ, pos, length, leb}
 use Rattle.basis.specs.Refusal.{Said, gives, refuses, plain, check, no_room, unsound, not_there, unweighted}
 use Rattle.basis.specs.Area.{leaves, cleared, cleared_z}
-use Rattle.graph.specs.declared.find.Found.{Found}
-use Rattle.graph.specs.declared.find.Found.TheVariants.{At, Missing}
 use Rattle.graph.specs.Find.{place_in, is_there}
 use Rattle.graph.specs.Sound.{names}
 use Rattle.graph.specs.Weights.{Weighted, is_weighted, out_legs, sound_weighted}
@@ -29,9 +27,9 @@ refusal number distance settled waiting tree =
     outcome (refuses (plain number)) (cleared_z distance) (cleared settled) (cleared waiting) (cleared tree)
 
 -- the distances from a root that is there
-abbrev pub distances_from : Weighted → Found → List ℤ
-distances_from g (At root) = as_signed g.graph.vertices (distances g.graph.vertices (out_legs g) root)
-distances_from g Missing = []
+abbrev pub distances_from : Weighted → Option ℕ → List ℤ
+distances_from g (Some root) = as_signed g.graph.vertices (distances g.graph.vertices (out_legs g) root)
+distances_from g None = []
 
 -- "each result or working area needs n places"
 unfoldable pub room_for : ℕ → List ℤ → List ℕ → List ℕ → List ℕ → Bool
@@ -40,7 +38,7 @@ room_for n distance settled waiting tree =
 
 -- with an answer: the distances from the root's place in the result area with zeros behind them, or zeros where refused;
 -- "working areas are zero throughout"
-unfoldable pub left_by : Said (Unit {0}) → Weighted → Found → List ℤ → List ℕ → List ℕ → List ℕ → Outcome
+unfoldable pub left_by : Said (Unit {0}) → Weighted → Option ℕ → List ℤ → List ℕ → List ℕ → List ℕ → Outcome
 left_by said g place distance settled waiting tree =
     outcome said (leaves said (pos 0) (length distance) (distances_from g place)) (cleared settled) (cleared waiting) (cleared tree)
 

@@ -1,6 +1,6 @@
 // The search, by Dijkstra's method over the tree of winners: each vertex that is reached is served once, the nearest first. `dist` holds
 // the distances that are settled, `key` those of the vertices that wait, and both hold infinity elsewhere.
-ghost use Rattle.std.specs.Prelude.{◌≡◌, ◌≤◌, ◌<◌, pos, length, get_or, set, replicate};
+ghost use Rattle.std.specs.Prelude.{◌≡◌, ◌<◌, length, get_or, set, replicate};
 ghost use Rattle.basis.specs.Area.{infinity};
 ghost use Rattle.graph.specs.Part.{part_of};
 ghost use Rattle.graph.specs.Weights.{legs, legs_of};
@@ -10,22 +10,11 @@ ghost use Rattle.sssp.specs.Steps.{lowered, walked, settled, served, WeighedPart
 
 use crate::tree::{build, rekey, winner};
 use basis::area::clear;
-use basis::order::lesser;
+use graph::Way;
 use view::neighbours;
 
 // `Area.infinity`, as the working areas hold it.
 const FAR: usize = 9223372036854775807;
-
-// Every place holds infinity.
-fn all_far(area: &mut [usize])
-    ensures { area.new ≡ replicate (length area.old) infinity }
-{
-    let mut i = 0;
-    while i < area.len() {
-        area[i] = FAR;
-        i += 1;
-    }
-}
 
 // Vertex w is met at distance d: where it is not known as near, d is its key.
 fn relax(dist: &[usize], key: &mut [usize], tree: &mut [usize], w: usize, d: usize)
@@ -33,7 +22,7 @@ fn relax(dist: &[usize], key: &mut [usize], tree: &mut [usize], w: usize, d: usi
     requires w_in_bounds { (w < length key.old) × (length dist.now ≡ length key.old) }
     ensures { Replayed (lowered dist.now w d key.old) key.new tree.new }
 {
-    if d < lesser(dist[w], key[w]) {
+    if d < dist[w].min(key[w]) {
         rekey(key, tree, w, d);
     }
 }
@@ -53,10 +42,8 @@ fn walk(
     ensures { Replayed (walked dist.now d (legs next.now cost.now) key.old)
         key.new tree.new }
 {
-    let mut i = 0;
-    while i < next.len() {
-        relax(dist, key, tree, next[i], d + cost[i]);
-        i += 1;
+    for (&w, &c) in next.iter().zip(cost) {
+        relax(dist, key, tree, w, d + c);
     }
 }
 
@@ -88,8 +75,8 @@ fn start(root: usize, dist: &mut [usize], key: &mut [usize], tree: &mut [usize])
     ensures { (dist.new ≡ replicate (length dist.old) infinity)
         × Replayed (set (replicate (length key.old) infinity) root 0) key.new tree.new }
 {
-    all_far(dist);
-    all_far(key);
+    dist.fill(FAR);
+    key.fill(FAR);
     key[root] = 0;
     clear(tree);
     build(key, tree);
@@ -97,38 +84,30 @@ fn start(root: usize, dist: &mut [usize], key: &mut [usize], tree: &mut [usize])
 
 // The whole search: while a vertex waits that is reached, the nearest one is served.
 fn search(
-    offsets: &[usize],
-    targets: &[usize],
+    out: Way,
     weights: &[usize],
     root: usize,
     dist: &mut [usize],
     key: &mut [usize],
     tree: &mut [usize],
 )
-    requires weighed_all { WeighedAll (length dist.old) (part_of (length dist.old) offsets.now targets.now)
-        (part_of (length dist.old) offsets.now weights.now) }
+    requires weighed_all { WeighedAll (length dist.old) (part_of (length dist.old) out.offsets.now out.targets.now)
+        (part_of (length dist.old) out.offsets.now weights.now) }
     requires lent { Lent root dist.old key.old tree.old }
     ensures { dist.new
         ≡ distances (length dist.old)
-        (legs_of (length dist.old) offsets.now targets.now weights.now) root }
+        (legs_of (length dist.old) out.entry.offsets.now out.entry.targets.now weights.now) root }
 {
     let n = dist.len();
     start(root, dist, key, tree);
     let mut u = winner(tree, 1);
+    // Stays: which vertices wait, and so whether one is left, changes at each turn.
     while key[u] < FAR {
-        let next = neighbours(targets, offsets, n, u);
-        let cost = neighbours(weights, offsets, n, u);
+        let next = neighbours(out.targets, out.offsets, n, u);
+        let cost = neighbours(weights, out.offsets, n, u);
         serve(next, cost, u, dist, key, tree);
         u = winner(tree, 1);
     }
-}
-
-// A distance, or infinity, as a result area holds it.
-fn signed(d: usize) -> i64
-    requires { d ≤ infinity }
-    ensures { result ≡ pos d }
-{
-    d as i64
 }
 
 // The distances, as a result area holds them.
@@ -137,17 +116,14 @@ fn sign(dist: &[usize], distance: &mut [i64])
     requires all_signed { AllSigned dist.now }
     ensures { distance.new ≡ as_signed (length dist.now) dist.now }
 {
-    let mut v = 0;
-    while v < dist.len() {
-        distance[v] = signed(dist[v]);
-        v += 1;
+    for (v, place) in distance.iter_mut().enumerate() {
+        *place = dist[v] as i64;
     }
 }
 
 // The distances from the root, in areas of a place for each vertex.
 pub(crate) fn measure(
-    offsets: &[usize],
-    targets: &[usize],
+    out: Way,
     weights: &[usize],
     root: usize,
     distance: &mut [i64],
@@ -155,15 +131,15 @@ pub(crate) fn measure(
     key: &mut [usize],
     tree: &mut [usize],
 )
-    requires weighed_all { WeighedAll (length dist.old) (part_of (length dist.old) offsets.now targets.now)
-        (part_of (length dist.old) offsets.now weights.now) }
+    requires weighed_all { WeighedAll (length dist.old) (part_of (length dist.old) out.offsets.now out.targets.now)
+        (part_of (length dist.old) out.offsets.now weights.now) }
     requires lent { Lent root dist.old key.old tree.old }
     requires distance_len { length distance.old ≡ length dist.old }
     ensures { distance.new
         ≡ as_signed (length dist.old)
         (distances (length dist.old)
-        (legs_of (length dist.old) offsets.now targets.now weights.now) root) }
+        (legs_of (length dist.old) out.entry.offsets.now out.entry.targets.now weights.now) root) }
 {
-    search(offsets, targets, weights, root, dist, key, tree);
+    search(out, weights, root, dist, key, tree);
     sign(dist, distance);
 }

@@ -4,6 +4,7 @@ ghost use Rattle.std.specs.Prelude.{◌≡◌, ◌<◌, length, set};
 ghost use Rattle.sssp.specs.Tree.{won, nearer, winner_at, Nodes, Played, None, Spoiled, Replayed};
 
 // The vertex that wins below node k: the vertices are the nodes behind the tree's own.
+#[tactic(auto, unfolding(crate::specs::Tree::won))]
 pub(crate) fn winner(tree: &[usize], k: usize) -> usize
     ensures { result ≡ won tree.now k }
 {
@@ -12,6 +13,7 @@ pub(crate) fn winner(tree: &[usize], k: usize) -> usize
 }
 
 // Of two vertices the one with the lesser key.
+#[tactic(auto, unfolding(crate::specs::Tree::nearer))]
 fn nearer(key: &[usize], a: usize, b: usize) -> usize
     requires { (a < length key.now) × (b < length key.now) }
     ensures { result ≡ nearer key.now a b }
@@ -35,9 +37,7 @@ pub(crate) fn build(key: &[usize], tree: &mut [usize])
     requires { Nodes key.now tree.old }
     ensures { Played None key.now tree.new }
 {
-    let mut k = tree.len();
-    while 1 < k {
-        k -= 1;
+    for k in (1..tree.len()).rev() {
         play(key, tree, k);
     }
 }
@@ -48,16 +48,15 @@ fn replay(key: &[usize], tree: &mut [usize], v: usize)
     ensures { Played None key.now tree.new }
 {
     let mut at = (tree.len() + v) / 2;
+    // Stays: a node's place is half of the place of the one below it, so the loop goes by halves and not by places in a row.
     while 0 < at {
         let before = tree[at];
         play(key, tree, at);
         let after = tree[at];
-        if after == before {
-            if after != v {
-                return;
-            }
+        if after == before && after != v {
+            return;
         }
-        at = at / 2;
+        at /= 2;
     }
 }
 

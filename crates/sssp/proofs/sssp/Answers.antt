@@ -9,14 +9,14 @@ use Rattle.sssp.proofs.sssp.Goals as goal
 
 pub returns-then-not-weighted_sound_over : goal.returns-then-not-weighted_sound_over
 returns-then-not-weighted_sound_over c =
-    call-unsound _ _ _ _ _ _ _ _ _ _ _ _ _ _ _ _ _
+    call-unsound _ _ _ _ _ _ _ _ _
     c.weighted_sound_over.ensures
     c.if-not-weighted_sound_over.true
     c.refuse.ensures
 
 pub returns-then-not-is_weighted : goal.returns-then-not-is_weighted
 returns-then-not-is_weighted c =
-    call-plain _ _ _ _ _ _ _ _ _ _ _ _ _ _ _ _ _
+    call-plain _ _ _ _ _ _ _ _ _
     c.weighted_sound_over.ensures
     c.if-not-weighted_sound_over.false _
     c.is_weighted.ensures
@@ -29,53 +29,53 @@ slice_bounds-find-end c =
     (weighted-of _ (held _ _ (check-told c.weighted_sound_over.ensures)
     c.if-not-weighted_sound_over.false)).graph.ids_room)
 
-pub returns-in-Missing : goal.returns-in-Missing
-returns-in-Missing c =
-    call-missing _ _ _ _ _ _ _ _ _ _ _ _ _ _ _ _ _
+pub returns-in_default : goal.returns-in_default
+returns-in_default c =
+    call-missing _ _ _ _ _ _ _ _ _
     c.weighted_sound_over.ensures
     c.if-not-weighted_sound_over.false _
     c.is_weighted.ensures
     c.if-not-is_weighted.false _
     (to_z-of_z c.ranges.root) _
     c.find.ensures
-    c.in-Missing.is
-    c.refuse-in-Missing.ensures
+    c.in_default.is
+    c.refuse-in_default.ensures
 
 pub returns-then-not-room : goal.returns-then-not-room
 returns-then-not-room c =
-    call-short _ _ _ _ _ _ _ _ _ _ _ _ _ _ _ _ _
+    call-short _ _ _ _ _ _ _ _ _
     c.weighted_sound_over.ensures
     c.if-not-weighted_sound_over.false _
     c.is_weighted.ensures
     c.if-not-is_weighted.false _
     (to_z-of_z c.ranges.root) _
     c.find.ensures _
-    c.in-At.is _
+    c.in-Some.is _
     c.room.ensures
     c.if-not-room.true
     c.refuse-then-not-room.ensures
 
 pub fill-requires : goal.fill-requires
 fill-requires c =
-    call-ready _ _ _ _ _ _ _ _ _ _ _ _ _ _ _ (check-told
+    call-ready _ _ _ _ _ _ _ (check-told
     c.weighted_sound_over.ensures)
     c.if-not-weighted_sound_over.false _
     c.is_weighted.ensures
     c.if-not-is_weighted.false _
     c.find.ensures _
-    c.in-At.is _
+    c.in-Some.is _
     c.room.ensures c.if-not-room.false
 
 pub returns : goal.returns
 returns c =
-    call-done _ _ _ _ _ _ _ _ _ _ _ _ _ _ _ _ _
+    call-done _ _ _ _ _ _ _ _ _
     c.weighted_sound_over.ensures
     c.if-not-weighted_sound_over.false _
     c.is_weighted.ensures
     c.if-not-is_weighted.false _
     (to_z-of_z c.ranges.root) _
     c.find.ensures _
-    c.in-At.is _
+    c.in-Some.is _
     c.room.ensures
     c.if-not-room.false
     c.fill.ensures

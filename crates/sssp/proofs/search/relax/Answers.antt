@@ -1,8 +1,8 @@
 use Rattle.sssp.proofs.Walks.{relax-near, relax-far}
 use Rattle.sssp.proofs.search.relax.Goals as goal
 
-pub returns-then-d-lesser : goal.returns-then-d-lesser
-returns-then-d-lesser c = search relax-near
+pub returns-then-d-min : goal.returns-then-d-min
+returns-then-d-min c = search relax-near
 
-pub returns-else-d-lesser : goal.returns-else-d-lesser
-returns-else-d-lesser c = search relax-far
+pub returns-else-d-min : goal.returns-else-d-min
+returns-else-d-min c = search relax-far

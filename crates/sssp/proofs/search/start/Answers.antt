@@ -6,20 +6,10 @@ use Rattle.sssp.proofs.search.start.Goals as goal
 
 pub build-requires : goal.build-requires
 build-requires c =
-    start-ready c.args.tree.now _ c.all_far-2.new.area _ _
-    c.clear.ensures (omega (
-      arith,
-      c.requires.1,
-      c.all_far-2.auto.area,
-    ))
+    start-ready c.args.tree.now _ c.fill-2.new.self _ _ c.clear.ensures (omega (arith, c.requires.1, c.fill-2.ensures.len))
 
 pub returns : goal.returns
 returns c = (
-  c.all_far.ensures,
-  record {
-    same = ap (λ l. set l
-        c.args.root 0)
-        c.all_far-2.ensures;
-    played = c.build.ensures;
-  },
+  c.fill.ensures.after (λ y e. e),
+  record { same = ap (λ l. set l c.args.root 0) (c.fill-2.ensures.after (λ y e. e)); played = c.build.ensures },
 )
