@@ -16,12 +16,9 @@ use Rattle.basis.specs.Area.{cleared}
 use Rattle.basis.specs.Refusal.{gives, refuses, at_column, at, plain, no_room, too_many, claim_file}
 use Rattle.basis.specs.declared.refusal.Refusal.{Refusal}
 use Rattle.basis.proofs.Tests.{failed, held, and-off}
-use Rattle.text.specs.Line.{line, pair_form, decimal_form, coefficient_line, coefficient_says}
+use Rattle.text.specs.Line.{line, none, fault, pair_form, decimal_form, coefficient_line}
 use Rattle.text.specs.File.{no_test}
 use Rattle.text.specs.declared.decimal.Decimal.{Decimal}
-use Rattle.text.specs.declared.line.Cursor.{Cursor}
-use Rattle.text.specs.declared.line.CoefficientLine.{CoefficientLine}
-use Rattle.text.specs.declared.line.CoefficientLine.TheVariants as CL
 use Rattle.text.proofs.Places.{coefficient-range, line-moves}
 use Rattle.text.proofs.Files.{Passed, passed_none, passed-next, passed-end, passed-fault, passed-full, passed_over}
 use Rattle.graph.specs.Find.{bisected}
@@ -182,48 +179,41 @@ module _ (most : ℕ) (ids : List ℤ) (nums dens s : List ℕ) where
         (λ u a b. sym (yet-same id d u (rw (ids_more h.done (id, d)) (g.all u (omega arith)))))
 
     -- the line at the place
-    module _ {x : CoefficientLine} (e : coefficient_says x ≡ coefficient_line s place) where
-      pub decimals-end : (c : Cursor) → x ≡ CL.End c → (i : Option ℕ) → counted i ≡ end_line lines (length ids) k stray
-          → (j : judged.Verdict) → says (Ok j) ≡ gives (verdict_of (counted i) (reported_in lines far))
-          → JudgedOf most ids nums dens s width lines (says (Ok j))
-      decimals-end c q =
-          ended (passed-end (pair_form decimal_form) claim_file most no_test s h.passed c.at (sym e ∙ ap coefficient_says q))
+    pub decimals-end : {p : ℕ} → none p ≡ coefficient_line s place → (i : Option ℕ) → counted i ≡ end_line lines (length ids) k stray
+        → (j : judged.Verdict) → says (Ok j) ≡ gives (verdict_of (counted i) (reported_in lines far))
+        → JudgedOf most ids nums dens s width lines (says (Ok j))
+    decimals-end {p} e = ended (passed-end (pair_form decimal_form) claim_file most no_test s h.passed p (sym e))
 
-      module _ (l : k < most) where
-        pub decimals-fault : (n b : ℕ) (c : Cursor) → x ≡ CL.Fault n b c → (r : Refusal) → r ≡ at_column n claim_file (k + 1) b
-            → JudgedOf most ids nums dens s width lines (refuses r)
-        unfolding judged_by
-        decimals-fault n b c q r p =
-            record {
-              tells =
-                  rw (
-                    passed-fault (pair_form decimal_form) claim_file most no_test s h.passed l n b c.at
-                        (sym e ∙ ap coefficient_says q),
-                    p,
-                  );
-              wide = h.recorded.wide;
-            }
+    module _ (l : k < most) where
+      pub decimals-fault : {n b p : ℕ} → fault n b p ≡ coefficient_line s place → (r : Refusal) → r ≡ at_column n claim_file (k + 1) b
+          → JudgedOf most ids nums dens s width lines (refuses r)
+      unfolding judged_by
+      decimals-fault {n} {b} {p} e r q =
+          record {
+            tells = rw (passed-fault (pair_form decimal_form) claim_file most no_test s h.passed l n b p (sym e), q);
+            wide = h.recorded.wide;
+          }
 
-        pub decimals-next : (id : ℤ) (d : Decimal) (c : Cursor) → x ≡ CL.Line id d c → length ids ≤ width
-            → {r : Option ℕ} → r ≡ new_in lines (bisected ids (to_z w64 (of_z w64 id))) → {record' : List ℕ} → record' ≡ set_at lines r (k + 1)
-            → {f : ℕ} → f ≡ far_step nums dens r d far → {i : ℕ} → i ≡ stray_step r k stray
-            → Decimals most ids nums dens s width record' c.at (k + 1) i f
-        decimals-next id d c q wide {r} p t t' y =
-            record {
-              done = h.done ++ ((id, d) ∷ []);
-              passed = passed-next (pair_form decimal_form) claim_file most no_test s h.passed l (id, d) c.at here refl;
-              short =
-                  let m = line-moves (pair_form decimal_form) s place (line (id, d) c.at) (sym here) (id, d) c.at refl in
-                  omega (arith, h.passed.forward, m.forward, m.inside);
-              recorded = rw (ids_more h.done (id, d)) (recorded-next (bisected ids) h.recorded id wide (found_within ids id) new t y);
-              fars = t' ∙ far-next id d r (rw new (grown (bisected ids) h.recorded id (found_within ids id)));
-            }
-          where
-            here : coefficient_line s place ≡ line (id, d) c.at
-            here = sym e ∙ ap coefficient_says q
+      pub decimals-next : (id : ℤ) (d : Decimal) (next : ℕ) → line (id, d) next ≡ coefficient_line s place → length ids ≤ width
+          → {r : Option ℕ} → r ≡ new_in lines (bisected ids (to_z w64 (of_z w64 id))) → {record' : List ℕ} → record' ≡ set_at lines r (k + 1)
+          → {f : ℕ} → f ≡ far_step nums dens r d far → {i : ℕ} → i ≡ stray_step r k stray
+          → Decimals most ids nums dens s width record' next (k + 1) i f
+      decimals-next id d next e wide {r} p t t' y =
+          record {
+            done = h.done ++ ((id, d) ∷ []);
+            passed = passed-next (pair_form decimal_form) claim_file most no_test s h.passed l (id, d) next here refl;
+            short =
+                let m = line-moves (pair_form decimal_form) s place (line (id, d) next) e (id, d) next refl in
+                omega (arith, h.passed.forward, m.forward, m.inside);
+            recorded = rw (ids_more h.done (id, d)) (recorded-next (bisected ids) h.recorded id wide (found_within ids id) new t y);
+            fars = t' ∙ far-next id d r (rw new (grown (bisected ids) h.recorded id (found_within ids id)));
+          }
+        where
+          here : coefficient_line s place ≡ line (id, d) next
+          here = sym e
 
-            new : r ≡ new_in lines (bisected ids id)
-            new = p ∙ ap (λ (z : ℤ). new_in lines (bisected ids z)) (bits_back id (coefficient-range s place id d c.at here))
+          new : r ≡ new_in lines (bisected ids id)
+          new = p ∙ ap (λ (z : ℤ). new_in lines (bisected ids z)) (bits_back id (coefficient-range s place id d next here))
 
     -- no line more is allowed, or none is left
     module _ (m : k ≤ most) (l : most ≤ k) where

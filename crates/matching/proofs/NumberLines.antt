@@ -20,11 +20,8 @@ use Rattle.basis.specs.declared.refusal.Refusal.{Refusal}
 use Rattle.basis.proofs.Areas.{column-is}
 use Rattle.basis.proofs.Scans.{every-at}
 use Rattle.basis.proofs.Tests.{bool_cases, clash}
-use Rattle.text.specs.Line.{line, edge_form, claim_line, edge_says}
+use Rattle.text.specs.Line.{line, none, fault, edge_form, claim_line}
 use Rattle.text.specs.File.{no_test}
-use Rattle.text.specs.declared.line.Cursor.{Cursor}
-use Rattle.text.specs.declared.line.EdgeLine.{EdgeLine}
-use Rattle.text.specs.declared.line.EdgeLine.TheVariants as EL
 use Rattle.text.proofs.Places.{edge-range, line-moves}
 use Rattle.text.proofs.Files.{Passed, passed_none, passed-next, passed-end, passed-fault, passed-full, passed_over}
 use Rattle.graph.specs.Find.{bisected}
@@ -159,44 +156,42 @@ module _ (most : ℕ) (ids : List ℤ) (s : List ℕ) where
     kept_next None v = h.kept
 
     -- the line at the place
-    module _ {x : EdgeLine} (e : edge_says x ≡ claim_line s place) where
-      pub numbers-end : (c : Cursor) → x ≡ EL.End c → {i : Option ℕ} → counted i ≡ end_line lines (length ids) k stray
-          → ReadOf most ids s size width claimed lines (Ok i)
-      numbers-end c q = ended (passed-end edge_form claim_file most no_test s h.passed c.at (sym e ∙ ap edge_says q))
+    pub numbers-end : {p : ℕ} → none p ≡ claim_line s place → {i : Option ℕ} → counted i ≡ end_line lines (length ids) k stray
+        → ReadOf most ids s size width claimed lines (Ok i)
+    numbers-end {p} e = ended (passed-end edge_form claim_file most no_test s h.passed p (sym e))
 
-      module _ (l : k < most) where
-        pub numbers-fault : (n d : ℕ) (c : Cursor) → x ≡ EL.Fault n d c → {r : Refusal} → r ≡ at_column n claim_file (k + 1) d
-            → ReadOf most ids s size width claimed lines (Err r)
-        numbers-fault n d c q p =
-            record {
-              tells = passed-fault edge_form claim_file most no_test s h.passed l n d c.at (sym e ∙ ap edge_says q)
-                  ∙ ap refuses (sym p);
-              kept = h.kept;
-              wide = h.recorded.wide;
-            }
+    module _ (l : k < most) where
+      pub numbers-fault : {n d p : ℕ} → fault n d p ≡ claim_line s place → {r : Refusal} → r ≡ at_column n claim_file (k + 1) d
+          → ReadOf most ids s size width claimed lines (Err r)
+      numbers-fault {n} {d} {p} e q =
+          record {
+            tells = passed-fault edge_form claim_file most no_test s h.passed l n d p (sym e) ∙ ap refuses (sym q);
+            kept = h.kept;
+            wide = h.recorded.wide;
+          }
 
-        pub numbers-next : (id v : ℤ) (c : Cursor) → x ≡ EL.Line id v c → length ids ≤ width
-            → {r : Option ℕ} → r ≡ new_in lines (bisected ids (to_z w64 (of_z w64 id))) → {record' : List ℕ} → record' ≡ set_at lines r (k + 1)
-            → {left : List ℤ} → left ≡ set_at claimed r (to_z w64 (of_z w64 v)) → {i : ℕ} → i ≡ stray_step r k stray
-            → Numbers most ids s size width left record' c.at (k + 1) i
-        numbers-next id v c q wide {r} p t t' y =
-            record {
-              done = h.done ++ ((id, v) ∷ []);
-              passed = passed-next edge_form claim_file most no_test s h.passed l (id, v) c.at here refl;
-              short =
-                  let m = line-moves edge_form s place (line (id, v) c.at) (sym here) (id, v) c.at refl in
-                  omega (arith, h.passed.forward, m.forward, m.inside);
-              recorded = rw (ids_more h.done (id, v)) (recorded-next (bisected ids) h.recorded id wide (found_within ids id) new t y);
-              kept = rw t' (kept_next r (to_z w64 (of_z w64 v)));
-              stored = rw (ids_more h.done (id, v), t', bits_back v (edge-range s place id v c.at here).1)
-                  (stored_next id v r (rw new (grown (bisected ids) h.recorded id (found_within ids id))));
-            }
-          where
-            here : claim_line s place ≡ line (id, v) c.at
-            here = sym e ∙ ap edge_says q
+      pub numbers-next : (id v : ℤ) (next : ℕ) → line (id, v) next ≡ claim_line s place → length ids ≤ width
+          → {r : Option ℕ} → r ≡ new_in lines (bisected ids (to_z w64 (of_z w64 id))) → {record' : List ℕ} → record' ≡ set_at lines r (k + 1)
+          → {left : List ℤ} → left ≡ set_at claimed r (to_z w64 (of_z w64 v)) → {i : ℕ} → i ≡ stray_step r k stray
+          → Numbers most ids s size width left record' next (k + 1) i
+      numbers-next id v next e wide {r} p t t' y =
+          record {
+            done = h.done ++ ((id, v) ∷ []);
+            passed = passed-next edge_form claim_file most no_test s h.passed l (id, v) next here refl;
+            short =
+                let m = line-moves edge_form s place (line (id, v) next) e (id, v) next refl in
+                omega (arith, h.passed.forward, m.forward, m.inside);
+            recorded = rw (ids_more h.done (id, v)) (recorded-next (bisected ids) h.recorded id wide (found_within ids id) new t y);
+            kept = rw t' (kept_next r (to_z w64 (of_z w64 v)));
+            stored = rw (ids_more h.done (id, v), t', bits_back v (edge-range s place id v next here).1)
+                (stored_next id v r (rw new (grown (bisected ids) h.recorded id (found_within ids id))));
+          }
+        where
+          here : claim_line s place ≡ line (id, v) next
+          here = sym e
 
-            new : r ≡ new_in lines (bisected ids id)
-            new = p ∙ ap (λ (z : ℤ). new_in lines (bisected ids z)) (bits_back id (edge-range s place id v c.at here).0)
+          new : r ≡ new_in lines (bisected ids id)
+          new = p ∙ ap (λ (z : ℤ). new_in lines (bisected ids z)) (bits_back id (edge-range s place id v next here).0)
 
     -- no line more is allowed, or none is left
     module _ (m : k ≤ most) (l : most ≤ k) where

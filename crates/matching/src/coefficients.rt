@@ -14,7 +14,6 @@ use basis::area::clear;
 use basis::refusal::{CLAIM_FILE, NO_ROOM, TOO_MANY};
 use text::Cursor;
 use text::decimal::Decimal;
-use text::line::CoefficientLine;
 
 // A decimal is near a fraction whose terms are within 32 bits.
 fn near_within(a: usize, b: usize, s: Decimal) -> bool
@@ -65,19 +64,15 @@ fn read_coefficients(
     let mut stray = None;
     let mut far = None;
     for k in 0..most {
-        let line = cursor.coefficient_claim(claim);
-        match line {
-            CoefficientLine::End(_) => {
-                return Ok(verdict_of(ended(lines, n, k, stray), far, lines));
+        match cursor.coefficient_claim(claim) {
+            None => return Ok(verdict_of(ended(lines, n, k, stray), far, lines)),
+            Some(Err(fault)) => {
+                return Err(Refusal::at_column(fault.number, CLAIM_FILE, k + 1, fault.column));
             }
-            CoefficientLine::Fault(number, column, _) => {
-                return Err(Refusal::at_column(number, CLAIM_FILE, k + 1, column));
-            }
-            CoefficientLine::Line(id, s, next) => {
+            Some(Ok((id, s))) => {
                 let vertex = recorded(ids, lines, k, id);
                 far = measured(numerators, denominators, vertex, s, far);
                 stray = strayed(vertex, k, stray);
-                cursor = next;
             }
         }
     }

@@ -8,7 +8,6 @@ use basis::Refusal;
 use basis::refusal::{CLAIM_FILE, TOO_MANY};
 use graph::find::find;
 use text::Cursor;
-use text::line::EdgeLine;
 
 // The line after k others names id: its vertex, if it is one that no earlier line names, has this claim line from now on.
 pub(crate) fn recorded(ids: &[i64], lines: &mut [usize], k: usize, id: i64) -> Option<usize>
@@ -73,17 +72,15 @@ pub(crate) fn read_numbers(
     let mut cursor = Cursor { at: 0 };
     let mut stray = None;
     for k in 0..most {
-        let line = cursor.claim(claim);
-        match line {
-            EdgeLine::End(_) => return Ok(ended(lines, n, k, stray)),
-            EdgeLine::Fault(number, column, _) => {
-                return Err(Refusal::at_column(number, CLAIM_FILE, k + 1, column));
+        match cursor.claim(claim) {
+            None => return Ok(ended(lines, n, k, stray)),
+            Some(Err(fault)) => {
+                return Err(Refusal::at_column(fault.number, CLAIM_FILE, k + 1, fault.column));
             }
-            EdgeLine::Line(id, value, next) => {
+            Some(Ok((id, value))) => {
                 let vertex = recorded(ids, lines, k, id);
                 keep(claimed, vertex, value);
                 stray = strayed(vertex, k, stray);
-                cursor = next;
             }
         }
     }
