@@ -45,20 +45,21 @@ module _ (M : Machine) (a : M.Area) (u : ℕ) where
 
 -- ---- the code's `join_each`
 module _ (xs : List ℤ) (u : ℕ) (t : Bool) (e : t ≡ leb (length xs) most_vertices) where
-  module _ (ws : List ℕ) (k : false ≡ (length ws == 0)) where
-    some : length ws ≡ 0 → ⊥
-    some z = clash (eq-eqb (length ws) 0 z) (sym k)
-
-    pub each-unlent : t ≡ false → each_outcome (stopped 0 0 (plain no_room)) xs ≡ join_each one_book xs u ws
+  module _ (ws : List ℕ) (k : length ws ≡ 0 → ⊥) (x : Refusal) where
+    pub each-unlent : t ≡ false → x ≡ plain no_room → each_outcome (stopped 0 0 x) xs ≡ join_each one_book xs u ws
     unfolding one
-    each-unlent f = each-lost one_book xs u _ (λ w. join-lost one_book xs u w _ (heads-unlent (one xs) u w t e _ f refl)) ws some
+    each-unlent f p = each-lost one_book xs u x (λ w. join-lost one_book xs u w x (heads-unlent (one xs) u w t e x f p)) ws k
 
-    pub each-missing : t ≡ true → length xs ≤ u → each_outcome (stopped 0 0 (plain not_there)) xs ≡ join_each one_book xs u ws
+    pub each-missing : t ≡ true → length xs ≤ u → x ≡ plain not_there → each_outcome (stopped 0 0 x) xs ≡ join_each one_book xs u ws
     unfolding one
-    each-missing f l = each-lost one_book xs u _ (λ w. join-lost one_book xs u w _ (heads-missing (one xs) u w t e _ f l refl)) ws some
+    each-missing f l p = each-lost one_book xs u x (λ w. join-lost one_book xs u w x (heads-missing (one xs) u w t e x f l p)) ws k
 
   pub walking_start : (at : ℕ) → t ≡ true → u < length xs → says_walked at ≡ walk_from (next_here xs) (length xs) u → Walking xs u at
   walking_start at f l p = record { lent = lent-within (length xs) t e f; inside = l; walk = p }
+
+-- a list that is not empty, by the test for it
+pub not-empty : (ws : List ℕ) → false ≡ (length ws == 0) → length ws ≡ 0 → ⊥
+not-empty ws k z = clash (eq-eqb (length ws) 0 z) (sym k)
 
 pub each_none : (xs : List ℤ) (u : ℕ) (ws : List ℕ) → true ≡ (length ws == 0) → each_outcome (all 0) xs ≡ join_each one_book xs u ws
 unfolding join_each

@@ -32,7 +32,7 @@ impl fmt::Display for Joining {
 
 // Where the joins of a vertex with each of a list stopped, since one was refused, and those behind it were not tried: how many were
 // accepted before it, how many of those merged two groups, and its refusal.
-#[derive(Clone, Copy)]
+#[derive(Clone, Copy, Debug, PartialEq, Eq)]
 pub struct Stopped {
     pub joined: usize,
     pub merges: usize,

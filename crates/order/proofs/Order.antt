@@ -56,8 +56,7 @@ module _ (M : Machine) (n : ℕ) (s : State M.Area) (K : Kept M n s) where
   -- the count is the heads'
   count-heads : gives (tally (λ v. is_stop ((shown M s).next v)) n) ≡ group_count (shown M s)
   count-heads =
-      count-is (shown M s) true (sym K.fit) n (tally (λ v. is_stop ((shown M s).next v)) n) refl (omega (arith, K.count))
-      (omega (arith, K.count)) refl
+      count-is (shown M s) true (sym K.fit) (tally (λ v. is_stop ((shown M s).next v)) n) refl (rw K.count refl)
 
   -- a number that is no vertex has no size
   size_none : (v : ℕ) → n ≤ v → group_size (shown M s) v ≡ refuses (plain not_there)

@@ -3,7 +3,7 @@ use mathlib.Core.Path.{refl, ap, ◌∙◌}
 use Rattle.std.specs.Prelude.{Ok}
 use native.Mathlib.Omega.{arith}
 use Rattle.book.proofs.Walked.{lent-within}
-use Rattle.book.proofs.Each.{each_none, each-unlent, each-missing, walking_start, walking_on, walking-stays}
+use Rattle.book.proofs.Each.{each_none, not-empty, each-unlent, each-missing, walking_start, walking_on, walking-stays}
 use Rattle.book.proofs.Each.{behind-none, each-merged, each-already, each-refused, each-end}
 use Rattle.book.proofs.joining.join_each.Goals as goal
 use Rattle.book.proofs.joining.join_each.Goals.{in-Some, in_default}
@@ -14,13 +14,14 @@ returns-then-is_empty c = each_none _ _ _ c.if-is_empty.ensures
 pub returns-then-not-well_lent : goal.returns-then-not-well_lent
 returns-then-not-well_lent c =
     let w = c.well_lent in
-    rw c.at_first.ensures (each-unlent _ _ w.result w.ensures _ c.if-is_empty.ensures c.if-not-well_lent.true)
+    rw c.at_first.ensures
+    (each-unlent _ _ w.result w.ensures _ (not-empty _ c.if-is_empty.ensures) _ c.if-not-well_lent.true refl)
 
 pub returns-then-entries-u : goal.returns-then-entries-u
 returns-then-entries-u c =
     let w = c.well_lent in
     rw c.at_first-then-entries-u.ensures
-    (each-missing _ _ w.result w.ensures _ c.if-is_empty.ensures c.if-not-well_lent.false c.if-entries-u.true)
+    (each-missing _ _ w.result w.ensures _ (not-empty _ c.if-is_empty.ensures) _ c.if-not-well_lent.false c.if-entries-u.true refl)
 
 pub walk-at-requires : goal.walk-at-requires
 walk-at-requires c =
