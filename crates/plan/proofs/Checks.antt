@@ -16,9 +16,7 @@ use Rattle.basis.specs.Limits.{desk_edges}
 use Rattle.text.specs.Word.{Word, malformed, outside, value, within, count_of}
 use Rattle.text.specs.Bytes.{lf}
 use Rattle.text.specs.Line.{up_to}
-use Rattle.text.specs.Scan.{Scanned, scanned, has_at, cut_number, cut_word, count_at, count_says, closed, line_of}
-use Rattle.text.specs.declared.count.Counted.{Counted}
-use Rattle.text.specs.declared.count.Counted.TheVariants as T
+use Rattle.text.specs.Scan.{Scanned, scanned, has_at, cut_number, cut_word, count_at, saturated, closed, line_of}
 use Rattle.text.proofs.Bytes.{up_to-cut}
 use Rattle.text.proofs.Words.{word-has, no_end, count-reads}
 use Rattle.plan.specs.Lines.{sheet_fault, in_sheet, begins}
@@ -91,27 +89,26 @@ module _ (s : List ℕ) (limit at : ℕ) where
       rw (l, lt-leb n limit (omega arith)))))
       (λ t. rw t)
 
-  module _ (x : Counted) (h : limit ≤ desk_edges) (u : count_says x ≡ scanned (cut_word (count_at s at).said) (count_at s at).next) where
-    pub count-bad : (p : ℕ) (r : Refusal) → x ≡ T.Bad p → r ≡ sheet_fault s at bad_form → refuses r ≡ count_line limit s at
-    count-bad p r e f =
-        let z : scanned (cut_word (count_at s at).said) (count_at s at).next ≡ scanned malformed p = sym u ∙ ap count_says e in
-        ap refuses f ∙ by-malformed (count_at s at).said (count_at s at).next (ap (λ y. y.said) z) ∙ count-scanned
+  pub count-bad : (p : ℕ) (r : Refusal) → scanned malformed p ≡ saturated (count_at s at) → r ≡ sheet_fault s at bad_form
+      → refuses r ≡ count_line limit s at
+  count-bad p r u f =
+      ap refuses f ∙ by-malformed (count_at s at).said (count_at s at).next (sym (ap (λ y. y.said) u)) ∙ count-scanned
 
-    count-value : (n p : ℕ) → x ≡ T.Value n p → value_by n p ≡ count_line limit s at
-    count-value n p e =
-        let z : scanned (cut_word (count_at s at).said) (count_at s at).next ≡ scanned (value n) p = sym u ∙ ap count_says e in
-        ap (value_by n) (sym (ap (λ y. y.next) z)) ∙ by_value (count_at s at).said n (count_at s at).next h (ap (λ y. y.said) z)
+  module _ (h : limit ≤ desk_edges) (n p : ℕ) (u : scanned (value n) p ≡ saturated (count_at s at)) where
+    count-value : value_by n p ≡ count_line limit s at
+    count-value =
+        ap (value_by n) (ap (λ y. y.next) u) ∙ by_value (count_at s at).said n (count_at s at).next h (sym (ap (λ y. y.said) u))
         ∙ count-scanned
 
-    module _ (n p : ℕ) (e : x ≡ T.Value n p) (t : Bool) (f : t ≡ has_at s p lf) where
+    module _ (t : Bool) (f : t ≡ has_at s p lf) where
       pub count-open : t ≡ false → (r : Refusal) → r ≡ sheet_fault s at bad_form → refuses r ≡ count_line limit s at
-      count-open g r k = ap refuses k ∙ rw (failed t _ f g) at (count-value n p e)
+      count-open g r k = ap refuses k ∙ rw (failed t _ f g) at count-value
 
       pub count-over : t ≡ true → limit < n → (r : Refusal) → r ≡ sheet_fault s at too_many → refuses r ≡ count_line limit s at
-      count-over g l r k = ap refuses k ∙ rw (held t _ f g, lt-leb n limit l) at (count-value n p e)
+      count-over g l r k = ap refuses k ∙ rw (held t _ f g, lt-leb n limit l) at count-value
 
       pub count-good : t ≡ true → n ≤ limit → gives (n, p + 1) ≡ count_line limit s at
-      count-good g l = rw (held t _ f g, le-leb n limit l) at (count-value n p e)
+      count-good g l = rw (held t _ f g, le-leb n limit l) at count-value
 
 -- ---- past a line that is ended
 module _ (s : List ℕ) (at end : ℕ) (t : Bool) (e : end ≡ at + length (up_to lf (drop at s))) (f : t ≡ has_at s end lf) where

@@ -13,12 +13,10 @@ use Rattle.basis.specs.declared.refusal.Refusal.{Refusal}
 use Rattle.basis.specs.Scan.{mem}
 use Rattle.text.specs.Word.{Word, malformed, outside, value, well_formed, within, ident_of}
 use Rattle.text.specs.Bytes.{lf}
-use Rattle.text.specs.Scan.{scanned, field_at, scan_says, line_of}
-use Rattle.text.specs.declared.ident.Scan.{Scan}
-use Rattle.text.specs.declared.ident.Scan.TheVariants as S
+use Rattle.text.specs.Scan.{scanned, field_at}
 use Rattle.text.proofs.Words.{Ends, Reads, field-reads}
 use Rattle.text.proofs.Bytes.{mem-right}
-use Rattle.plan.specs.Lines.{sheet_fault, in_sheet, begins}
+use Rattle.plan.specs.Lines.{sheet_fault, begins}
 use Rattle.plan.specs.Jobs.{bfs_word, cdlp_word, wcc_word, lcc_word, made, job_of, job_line}
 use Rattle.plan.specs.Steps.{job_by, with_number, numbered_at}
 use Rattle.plan.specs.declared.job.Job.{Job}
@@ -27,19 +25,21 @@ use Rattle.plan.proofs.Words.{begins-split, begins-long, begins-cut, begins-word
 use Rattle.plan.proofs.Lines.{Line, line-said, word-reads, none_reads}
 
 -- ---- the number of a job
-module _ (s : List ℕ) (at from : ℕ) (bfs : Bool) (x : Scan) (u : scan_says x ≡ field_at s from lf) where
-  numbered-by : (y : Scan) → x ≡ y → in_sheet s (line_of at (with_number bfs (scan_says y))) ≡ numbered_at s at from bfs
+module _ (s : List ℕ) (at from : ℕ) (bfs : Bool) where
+  pub numbered-bad : (p : ℕ) (r : Refusal) → scanned malformed p ≡ field_at s from lf → r ≡ sheet_fault s at bad_form
+      → refuses r ≡ numbered_at s at from bfs
   unfolding numbered_at
-  numbered-by y e = ap (λ z. in_sheet s (line_of at (with_number bfs z))) (ap scan_says (sym e) ∙ u)
+  numbered-bad p r u f = rw (f, ← u)
 
-  pub numbered-bad : (p : ℕ) (r : Refusal) → x ≡ S.Bad p → r ≡ sheet_fault s at bad_form → refuses r ≡ numbered_at s at from bfs
-  numbered-bad p r e f = ap refuses f ∙ numbered-by (S.Bad p) e
+  pub numbered-outside : (p : ℕ) (r : Refusal) → scanned outside p ≡ field_at s from lf → r ≡ sheet_fault s at out_of_range
+      → refuses r ≡ numbered_at s at from bfs
+  unfolding numbered_at
+  numbered-outside p r u f = rw (f, ← u)
 
-  pub numbered-outside : (p : ℕ) (r : Refusal) → x ≡ S.Outside p → r ≡ sheet_fault s at out_of_range → refuses r ≡ numbered_at s at from bfs
-  numbered-outside p r e f = ap refuses f ∙ numbered-by (S.Outside p) e
-
-  pub numbered-value : (z : ℤ) (p : ℕ) (j : Job) → x ≡ S.Value z p → j ≡ job_by bfs z → gives (j, p) ≡ numbered_at s at from bfs
-  numbered-value z p j e f = rw (f, ← numbered-by (S.Value z p) e)
+  pub numbered-value : (z : ℤ) (p : ℕ) (j : Job) → scanned (value z) p ≡ field_at s from lf → j ≡ job_by bfs z
+      → gives (j, p) ≡ numbered_at s at from bfs
+  unfolding numbered_at
+  numbered-value z p j u f = rw (f, ← u)
 
 -- ---- a job by the four tests of the bytes at its place
 abbrev job_from : Bool → Bool → Bool → Bool → List ℕ → Word Job

@@ -8,7 +8,7 @@ use crate::line::{begins_at, sheet_fault};
 use basis::Refusal;
 use basis::refusal::{BAD_FORM, OUT_OF_RANGE};
 use text::count::LF;
-use text::ident::{Scan, field};
+use text::ident::field;
 
 // A job, with its number where it has one.
 #[derive(Clone, Copy, Debug, PartialEq, Eq)]
@@ -29,11 +29,13 @@ fn numbered<F: Fn(i64) -> Job>(
     requires { F.IsAlwaysCallable job }
     ensures { (bfs : Bool) → ((z : ℤ) (j : _) → F.post job z j → j ≡ job_by bfs z) → said result ≡ numbered_at s.now at from bfs }
 {
-    match field(s, from, LF) {
-        Scan::Bad(_) => Err(sheet_fault(s, at, BAD_FORM)),
-        Scan::Outside(_) => Err(sheet_fault(s, at, OUT_OF_RANGE)),
-        Scan::Value(z, next) => Ok((job(z), next)),
-    }
+    let Ok(scan) = field(s, from, LF) else {
+        return Err(sheet_fault(s, at, BAD_FORM));
+    };
+    let Some(z) = scan.value else {
+        return Err(sheet_fault(s, at, OUT_OF_RANGE));
+    };
+    Ok((job(z), scan.next))
 }
 
 // The job line at a place, and the place past it.

@@ -9,7 +9,7 @@ use crate::line::{begins_at, sheet_fault};
 use basis::Refusal;
 use basis::limits::{DESK_EDGES, DESK_VERTICES};
 use basis::refusal::{BAD_FORM, SHEET_FILE, TOO_MANY};
-use text::count::{Counted, LF, count, has, line_end};
+use text::count::{LF, count, has, line_end};
 
 // How many jobs a sheet may have.
 pub const MOST_JOBS: usize = 16;
@@ -52,18 +52,17 @@ fn count_line(s: &[u8], limit: usize, at: usize) -> Result<(usize, usize), Refus
     requires { limit ≤ desk_edges }
     ensures { said result ≡ count_line limit s.now at }
 {
-    match count(s, at) {
-        Counted::Bad(_) => Err(sheet_fault(s, at, BAD_FORM)),
-        Counted::Value(n, next) => {
-            if !has(s, next, LF) {
-                return Err(sheet_fault(s, at, BAD_FORM));
-            }
-            if limit < n as usize {
-                return Err(sheet_fault(s, at, TOO_MANY));
-            }
-            Ok((n as usize, next + 1))
-        }
+    let Ok(scan) = count(s, at) else {
+        return Err(sheet_fault(s, at, BAD_FORM));
+    };
+    if !has(s, scan.next, LF) {
+        return Err(sheet_fault(s, at, BAD_FORM));
     }
+    let n = scan.value as usize;
+    if limit < n {
+        return Err(sheet_fault(s, at, TOO_MANY));
+    }
+    Ok((n, scan.next + 1))
 }
 
 // Past the line at a place, which must be ended.
