@@ -11,7 +11,7 @@ use lib.Dec.{leb}
 use borrow.Author.Tests.{leb-true}
 use borrow.Rule.Slice.PartMut.{mid_of, put_mid}
 use Rattle.std.specs.Prelude.{Option, Some, None}
-use Rattle.basis.specs.Refusal.{Said, gives, refuses, plain, no_room, unsound, not_there}
+use Rattle.basis.specs.Refusal.{Said, gives, no_room, unsound, not_there}
 use Rattle.basis.specs.Area.{cleared, cleared_z, pad_z}
 use Rattle.basis.specs.Scan.{Inside}
 use Rattle.basis.proofs.Tests.{and_first, and_second, held}
@@ -32,11 +32,6 @@ use Rattle.bfs.specs.Steps.{Ready}
 -- equal parts, equal outcomes
 outcomes : {s t : Said (Unit {0})} {D D' : List ℤ} {Q Q' : List ℕ} → s ≡ t → D ≡ D' → Q ≡ Q' → outcome s D Q ≡ outcome t D' Q'
 outcomes d p q = cc
-
--- ---- a refusal, from its parts
-pub refuse-all : (s : Said (Unit {0})) (k : ℕ) (D D₁ : List ℤ) (Q Q₁ : List ℕ) → s ≡ refuses (plain k) → D₁ ≡ cleared_z D → Q₁ ≡ cleared Q
-    → outcome s D₁ Q₁ ≡ refusal k D Q
-refuse-all s k D D₁ Q Q₁ d p q = outcomes d p q
 
 -- ---- areas with room for n places
 module _ (n : ℕ) (D : List ℤ) (Q : List ℕ) (h : room_for n D Q ≡ true) where

@@ -9,7 +9,7 @@ use lib.ListN.{length, get_or, take, drop, length-replicate}
 use lib.Seq.{length-take-le}
 use lib.Dec.{leb}
 use borrow.Author.Tests.{leb-true, le-leb}
-use Rattle.basis.specs.Refusal.{Said, gives, refuses, plain, no_room, unsound, not_there, unweighted}
+use Rattle.basis.specs.Refusal.{Said, gives, no_room, unsound, not_there, unweighted}
 use Rattle.basis.specs.Area.{cleared, cleared_z}
 use Rattle.basis.specs.Limits.{most_weight}
 use Rattle.basis.proofs.Tests.{and_first, and_second, failed, held}
@@ -34,11 +34,6 @@ use Rattle.sssp.specs.Steps.{Ready, WeighedAll, Lent}
 outcomes : {s t : Said (Unit {0})} {D D' : List ℤ} {S S' W W' T T' : List ℕ} → s ≡ t → D ≡ D' → S ≡ S' → W ≡ W' → T ≡ T'
     → outcome s D S W T ≡ outcome t D' S' W' T'
 outcomes a b c d e = cc
-
--- ---- a refusal, from its parts
-pub refuse-all : (s : Said (Unit {0})) (k : ℕ) (D D₁ : List ℤ) (S S₁ W W₁ T T₁ : List ℕ) → s ≡ refuses (plain k) → D₁ ≡ cleared_z D
-    → (S₁ ≡ cleared S) × (W₁ ≡ cleared W) × (T₁ ≡ cleared T) → outcome s D₁ S₁ W₁ T₁ ≡ refusal k D S W T
-refuse-all s k D D₁ S S₁ W W₁ T T₁ d p q = outcomes d p q.0 q.1 q.2
 
 -- ---- areas with room for n places
 module _ (n : ℕ) (D : List ℤ) (S W T : List ℕ) (h : room_for n D S W T ≡ true) where

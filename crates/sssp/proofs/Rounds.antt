@@ -7,7 +7,6 @@ use mathlib.Core.List.{List, [], ◌∷◌}
 use native.Mathlib.Nat.{eq-or-lt_of_le}
 use native.Mathlib.Decide.{dec_le}
 use native.Mathlib.Omega.{arith}
-use lib.IntN.{ℤ}
 use lib.ListN.{length, get_or}
 use lib.Dec.{eqb}
 use borrow.Author.Tests.{eq-eqb, eqb-true, ne_eqb}
@@ -16,7 +15,7 @@ use Rattle.basis.proofs.Tests.{bool_cases}
 use Rattle.basis.proofs.Areas.{column-length, column-at}
 use Rattle.basis.specs.Area.{infinity}
 use Rattle.graph.specs.Weights.{Leg}
-use Rattle.sssp.specs.Distance.{offer, offered, overall, least_within, distances, as_signed}
+use Rattle.sssp.specs.Distance.{offer, offered, overall, least_within, distances}
 use Rattle.sssp.specs.Steps.{AllSigned}
 
 -- what stands at a place of a list, whatever stands past its end
@@ -196,6 +195,3 @@ signed_all n out root l e v h =
       get_d_any (distances n out root) v 0 infinity (let z = within-length n out root n in omega arith),
     )
     (near-most n out root n v (omega arith))
-
-pub measured : (d e l : List ℕ) (x : List ℤ) → length e ≡ length d → e ≡ l → x ≡ as_signed (length e) e → x ≡ as_signed (length d) l
-measured d e l x h q p = p ∙ rw (h, q) refl

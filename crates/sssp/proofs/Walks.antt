@@ -13,7 +13,7 @@ use Rattle.basis.specs.Scan.{each}
 use Rattle.basis.proofs.Tests.{and_second, no-case}
 use Rattle.basis.proofs.Scans.{each_at, below_at}
 use Rattle.basis.specs.Limits.{most_weight}
-use Rattle.graph.specs.Weights.{Leg, legs}
+use Rattle.graph.specs.Weights.{legs}
 use Rattle.sssp.specs.Tree.{Played, None, Replayed}
 use Rattle.sssp.specs.Steps.{known_at, lowered, walked, WeighedPart}
 
@@ -47,11 +47,6 @@ pub record Walking (dist : List ℕ) (d : ℕ) (ws cs key₀ key tree ws' cs' : 
   pub long : length key ≡ length key₀
   pub left : WeighedPart (length key₀) ws' cs'
   pub rest : walked dist d (legs ws' cs') key ≡ walked dist d (legs ws cs) key₀
-
-pub walking-first : (dist : List ℕ) (d : ℕ) (ws cs key tree ws' cs' : List ℕ) → Played None key tree → WeighedPart (length key) ws cs
-    → ws' ≡ ws → cs' ≡ cs
-    → Walking dist d ws cs key key tree ws' cs'
-walking-first dist d ws cs key tree ws' cs' p l e f = rw (e, f) (record { played = p; long = refl; left = l; rest = refl })
 
 -- an arc to w that weighs c, and others
 weighed-tail : {n w c : ℕ} {ws cs : List ℕ} → WeighedPart n (w ∷ ws) (c ∷ cs) → WeighedPart n ws cs
@@ -94,8 +89,3 @@ module _ {dist : List ℕ} {d : ℕ} {ws cs key₀ key tree ws' cs' : List ℕ} 
   pub walking-end : (ws' ≡ []) ⊎ (cs' ≡ []) → Replayed (walked dist d (legs ws cs) key₀) key tree
   unfolding walked
   walking-end h = record { same = ap (λ l. walked dist d l key) (sym (legs-none ws' cs' h)) ∙ k.rest; played = k.played }
-
-pub serve-end : (keys key key' tree tree' dist dist' : List ℕ) (l : List Leg) (d : ℕ) → Replayed keys key tree → dist ≡ dist'
-    → Replayed (walked dist d l key) key' tree'
-    → Replayed (walked dist' d l keys) key' tree'
-serve-end keys key key' tree tree' dist dist' l d r e q = record { same = q.same ∙ rw (e, r.same) refl; played = q.played }

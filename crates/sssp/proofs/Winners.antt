@@ -7,11 +7,9 @@ use mathlib.Core.List.{List}
 use native.Mathlib.Decide.{ℕ_discrete, dec_lt}
 use native.Mathlib.Nat.{eq-or-lt_of_le}
 use native.Mathlib.Omega.{arith}
-use lib.ListN.{length, get_or, set, length-set, length-replicate}
+use lib.ListN.{length, get_or, set, length-set}
 use lib.Seq.{get_or-set_same, get_or-set_other}
 use borrow.Author.Tests.{lt-ltb, le-ltb}
-use Rattle.basis.specs.Area.{cleared}
-use Rattle.basis.proofs.Areas.{replicate-at}
 use Rattle.sssp.specs.Tree.{won, nearer, winner_at, Nodes, Played, None, Spoiled}
 
 -- ---- who wins
@@ -115,26 +113,12 @@ module _ (E F : ℕ → Type 0) (key tree : List ℕ) (k : ℕ) (p : Played E ke
           (p.right i z g)
 
 -- ---- every node is played, from the last one
-pub start-ready : (tree₀ tree key : List ℕ) (r x : ℕ) → tree ≡ cleared tree₀ → length tree₀ ≡ length key → Nodes (set key r x) tree
-start-ready tree₀ tree key r x e q =
-    let l : length tree ≡ length tree₀ = ap length e ∙ length-replicate {A = ℕ} (length tree₀) 0 in
-    record {
-      long = l ∙ q ∙ sym (length-set key r x);
-      low = λ i g. let z : get_or tree i 0 ≡ 0 = ap (λ t. get_or t i 0) e ∙ replicate-at 0 (length tree₀) i in omega arith;
-    }
-
-pub build-first : (key tree : List ℕ) → Nodes key tree → Played (λ i. i < length tree) key tree
-build-first key tree r = record { ready = r; right = λ i z g. inl g }
-
 pub build-more : (key tree tree' : List ℕ) (k : ℕ) → Played (λ i. i < k) key tree → k ≤ length tree → 1 < k
     → tree' ≡ set tree (k - 1) (winner_at key tree (k - 1)) → Played (λ i. i < k - 1) key tree'
 build-more key tree tree' k p l h e =
     rw e
     (played-more (λ i. i < k) (λ i. i < k - 1) key tree (k - 1) p (omega arith)
     (λ i z g. ⊎_elim (λ q. inl (omega arith)) (λ q. inr q) (eq-or-lt_of_le (let y : i ≤ k - 1 = omega arith in y))) (omega arith))
-
-pub build-end : (key tree : List ℕ) (k : ℕ) → k ≤ 1 → Played (λ i. i < k) key tree → Played None key tree
-build-end key tree k h p = record { ready = p.ready; right = λ i z g. ⊎_elim (λ q. absurd (omega arith)) (λ e. inr e) (p.right i z g) }
 
 -- ---- the way up from a node
 -- t steps up from node k

@@ -1,12 +1,8 @@
 use mathlib.Core.Path.{sym, ◌∙◌}
 use native.Mathlib.Omega.{arith}
 use Rattle.std.proofs.lemmas.Slice.Zip.{Zip-more, either_empty_from_Zip}
-use Rattle.sssp.proofs.Walks.{walking-first, arc-low, arc-light, walking-more, walking-end}
-use borrow.Author.Rules.{rules}
+use Rattle.sssp.proofs.Walks.{arc-low, arc-light, walking-more, walking-end}
 use Rattle.sssp.proofs.search.walk.Goals as goal
-
-pub loop-w-init : goal.loop-w-init
-loop-w-init c = walking-first _ _ _ _ _ _ _ _ c.requires.played c.requires.weighed_part (search rules) (search rules)
 
 pub overflow_add-d : goal.overflow_add-d
 overflow_add-d c =

@@ -1,8 +1,8 @@
 use Prim.Native.Nat.{ℕ, ◌*◌, ◌<◌}
-use mathlib.Core.Path.{◌≡◌, ap, ap₂, ◌∙◌}
+use mathlib.Core.Path.{◌≡◌}
 use native.Mathlib.Omega.{arith}
-use lib.ListN.{length, set}
-use Rattle.sssp.specs.Tree.{won, nearer}
+use lib.ListN.{length}
+use Rattle.sssp.specs.Tree.{won}
 use Rattle.sssp.proofs.Winners.{won-low}
 use Rattle.sssp.proofs.tree.play.Goals as goal
 
@@ -12,9 +12,3 @@ nearer-requires c =
     → r < length c.args.key.now = λ k r h e.
     let a = won-low c.args.key.now c.args.tree.now c.requires.nodes k h in omega (arith, c.requires.nodes.long) in
     (low _ _ (omega arith) c.winner-a.ensures, low _ _ (omega arith) c.winner-b.ensures)
-
-pub returns : goal.returns
-returns c = ap (set c.args.tree.now
-    c.args.k) (c.nearer.ensures
-    ∙ ap₂ (nearer c.args.key.now) c.winner-a.ensures
-    c.winner-b.ensures)
