@@ -1,20 +1,17 @@
-// An answer as one number, by its cases.
-ghost use Rattle.std.specs.Prelude.{◌≡◌};
-ghost use Rattle.kernels.specs.Answer.{says};
-ghost use Rattle.book.specs.Says.{says_opened, says_joined, says_headed, says_compared, says_reading};
+// An answer as one number.
+ghost use Rattle.std.specs.Prelude.{◌≡◌, ◌<◌, ℕ};
+ghost use Rattle.basis.specs.Refusal.{said};
+ghost use Rattle.book.specs.Says.{as_joining, as_end};
 ghost use Rattle.trace.specs.Code.{placed, coded, host_code, wide, narrow, Small, Readable, nothing};
-ghost use Rattle.load.specs.Load as Load;
-ghost use Rattle.matching.specs.Verdict as Verdict;
 ghost use Rattle.trace.specs.Verdict.{as_refusal};
 ghost use Rattle.trace.specs.Load.{load_value};
 ghost use Rattle.trace.specs.Book.{join_value, head_value, same_value, reading_value};
 
 use basis::Refusal;
 use basis::refusal::CLAIM_FILE;
-use book::{Compared, Headed, Joined, Opened, Reading};
-use kernels::Answer;
-use load::Loaded;
-use matching::Judged;
+use book::{Head, Joining};
+use graph::Size;
+use matching::Verdict;
 
 const NUMBER: u64 = 1000000000000000;
 
@@ -43,92 +40,90 @@ pub(crate) fn host_code(r: Refusal) -> u64
 }
 
 // A verdict's three numbers as those of a refusal, or a refusal as it is.
-pub(crate) fn as_refusal(a: Judged) -> Refusal
-    ensures { result ≡ as_refusal (Verdict.says a) }
+pub(crate) fn as_refusal(judged: Result<Verdict, Refusal>) -> Refusal
+    ensures { result ≡ as_refusal (said judged) }
 {
-    match a {
-        Judged::Match => Refusal::at(MATCH, CLAIM_FILE, 0),
-        Judged::Incomplete(line) => Refusal::at(INCOMPLETE, CLAIM_FILE, line),
-        Judged::Mismatch(line) => Refusal::at(MISMATCH, CLAIM_FILE, line),
-        Judged::Refused(r) => r,
+    match judged {
+        Ok(Verdict::Match) => Refusal::at(MATCH, CLAIM_FILE, 0),
+        Ok(Verdict::Incomplete(line)) => Refusal::at(INCOMPLETE, CLAIM_FILE, line),
+        Ok(Verdict::Mismatch(line)) => Refusal::at(MISMATCH, CLAIM_FILE, line),
+        Err(r) => r,
     }
 }
 
-// What opening a book says, as one number: 0 where it is ready.
-pub(crate) fn opened_code(a: Opened) -> u64
-    requires { Readable wide (says_opened a) nothing }
-    ensures { result ≡ coded (says_opened a) nothing }
-{
-    match a {
-        Opened::Ready => 0,
-        Opened::Refused(r) => refusal_code(r),
+// A value that a call gives, as a number for its host.
+pub(crate) trait Coded {
+    ghost value: { Self → ℕ };
+
+    fn number(self) -> u64
+        requires { value self < wide }
+        ensures { result ≡ value self };
+}
+
+// No value beside the areas: 0.
+impl Coded for () {
+    ghost value = { nothing };
+
+    fn number(self) -> u64 {
+        0
     }
 }
 
-// What a join says, as one number: 1 where it merged two groups, 0 where it found one.
-pub(crate) fn joined_code(a: Joined) -> u64
-    requires { Readable wide (says_joined a) join_value }
-    ensures { result ≡ coded (says_joined a) join_value }
-{
-    match a {
-        Joined::Merged => 1,
-        Joined::Already => 0,
-        Joined::Refused(r) => refusal_code(r),
+// A size, a count or a step limit.
+impl Coded for usize {
+    ghost value = { reading_value };
+
+    fn number(self) -> u64 {
+        self as u64
     }
 }
 
-// What a head says, as one number: the head and, in the last two digits, the moves.
-pub(crate) fn headed_code(a: Headed) -> u64
-    requires { Readable wide (says_headed a) head_value }
-    ensures { result ≡ coded (says_headed a) head_value }
-{
-    match a {
-        Headed::Head(head, moves) => head as u64 * 100 + moves as u64,
-        Headed::Refused(r) => refusal_code(r),
+// 1 where two vertices are in one group.
+impl Coded for bool {
+    ghost value = { same_value };
+
+    fn number(self) -> u64 {
+        u64::from(self)
     }
 }
 
-// What a comparison says, as one number: 1 where two vertices are in one group.
-pub(crate) fn compared_code(a: Compared) -> u64
-    requires { Readable wide (says_compared a) same_value }
-    ensures { result ≡ coded (says_compared a) same_value }
-{
-    match a {
-        Compared::Together => 1,
-        Compared::Apart => 0,
-        Compared::Refused(r) => refusal_code(r),
+// 1 where a join merged two groups, 0 where it found one.
+impl Coded for Joining {
+    ghost value = { λ j. join_value (as_joining j) };
+
+    fn number(self) -> u64 {
+        match self {
+            Joining::Merged => 1,
+            Joining::Already => 0,
+        }
     }
 }
 
-// What a size, a count or a step limit says, as one number.
-pub(crate) fn reading_code(a: Reading) -> u64
-    requires { Readable wide (says_reading a) reading_value }
-    ensures { result ≡ coded (says_reading a) reading_value }
-{
-    match a {
-        Reading::Value(k) => k as u64,
-        Reading::Refused(r) => refusal_code(r),
+// The head and, in the last two digits, the moves.
+impl Coded for Head {
+    ghost value = { λ h. head_value (as_end h) };
+
+    fn number(self) -> u64 {
+        self.head as u64 * 100 + self.moves as u64
     }
 }
 
-// What a kernel says, as one number: 0 where its results stand in the areas.
-pub(crate) fn kernel_code(a: Answer) -> u64
-    requires { Readable wide (says a) nothing }
-    ensures { result ≡ coded (says a) nothing }
-{
-    match a {
-        Answer::Done => 0,
-        Answer::Refused(r) => refusal_code(r),
+// Vertices and, in the last seven digits, arcs.
+impl Coded for Size {
+    ghost value = { load_value };
+
+    fn number(self) -> u64 {
+        self.vertices as u64 * 10000000 + self.arcs as u64
     }
 }
 
-// What a load says, as one number: vertices and, in the last seven digits, arcs.
-pub(crate) fn load_code(a: Loaded) -> u64
-    requires { Readable wide (Load.says a) load_value }
-    ensures { result ≡ coded (Load.says a) load_value }
+// What a call says, as one number: its value's, or its refusal's.
+pub(crate) fn code<T: Coded + Drop>(answer: Result<T, Refusal>) -> u64
+    requires { Readable wide (said answer) T.value }
+    ensures { result ≡ coded (said answer) T.value }
 {
-    match a {
-        Loaded::Graph(size) => size.vertices as u64 * 10000000 + size.arcs as u64,
-        Loaded::Refused(r) => refusal_code(r),
+    match answer {
+        Ok(value) => value.number(),
+        Err(r) => refusal_code(r),
     }
 }

@@ -7,10 +7,10 @@ ghost use Rattle.cdlp.specs.Call.{cdlp_call};
 ghost use Rattle.lcc.specs.Call.{lcc_call};
 ghost use Rattle.trace.specs.Kernels.{stated_size, bfs_told, bfs_tells, wcc_told, wcc_tells, cdlp_told, cdlp_tells, lcc_told, lcc_tells};
 
-use crate::code::kernel_code;
+use crate::code::code;
+use crate::lent::graph_of;
 use bfs::bfs;
 use cdlp::cdlp;
-use graph::Size;
 use lcc::lcc;
 use wcc::wcc;
 
@@ -34,18 +34,16 @@ pub extern "C" fn trace_bfs(
         in_offsets.now in_sources.now)
         root depth.old queue.old) }
 {
-    let size = Size { vertices, arcs };
-    kernel_code(bfs(
-        size,
+    let g = graph_of(
+        vertices,
+        arcs,
         ids,
         out_offsets,
         out_targets,
         in_offsets,
         in_sources,
-        root,
-        depth,
-        queue,
-    ))
+    );
+    code(bfs(g, root, depth, queue))
 }
 
 // WCC: the components' labels in `result`.
@@ -67,17 +65,16 @@ pub extern "C" fn trace_wcc(
         in_offsets.now in_sources.now)
         res.old heads.old) }
 {
-    let size = Size { vertices, arcs };
-    kernel_code(wcc(
-        size,
+    let g = graph_of(
+        vertices,
+        arcs,
         ids,
         out_offsets,
         out_targets,
         in_offsets,
         in_sources,
-        res,
-        heads,
-    ))
+    );
+    code(wcc(g, res, heads))
 }
 
 // CDLP of so many iterations: labels in `result`.
@@ -102,20 +99,16 @@ pub extern "C" fn trace_cdlp(
         in_offsets.now in_sources.now)
         iterations res.old labels.old next.old counts.old) }
 {
-    let size = Size { vertices, arcs };
-    kernel_code(cdlp(
-        size,
+    let g = graph_of(
+        vertices,
+        arcs,
         ids,
         out_offsets,
         out_targets,
         in_offsets,
         in_sources,
-        iterations,
-        res,
-        labels,
-        next,
-        counts,
-    ))
+    );
+    code(cdlp(g, iterations, res, labels, next, counts))
 }
 
 // LCC: coefficients in `numerators` and `denominators`.
@@ -138,16 +131,14 @@ pub extern "C" fn trace_lcc(
         in_offsets.now in_sources.now)
         numerators.old denominators.old work.old) }
 {
-    let size = Size { vertices, arcs };
-    kernel_code(lcc(
-        size,
+    let g = graph_of(
+        vertices,
+        arcs,
         ids,
         out_offsets,
         out_targets,
         in_offsets,
         in_sources,
-        numerators,
-        denominators,
-        work,
-    ))
+    );
+    code(lcc(g, numerators, denominators, work))
 }

@@ -5,7 +5,7 @@ ghost use Rattle.book.specs.One.{one, one_book};
 ghost use Rattle.trace.specs.Code.{coded, nothing};
 ghost use Rattle.trace.specs.Book.{join_value, head_value, same_value, reading_value, book_told, book_tells};
 
-use crate::code::{compared_code, headed_code, joined_code, opened_code, reading_code};
+use crate::code::code;
 use book::joining::join;
 use book::opening::open_book;
 use book::readings::{group_count, group_size, head, same_group, step_limit};
@@ -14,47 +14,47 @@ use book::readings::{group_count, group_size, head, same_group, step_limit};
 pub extern "C" fn trace_book_open(entries: &mut [i64]) -> u64
     ensures { book_told result entries.new ≡ book_tells nothing (open_book one_book entries.old) }
 {
-    opened_code(open_book(entries))
+    code(open_book(entries))
 }
 
 #[unsafe(no_mangle)]
 pub extern "C" fn trace_book_join(entries: &mut [i64], u: usize, v: usize) -> u64
     ensures { book_told result entries.new ≡ book_tells join_value (join_book one_book entries.old u v) }
 {
-    joined_code(join(entries, u, v))
+    code(join(entries, u, v))
 }
 
 #[unsafe(no_mangle)]
 pub extern "C" fn trace_book_head(entries: &[i64], v: usize) -> u64
     ensures { result ≡ coded (head_of (one entries.now) v) head_value }
 {
-    headed_code(head(entries, v))
+    code(head(entries, v))
 }
 
 #[unsafe(no_mangle)]
 pub extern "C" fn trace_book_same(entries: &[i64], u: usize, v: usize) -> u64
     ensures { result ≡ coded (same_group (one entries.now) u v) same_value }
 {
-    compared_code(same_group(entries, u, v))
+    code(same_group(entries, u, v))
 }
 
 #[unsafe(no_mangle)]
 pub extern "C" fn trace_book_size(entries: &[i64], v: usize) -> u64
     ensures { result ≡ coded (group_size (one entries.now) v) reading_value }
 {
-    reading_code(group_size(entries, v))
+    code(group_size(entries, v))
 }
 
 #[unsafe(no_mangle)]
 pub extern "C" fn trace_book_count(entries: &[i64]) -> u64
     ensures { result ≡ coded (group_count (one entries.now)) reading_value }
 {
-    reading_code(group_count(entries))
+    code(group_count(entries))
 }
 
 #[unsafe(no_mangle)]
 pub extern "C" fn trace_book_limit(entries: &[i64], v: usize) -> u64
     ensures { result ≡ coded (step_limit (one entries.now) v) reading_value }
 {
-    reading_code(step_limit(entries, v))
+    code(step_limit(entries, v))
 }

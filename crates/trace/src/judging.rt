@@ -1,6 +1,6 @@
 // Verdicts: on a graph that the host lends, and on the bytes of three files.
 ghost use Rattle.std.specs.Prelude.{◌≡◌};
-ghost use Rattle.graph.specs.Sound.{lent};
+ghost use Rattle.graph.specs.Sound.{lent, standing};
 ghost use Rattle.verdicts.specs.Call.{most_lines, verdict_call};
 ghost use Rattle.trace.specs.Code.{host_code};
 ghost use Rattle.trace.specs.Kernels.{stated_size};
@@ -9,11 +9,12 @@ ghost use Rattle.trace.specs.Host.{is_known, host_verdict};
 ghost use Rattle.trace.specs.Steps.{desk_judged};
 
 use crate::code::{as_refusal, host_code, refusal_code};
+use crate::lent::graph_of;
 use basis::Refusal;
 use basis::limits::{DESK_EDGES, DESK_VERTICES};
 use basis::refusal::UNKNOWN_NUMBER;
-use graph::Size;
-use load::{Limits, Loaded, load_within};
+use graph::Lent;
+use load::{Limits, load_within};
 use verdicts::verdict::{verdict, verdict_within};
 
 // How many lines a claim may have at desk limits.
@@ -48,14 +49,17 @@ pub extern "C" fn trace_judge(
         res.old claimed.old first.old second.old third.old
         lines.old) }
 {
-    let size = Size { vertices, arcs };
-    let judged = verdict(
-        size,
+    let g = graph_of(
+        vertices,
+        arcs,
         ids,
         out_offsets,
         out_targets,
         in_offsets,
         in_sources,
+    );
+    let judged = verdict(
+        g,
         kernel as usize,
         parameter,
         claim,
@@ -69,35 +73,18 @@ pub extern "C" fn trace_judge(
     refusal_code(as_refusal(judged))
 }
 
-// Whether 01 numbers this mode and this kernel.
+// Whether the rules number this mode and this kernel.
 fn is_known(mode: u64, kernel: u64) -> bool
     ensures { result ≡ is_known mode kernel }
 {
-    if 1 < mode {
-        return false;
-    }
-    if kernel < 1 {
-        return false;
-    }
-    kernel <= 4
+    mode <= 1 && (1..=4).contains(&kernel)
 }
 
 // The verdict on a graph of desk size, with areas of its own.
-fn judge_loaded(
-    size: Size,
-    ids: &[i64],
-    out_offsets: &[usize],
-    out_targets: &[usize],
-    in_offsets: &[usize],
-    in_sources: &[usize],
-    kernel: u64,
-    parameter: i64,
-    claim: &[u8],
-) -> u64
+fn judge_loaded(g: Lent, kernel: u64, parameter: i64, claim: &[u8]) -> u64
     ensures { result
         ≡ host_code (as_refusal (desk_judged
-        (lent size ids.now out_offsets.now out_targets.now
-        in_offsets.now in_sources.now)
+        (standing g.entry)
         kernel parameter claim.now)) }
 {
     let mut result = [0i64; DESK_VERTICES];
@@ -108,12 +95,7 @@ fn judge_loaded(
     let mut lines = [0usize; DESK_VERTICES];
     let judged = verdict_within(
         DESK_LINES,
-        size,
-        ids,
-        out_offsets,
-        out_targets,
-        in_offsets,
-        in_sources,
+        g,
         kernel as usize,
         parameter,
         claim,
@@ -163,17 +145,18 @@ pub extern "C" fn trace_verdict(
         &mut in_sources,
     );
     match loaded {
-        Loaded::Refused(r) => host_code(r),
-        Loaded::Graph(size) => judge_loaded(
-            size,
-            &ids,
-            &out_offsets,
-            &out_targets,
-            &in_offsets,
-            &in_sources,
-            kernel,
-            parameter,
-            claim,
-        ),
+        Err(r) => host_code(r),
+        Ok(size) => {
+            let g = graph_of(
+                size.vertices,
+                size.arcs,
+                &ids,
+                &out_offsets,
+                &out_targets,
+                &in_offsets,
+                &in_sources,
+            );
+            judge_loaded(g, kernel, parameter, claim)
+        }
     }
 }

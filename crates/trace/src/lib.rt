@@ -5,4 +5,5 @@ mod code;
 pub mod four_kernels;
 pub mod group_book;
 pub mod judging;
+mod lent;
 pub mod loading;

@@ -3,7 +3,7 @@ ghost use Rattle.std.specs.Prelude.{◌≡◌, length};
 ghost use Rattle.load.specs.Load.{room_of, load_call, library};
 ghost use Rattle.trace.specs.Load.{load_told, load_tells};
 
-use crate::code::load_code;
+use crate::code::code;
 use load::load;
 
 #[unsafe(no_mangle)]
@@ -24,7 +24,7 @@ pub extern "C" fn trace_load(
         (length in_offsets.old) (length in_sources.old))
         vertices.now edges.now) }
 {
-    load_code(load(
+    code(load(
         mode as usize,
         vertices,
         edges,
