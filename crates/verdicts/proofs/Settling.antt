@@ -1,43 +1,49 @@
 -- Laws of a claim on a kernel's results: one for each way out of the code. Assumes nothing.
+use Rattle.std.specs.Prelude.{Result, Ok, Err}
+use Rattle.std.specs.Result.{is_err}
 use mathlib.Core.Path.{◌≡◌, refl, ap, ◌∙◌}
 use mathlib.Core.Bool.{Bool, true, false}
 use mathlib.Core.List.{List}
 use Prim.Native.Nat.{ℕ, ◌≤◌}
 use lib.IntN.{ℤ, pos}
-use lib.ListN.{length, take, replicate}
+use lib.ListN.{length, take, replicate, length-replicate}
 use lib.Seq.{length-take-le}
 use borrow.Author.Tests.{le-leb}
 use Rattle.basis.specs.Refusal.{Said, gives, refuses, plain, no_room}
 use Rattle.basis.specs.declared.refusal.Refusal.{Refusal}
 use Rattle.basis.specs.Area.{cleared, cleared_z}
-use Rattle.basis.proofs.Tests.{clash, failed, held}
 use Rattle.graph.specs.Find.{bisected}
-use Rattle.kernels.specs.declared.Answer.{Answer}
-use Rattle.kernels.specs.declared.Answer.TheVariants as A
 use Rattle.kernels.specs.Answer.{says as answers}
-use Rattle.matching.specs.declared.judged.Judged.{Judged}
+use Rattle.matching.specs.declared.judged.Verdict as judged
+use Rattle.matching.specs.declared.judged.Verdict.TheVariants as V
 use Rattle.matching.specs.declared.numbers.Rule.{Rule}
 use Rattle.matching.specs.Claim.{number_lines, coefficient_lines}
 use Rattle.matching.specs.Verdict.{Verdict, says, mismatch_vertex, judged_by}
 use Rattle.matching.specs.Calls as calls
-use Rattle.verdicts.specs.Steps.{is_refused, unless_refused, Known, Roomy, Numbers, numbers}
+use Rattle.verdicts.specs.Steps.{unless_refused, Worked, Known, Roomy, Numbers, numbers}
 use Rattle.verdicts.specs.Steps.{numbers_says, numbers_on, Terms, terms, terms_says, terms_on}
 
--- ---- an area after a verdict, and after a refusal, by the test t
-module _ {A : Type 0} (x : Said Verdict) (z : A) (l : List A) {t : Bool} (e : t ≡ is_refused x) where
-  stays : (y : Said Verdict) → is_refused y ≡ false → l ≡ unless_refused y z l
-  stays (gives v) h = refl
-  stays (refuses r) h = clash refl h
+-- ---- an area after a verdict, and after a refusal
+pub area-stays : {A : Type 0} (j : Result judged.Verdict Refusal) (z : A) (l : List A) → is_err j ≡ false → l ≡ unless_refused (says j) z l
+area-stays (Ok V.Match) z l e = refl
+area-stays (Ok (V.Incomplete k)) z l e = refl
+area-stays (Ok (V.Mismatch k)) z l e = refl
+area-stays (Err r) z l e = cc
 
-  goes : (y : Said Verdict) → is_refused y ≡ true → replicate (length l) z ≡ unless_refused y z l
-  goes (gives v) h = clash h refl
-  goes (refuses r) h = refl
+pub area-goes : {A : Type 0} (j : Result judged.Verdict Refusal) (z : A) (l : List A) → is_err j ≡ true → {left : List A}
+    → left ≡ replicate (length l) z → left ≡ unless_refused (says j) z l
+area-goes (Ok v) z l e q = cc
+area-goes (Err r) z l e q = q
 
-  pub area-stays : t ≡ false → l ≡ unless_refused x z l
-  area-stays h = stays x (failed t (is_refused x) e h)
+-- a working area that a judge has cleared, or left with its size, and that goes after a refusal
+worked : {A : Type 0} (x : Said Verdict) (z : A) (before after : List A) → after ≡ replicate (length before) z → Worked x z before after
+worked (gives v) z before after e = e
+worked (refuses r) z before after e = ap length e ∙ length-replicate (length before) z
 
-  pub area-goes : t ≡ true → {left : List A} → left ≡ replicate (length l) z → left ≡ unless_refused x z l
-  area-goes h q = q ∙ goes x (held t (is_refused x) e h)
+settled : {A : Type 0} (x : Said Verdict) (z : A) (before after : List A) → Worked x z before after → {left : List A}
+    → left ≡ unless_refused x z after → left ≡ replicate (length before) z
+settled (gives v) z before after w e = e ∙ w
+settled (refuses r) z before after w e = e ∙ ap (λ (k : ℕ). replicate k z) w
 
 pub all-numbers : {x y : Said Verdict} {a b c d : List ℤ} {e f : List ℕ} → x ≡ y → a ≡ b → c ≡ d → e ≡ f → numbers x a c e ≡ numbers y b d f
 all-numbers p q r s = cc
@@ -46,67 +52,77 @@ pub all-terms : {x y : Said Verdict} {a b c d e f : List ℕ} → x ≡ y → a 
 all-terms p q r s = cc
 
 -- a kernel that is done has the identifiers
-pub known-ids : (answer : Answer) (n size : ℕ) → answer ≡ A.Done → Known (answers answer) n size → n ≤ size
+pub known-ids : (answer : Result (Unit {0}) Refusal) (n size : ℕ) → answer ≡ Ok tt → Known (answers answer) n size → n ≤ size
 known-ids answer n size e known = known (ap answers e)
 
 -- ---- a claim of numbers on what a kernel has answered
-module _ (answer : Answer) (room : Bool) (rule : Rule) (most n : ℕ) (ids : List ℤ) (s : List ℕ) (R C : List ℤ) (L : List ℕ) where
-  pub numbers-refused : (r : Refusal) → answer ≡ A.Refused r → {x : Numbers} → x
-      ≡ numbers (refuses r) (cleared_z R) (cleared_z C) (cleared L)
-      → x ≡ numbers_on (answers answer) room rule most n ids s R C L
-  unfolding numbers_on numbers_says
-  numbers-refused r e q = rw e q
+module _ (answer : Result (Unit {0}) Refusal) (room : Bool) (rule : Rule) (most n : ℕ) (ids : List ℤ) (s : List ℕ) (R : List ℤ) where
+  pub numbers-refused : (r : Refusal) → answer ≡ Err r → refuses r ≡ numbers_says (answers answer) room rule most (take n ids) (take n R) s
+  unfolding numbers_says
+  numbers-refused r e = rw e
 
-  module _ (e : answer ≡ A.Done) where
-    pub numbers-short : room ≡ false → (r : Refusal) → r ≡ plain no_room → {x : Numbers}
-        → x ≡ numbers (refuses r) (cleared_z R) (cleared_z C) (cleared L)
-        → x ≡ numbers_on (answers answer) room rule most n ids s R C L
-    unfolding numbers_on numbers_says
-    numbers-short h r p q = rw (e, h) (q ∙ ap (λ (y : Refusal). numbers (refuses y) (cleared_z R) (cleared_z C) (cleared L)) p)
+  pub numbers-short : answer ≡ Ok tt → room ≡ false → (r : Refusal) → r ≡ plain no_room
+      → refuses r ≡ numbers_says (answers answer) room rule most (take n ids) (take n R) s
+  unfolding numbers_says
+  numbers-short e h r p = rw (e, h, p)
 
-    module _ (known : Known (answers answer) n (length ids)) where
-      pub numbers-done : room ≡ true → Roomy room n (length R) × Roomy room n (length C) × Roomy room n (length L)
-          → (j : Judged) (C' : List ℤ) (L' : List ℕ) → calls.outcome (says j) C' L' ≡ calls.numbers_call rule most (take n ids) R s C L
-          → (i : Judged) (R' : List ℤ) → (i ≡ j) × (R' ≡ unless_refused (says j) (pos 0) R)
-          → numbers (says i) R' C' L' ≡ numbers_on (answers answer) room rule most n ids s R C L
-      unfolding numbers_on numbers_says calls.numbers_call
-      numbers-done h roomy j C' L' q i R' p =
-          let t = h in
-          let l = length-take-le n ids (known-ids answer n (length ids) e known) in
-          let f : says j ≡ judged_by (bisected (take n ids)) (length (take n ids)) (pos 0) (mismatch_vertex rule (take n R))
-          (number_lines most s) =
-          ap (λ (o : calls.Outcome). o.said) q
-          ∙ rw (l, le-leb n (length R) (roomy.0 t), le-leb n (length C) (roomy.1 t), le-leb n (length L) (roomy.2 t)) in
-          rw (e, t) (all-numbers (ap says p.0 ∙ f) (p.1 ∙ ap (λ (x : Said Verdict). unless_refused x (pos 0) R) f)
-          (ap (λ (o : calls.Outcome). o.claimed) q) (ap (λ (o : calls.Outcome). o.lines) q))
+  module _ (C : List ℤ) (L : List ℕ) where
+    pub numbers-done : answer ≡ Ok tt → Known (answers answer) n (length ids) → room ≡ true
+        → Roomy room n (length R) × Roomy room n (length C) × Roomy room n (length L)
+        → (j : Result judged.Verdict Refusal) (C' : List ℤ) (L' : List ℕ)
+        → calls.outcome (says j) C' L' ≡ calls.numbers_call rule most (take n ids) R s C L
+        → (says j ≡ numbers_says (answers answer) room rule most (take n ids) (take n R) s)
+        × ((Worked (says j) (pos 0) C C') × (Worked (says j) 0 L L'))
+    unfolding numbers_says calls.numbers_call
+    numbers-done e known t roomy j C' L' q =
+        let l = length-take-le n ids (known-ids answer n (length ids) e known) in
+        let f : says j ≡ judged_by (bisected (take n ids)) (length (take n ids)) (pos 0) (mismatch_vertex rule (take n R))
+        (number_lines most s) =
+        ap (λ (o : calls.Outcome). o.said) q
+        ∙ rw (l, le-leb n (length R) (roomy.0 t), le-leb n (length C) (roomy.1 t), le-leb n (length L) (roomy.2 t)) in
+        (rw (e, t) f, (worked (says j) (pos 0) C C' (ap (λ (o : calls.Outcome). o.claimed) q),
+        worked (says j) 0 L L' (ap (λ (o : calls.Outcome). o.lines) q)))
+
+    pub numbers-settled : (j : Result judged.Verdict Refusal) (D : List ℤ) (M : List ℕ)
+        → says j ≡ numbers_says (answers answer) room rule most (take n ids) (take n R) s
+        → (Worked (says j) (pos 0) C D) × (Worked (says j) 0 L M) → {R' C' : List ℤ} {L' : List ℕ} → R' ≡ unless_refused (says j) (pos 0) R
+        → C' ≡ unless_refused (says j) (pos 0) D → L' ≡ unless_refused (says j) 0 M
+        → numbers (says j) R' C' L' ≡ numbers_on (answers answer) room rule most n ids s R C L
+    unfolding numbers_on
+    numbers-settled j D M f w p q r =
+        all-numbers f (p ∙ ap (λ (x : Said Verdict). unless_refused x (pos 0) R) f) (settled (says j) (pos 0) C D w.0 q)
+        (settled (says j) 0 L M w.1 r)
 
 -- ---- a claim of coefficients
-module _ (answer : Answer) (room : Bool) (most n : ℕ) (ids : List ℤ) (s F S L : List ℕ) where
-  pub terms-refused : (r : Refusal) → answer ≡ A.Refused r → {x : Terms} → x ≡ terms (refuses r) (cleared F) (cleared S) (cleared L)
-      → x ≡ terms_on (answers answer) room most n ids s F S L
-  unfolding terms_on terms_says
-  terms-refused r e q = rw e q
+module _ (answer : Result (Unit {0}) Refusal) (room : Bool) (most n : ℕ) (ids : List ℤ) (s F S : List ℕ) where
+  pub terms-refused : (r : Refusal) → answer ≡ Err r → refuses r ≡ terms_says (answers answer) room most n ids s F S
+  unfolding terms_says
+  terms-refused r e = rw e
 
-  module _ (e : answer ≡ A.Done) where
-    pub terms-short : room ≡ false → (r : Refusal) → r ≡ plain no_room → {x : Terms}
-        → x ≡ terms (refuses r) (cleared F) (cleared S) (cleared L)
-        → x ≡ terms_on (answers answer) room most n ids s F S L
-    unfolding terms_on terms_says
-    terms-short h r p q = rw (e, h) (q ∙ ap (λ (y : Refusal). terms (refuses y) (cleared F) (cleared S) (cleared L)) p)
+  pub terms-short : answer ≡ Ok tt → room ≡ false → (r : Refusal) → r ≡ plain no_room
+      → refuses r ≡ terms_says (answers answer) room most n ids s F S
+  unfolding terms_says
+  terms-short e h r p = rw (e, h, p)
 
-    module _ (known : Known (answers answer) n (length ids)) where
-      pub terms-done : room ≡ true → Roomy room n (length F) × Roomy room n (length S) × Roomy room n (length L)
-          → (j : Judged) (L' : List ℕ) → calls.told (says j) L' ≡ calls.coefficients_call most (take n ids) F S s L
-          → (i : Judged) (F' S' : List ℕ) → (i ≡ j) × (F' ≡ unless_refused (says j) 0 F) × (S' ≡ unless_refused (says j) 0 S)
-          → terms (says i) F' S' L' ≡ terms_on (answers answer) room most n ids s F S L
-      unfolding terms_on terms_says calls.coefficients_call
-      terms-done h roomy j L' q i F' S' p =
-          let t = h in
-          let l = length-take-le n ids (known-ids answer n (length ids) e known) in
-          let f : says j
-          ≡ judged_by (bisected (take n ids)) (length (take n ids)) calls.no_decimal (calls.far_within (calls.fractions n F S))
-          (coefficient_lines most s) =
-          ap (λ (o : calls.Told). o.said) q
-          ∙ rw (l, le-leb n (length F) (roomy.0 t), le-leb n (length S) (roomy.1 t), le-leb n (length L) (roomy.2 t)) in
-          rw (e, t) (all-terms (ap says p.0 ∙ f) (p.1 ∙ ap (λ (x : Said Verdict). unless_refused x 0 F) f)
-          (p.2 ∙ ap (λ (x : Said Verdict). unless_refused x 0 S) f) (ap (λ (o : calls.Told). o.lines) q))
+  module _ (L : List ℕ) where
+    pub terms-done : answer ≡ Ok tt → Known (answers answer) n (length ids) → room ≡ true
+        → Roomy room n (length F) × Roomy room n (length S) × Roomy room n (length L)
+        → (j : Result judged.Verdict Refusal) (L' : List ℕ) → calls.told (says j) L' ≡ calls.coefficients_call most (take n ids) F S s L
+        → (says j ≡ terms_says (answers answer) room most n ids s F S) × (Worked (says j) 0 L L')
+    unfolding terms_says calls.coefficients_call
+    terms-done e known t roomy j L' q =
+        let l = length-take-le n ids (known-ids answer n (length ids) e known) in
+        let f : says j
+        ≡ judged_by (bisected (take n ids)) (length (take n ids)) calls.no_decimal (calls.far_within (calls.fractions n F S))
+        (coefficient_lines most s) =
+        ap (λ (o : calls.Told). o.said) q
+        ∙ rw (l, le-leb n (length F) (roomy.0 t), le-leb n (length S) (roomy.1 t), le-leb n (length L) (roomy.2 t)) in
+        (rw (e, t) f, worked (says j) 0 L L' (ap (λ (o : calls.Told). o.lines) q))
+
+    pub terms-settled : (j : Result judged.Verdict Refusal) (M : List ℕ) → says j ≡ terms_says (answers answer) room most n ids s F S
+        → Worked (says j) 0 L M → {F' S' L' : List ℕ} → F' ≡ unless_refused (says j) 0 F → S' ≡ unless_refused (says j) 0 S
+        → L' ≡ unless_refused (says j) 0 M → terms (says j) F' S' L' ≡ terms_on (answers answer) room most n ids s F S L
+    unfolding terms_on
+    terms-settled j M f w p q r =
+        all-terms f (p ∙ ap (λ (x : Said Verdict). unless_refused x 0 F) f) (q ∙ ap (λ (x : Said Verdict). unless_refused x 0 S) f)
+        (settled (says j) 0 L M w r)

@@ -1,5 +1,5 @@
 -- What private functions say of their work: a claim judged on what a kernel has left in its areas.
-use Rattle.std.specs.Prelude.{ℕ, ◌≤◌, ◌≡◌, Bool, true, false, List, ℤ, pos, length, take, replicate}
+use Rattle.std.specs.Prelude.{ℕ, ◌≤◌, ◌≡◌, Bool, true, List, ℤ, pos, length, take, replicate}
 use Rattle.basis.specs.Refusal.{Said, gives, refuses, no_room, check}
 use Rattle.basis.specs.Area.{leaves, cleared, cleared_z}
 use Rattle.graph.specs.Find.{bisected}
@@ -16,10 +16,10 @@ abbrev pub unless_refused : {A : Type 0} → Said Verdict → A → List A → L
 unless_refused (gives v) z l = l
 unless_refused (refuses r) z l = replicate (length l) z
 
--- a refusal was said, no verdict
-abbrev pub is_refused : Said Verdict → Bool
-is_refused (gives v) = false
-is_refused (refuses r) = true
+-- a working area is zero after a verdict, and has its size after a refusal
+abbrev pub Worked : {A : Type 0} → Said Verdict → A → List A → List A → Type 0
+Worked (gives v) z before after = after ≡ replicate (length before) z
+Worked (refuses r) z before after = length after ≡ length before
 
 -- where a kernel did not refuse, its n vertices have identifiers among so many
 abbrev pub Known : Said (Unit {0}) → ℕ → ℕ → Type 0

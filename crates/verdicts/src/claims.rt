@@ -1,86 +1,82 @@
 // A claim on what a kernel has answered and left in its result areas. A refusal leaves them zero.
-ghost use Rattle.std.specs.Prelude.{◌≡◌, length, pos};
-ghost use Rattle.basis.specs.Refusal.{refuses};
-ghost use Rattle.basis.specs.Area.{cleared, cleared_z};
+ghost use Rattle.std.specs.Prelude.{◌≡◌, length, pos, take};
 ghost use Rattle.kernels.specs.Answer.{says as answers};
 ghost use Rattle.matching.specs.Verdict.{says};
-ghost use Rattle.verdicts.specs.Steps.{is_refused, unless_refused, numbers, numbers_on, terms, terms_on, Known, Roomy};
+ghost use Rattle.verdicts.specs.Steps.{unless_refused, Worked, numbers, numbers_says, numbers_on, terms, terms_says, terms_on, Known, Roomy};
 
 use basis::Refusal;
-use basis::area::{clear, clear_signed};
+use basis::area::{Zero, clear};
 use basis::refusal::NO_ROOM;
-use kernels::Answer;
-use matching::Judged;
+use matching::Verdict;
 use matching::coefficients::judge_coefficients;
 use matching::numbers::{Rule, judge_numbers};
 
-// A refusal was said, no verdict.
-fn is_refused(judged: Judged) -> bool
-    ensures { result ≡ is_refused (says judged) }
+// An area stays after a verdict and is cleared after a refusal.
+fn settle<T: Zero>(judged: &Result<Verdict, Refusal>, area: &mut [T])
+    ensures { area.new ≡ unless_refused (says judged.now) T.ZERO area.old }
 {
-    match judged {
-        Judged::Match => false,
-        Judged::Incomplete(_) => false,
-        Judged::Mismatch(_) => false,
-        Judged::Refused(_) => true,
+    if judged.is_err() {
+        clear(area);
     }
 }
 
-// The results stay after a verdict and go after a refusal.
-fn settle_numbers(judged: Judged, res: &mut [i64]) -> Judged
-    ensures { (result ≡ judged) × (res.new ≡ unless_refused (says judged) (pos 0) res.old) }
+// What is said of a claim of numbers: a kernel's refusal, then that of areas that are too short, then the claim's.
+fn numbers_said(
+    answer: Result<(), Refusal>,
+    room: bool,
+    rule: Rule,
+    most: usize,
+    n: usize,
+    ids: &[i64],
+    claim: &[u8],
+    res: &[i64],
+    claimed: &mut [i64],
+    lines: &mut [usize],
+) -> Result<Verdict, Refusal>
+    requires known { Known (answers answer) n (length ids.now) }
+    requires roomy { (Roomy room n (length res.now))
+        × (Roomy room n (length claimed.old))
+        × (Roomy room n (length lines.old)) }
+    ensures value { says result ≡ numbers_says (answers answer) room rule most (take n ids.now) (take n res.now) claim.now }
+    ensures areas_after { (Worked (says result) (pos 0) claimed.old claimed.new) × (Worked (says result) 0 lines.old lines.new) }
 {
-    if !is_refused(judged) {
-        return judged;
+    answer?;
+    if !room {
+        return Err(Refusal::plain(NO_ROOM));
     }
-    clear_signed(res);
-    judged
-}
-
-// The same of a coefficient's two areas.
-fn settle_terms(judged: Judged, first: &mut [usize], second: &mut [usize]) -> Judged
-    ensures { (result ≡ judged)
-        × (first.new ≡ unless_refused (says judged) 0 first.old)
-        × (second.new ≡ unless_refused (says judged) 0 second.old) }
-{
-    if !is_refused(judged) {
-        return judged;
-    }
-    clear(first);
-    clear(second);
-    judged
-}
-
-// A refusal before the claim is read: its working areas are not cleared yet.
-fn refuse_numbers(r: Refusal, res: &mut [i64], claimed: &mut [i64], lines: &mut [usize]) -> Judged
-    ensures { numbers (says result) res.new claimed.new lines.new
-        ≡ numbers (refuses r) (cleared_z res.old) (cleared_z claimed.old) (cleared lines.old) }
-{
-    clear_signed(res);
-    clear_signed(claimed);
-    clear(lines);
-    Judged::Refused(r)
+    judge_numbers(rule, most, &ids[..n], res, claim, claimed, lines)
 }
 
 // The same of a claim of coefficients.
-fn refuse_terms(
-    r: Refusal,
-    first: &mut [usize],
-    second: &mut [usize],
+fn terms_said(
+    answer: Result<(), Refusal>,
+    room: bool,
+    most: usize,
+    n: usize,
+    ids: &[i64],
+    claim: &[u8],
+    first: &[usize],
+    second: &[usize],
     lines: &mut [usize],
-) -> Judged
-    ensures { terms (says result) first.new second.new lines.new
-        ≡ terms (refuses r) (cleared first.old) (cleared second.old) (cleared lines.old) }
+) -> Result<Verdict, Refusal>
+    requires known { Known (answers answer) n (length ids.now) }
+    requires roomy { (Roomy room n (length first.now))
+        × (Roomy room n (length second.now))
+        × (Roomy room n (length lines.old)) }
+    ensures value { says result ≡ terms_says (answers answer) room most n ids.now claim.now first.now second.now }
+    ensures lines_after { Worked (says result) 0 lines.old lines.new }
 {
-    clear(first);
-    clear(second);
-    clear(lines);
-    Judged::Refused(r)
+    answer?;
+    if !room {
+        return Err(Refusal::plain(NO_ROOM));
+    }
+    judge_coefficients(most, &ids[..n], first, second, claim, lines)
 }
 
 // A claim of numbers on a kernel's results, by its rule; `room` says whether all areas have room.
+// Stays: three areas are lent for writing one by one, since a struct of `&mut` slices needs a ghost name for each in every clause.
 pub(crate) fn numbers_on(
-    answer: Answer,
+    answer: Result<(), Refusal>,
     room: bool,
     rule: Rule,
     most: usize,
@@ -90,7 +86,7 @@ pub(crate) fn numbers_on(
     res: &mut [i64],
     claimed: &mut [i64],
     lines: &mut [usize],
-) -> Judged
+) -> Result<Verdict, Refusal>
     requires known { Known (answers answer) n (length ids.now) }
     requires roomy { (Roomy room n (length res.old))
         × (Roomy room n (length claimed.old))
@@ -99,21 +95,16 @@ pub(crate) fn numbers_on(
         ≡ numbers_on (answers answer) room rule most n
         ids.now claim.now res.old claimed.old lines.old }
 {
-    match answer {
-        Answer::Refused(r) => refuse_numbers(r, res, claimed, lines),
-        Answer::Done => {
-            if !room {
-                return refuse_numbers(Refusal::plain(NO_ROOM), res, claimed, lines);
-            }
-            let judged = judge_numbers(rule, most, &ids[..n], res, claim, claimed, lines);
-            settle_numbers(judged, res)
-        }
-    }
+    let judged = numbers_said(answer, room, rule, most, n, ids, claim, res, claimed, lines);
+    settle(&judged, res);
+    settle(&judged, claimed);
+    settle(&judged, lines);
+    judged
 }
 
 // A claim of coefficients on a kernel's two result areas; `room` says whether all areas have room.
 pub(crate) fn terms_on(
-    answer: Answer,
+    answer: Result<(), Refusal>,
     room: bool,
     most: usize,
     n: usize,
@@ -122,7 +113,7 @@ pub(crate) fn terms_on(
     first: &mut [usize],
     second: &mut [usize],
     lines: &mut [usize],
-) -> Judged
+) -> Result<Verdict, Refusal>
     requires known { Known (answers answer) n (length ids.now) }
     requires roomy { (Roomy room n (length first.old))
         × (Roomy room n (length second.old))
@@ -131,14 +122,9 @@ pub(crate) fn terms_on(
         ≡ terms_on (answers answer) room most n
         ids.now claim.now first.old second.old lines.old }
 {
-    match answer {
-        Answer::Refused(r) => refuse_terms(r, first, second, lines),
-        Answer::Done => {
-            if !room {
-                return refuse_terms(Refusal::plain(NO_ROOM), first, second, lines);
-            }
-            let judged = judge_coefficients(most, &ids[..n], first, second, claim, lines);
-            settle_terms(judged, first, second)
-        }
-    }
+    let judged = terms_said(answer, room, most, n, ids, claim, first, second, lines);
+    settle(&judged, first);
+    settle(&judged, second);
+    settle(&judged, lines);
+    judged
 }

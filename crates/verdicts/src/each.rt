@@ -1,16 +1,17 @@
 // Each kernel's verdict: the kernel runs, then the claim is read against its results.
 ghost use Rattle.std.specs.Prelude.{◌≡◌, length};
 ghost use Rattle.basis.specs.Area.{cleared};
-ghost use Rattle.graph.specs.Sound.{lent};
+ghost use Rattle.graph.specs.Sound.{standing};
 ghost use Rattle.matching.specs.Verdict.{says};
 ghost use Rattle.verdicts.specs.Steps.{Roomy, numbers, bfs_verdict, wcc_verdict, cdlp_verdict, terms, lcc_verdict};
 
 use crate::claims::{numbers_on, terms_on};
+use basis::Refusal;
 use bfs::bfs;
 use cdlp::cdlp;
-use graph::Size;
+use graph::Lent;
 use lcc::lcc;
-use matching::Judged;
+use matching::Verdict;
 use matching::numbers::Rule;
 use wcc::wcc;
 
@@ -18,37 +19,26 @@ use wcc::wcc;
 pub(crate) fn on_bfs(
     room: bool,
     most: usize,
-    size: Size,
-    ids: &[i64],
-    out_offsets: &[usize],
-    out_targets: &[usize],
-    in_offsets: &[usize],
-    in_sources: &[usize],
+    g: Lent,
     root: i64,
     claim: &[u8],
     res: &mut [i64],
     claimed: &mut [i64],
     queue: &mut [usize],
     lines: &mut [usize],
-) -> Judged
-    requires roomy { (Roomy room size.vertices (length res.old))
-        × (Roomy room size.vertices (length claimed.old))
-        × (Roomy room size.vertices (length lines.old)) }
-    requires roomy_2 { Roomy room size.vertices (length queue.old) }
+) -> Result<Verdict, Refusal>
+    requires roomy { (Roomy room g.size.vertices (length res.old))
+        × (Roomy room g.size.vertices (length claimed.old))
+        × (Roomy room g.size.vertices (length lines.old)) }
+    requires roomy_2 { Roomy room g.size.vertices (length queue.old) }
     ensures lines_after { numbers (says result) res.new claimed.new lines.new
         ≡ bfs_verdict room most
-        (lent size ids.now out_offsets.now out_targets.now
-        in_offsets.now in_sources.now)
+        (standing g.entry)
         root claim.now res.old claimed.old lines.old }
     ensures queue_after { queue.new ≡ cleared queue.old }
 {
     let answer = bfs(
-        size,
-        ids,
-        out_offsets,
-        out_targets,
-        in_offsets,
-        in_sources,
+        g,
         root,
         res,
         queue,
@@ -58,8 +48,8 @@ pub(crate) fn on_bfs(
         room,
         Rule::Exact,
         most,
-        size.vertices,
-        ids,
+        g.size.vertices,
+        g.ids,
         claim,
         res,
         claimed,
@@ -71,36 +61,25 @@ pub(crate) fn on_bfs(
 pub(crate) fn on_wcc(
     room: bool,
     most: usize,
-    size: Size,
-    ids: &[i64],
-    out_offsets: &[usize],
-    out_targets: &[usize],
-    in_offsets: &[usize],
-    in_sources: &[usize],
+    g: Lent,
     claim: &[u8],
     res: &mut [i64],
     claimed: &mut [i64],
     heads: &mut [usize],
     lines: &mut [usize],
-) -> Judged
-    requires roomy { (Roomy room size.vertices (length res.old))
-        × (Roomy room size.vertices (length claimed.old))
-        × (Roomy room size.vertices (length lines.old)) }
-    requires roomy_2 { Roomy room size.vertices (length heads.old) }
+) -> Result<Verdict, Refusal>
+    requires roomy { (Roomy room g.size.vertices (length res.old))
+        × (Roomy room g.size.vertices (length claimed.old))
+        × (Roomy room g.size.vertices (length lines.old)) }
+    requires roomy_2 { Roomy room g.size.vertices (length heads.old) }
     ensures lines_after { numbers (says result) res.new claimed.new lines.new
         ≡ wcc_verdict room most
-        (lent size ids.now out_offsets.now out_targets.now
-        in_offsets.now in_sources.now)
+        (standing g.entry)
         claim.now res.old claimed.old lines.old }
     ensures heads_after { heads.new ≡ cleared heads.old }
 {
     let answer = wcc(
-        size,
-        ids,
-        out_offsets,
-        out_targets,
-        in_offsets,
-        in_sources,
+        g,
         res,
         heads,
     );
@@ -109,8 +88,8 @@ pub(crate) fn on_wcc(
         room,
         Rule::Equivalence,
         most,
-        size.vertices,
-        ids,
+        g.size.vertices,
+        g.ids,
         claim,
         res,
         claimed,
@@ -122,12 +101,7 @@ pub(crate) fn on_wcc(
 pub(crate) fn on_cdlp(
     room: bool,
     most: usize,
-    size: Size,
-    ids: &[i64],
-    out_offsets: &[usize],
-    out_targets: &[usize],
-    in_offsets: &[usize],
-    in_sources: &[usize],
+    g: Lent,
     iterations: i64,
     claim: &[u8],
     res: &mut [i64],
@@ -136,29 +110,23 @@ pub(crate) fn on_cdlp(
     next: &mut [usize],
     counts: &mut [usize],
     lines: &mut [usize],
-) -> Judged
-    requires roomy { (Roomy room size.vertices (length res.old))
-        × (Roomy room size.vertices (length claimed.old))
-        × (Roomy room size.vertices (length lines.old)) }
-    requires roomy_2 { (Roomy room size.vertices (length labels.old))
-        × (Roomy room size.vertices (length next.old))
-        × (Roomy room size.vertices (length counts.old)) }
+) -> Result<Verdict, Refusal>
+    requires roomy { (Roomy room g.size.vertices (length res.old))
+        × (Roomy room g.size.vertices (length claimed.old))
+        × (Roomy room g.size.vertices (length lines.old)) }
+    requires roomy_2 { (Roomy room g.size.vertices (length labels.old))
+        × (Roomy room g.size.vertices (length next.old))
+        × (Roomy room g.size.vertices (length counts.old)) }
     ensures lines_after { numbers (says result) res.new claimed.new lines.new
         ≡ cdlp_verdict room most
-        (lent size ids.now out_offsets.now out_targets.now
-        in_offsets.now in_sources.now)
+        (standing g.entry)
         iterations claim.now res.old claimed.old lines.old }
     ensures labels_after { (labels.new ≡ cleared labels.old)
         × (next.new ≡ cleared next.old)
         × (counts.new ≡ cleared counts.old) }
 {
     let answer = cdlp(
-        size,
-        ids,
-        out_offsets,
-        out_targets,
-        in_offsets,
-        in_sources,
+        g,
         iterations,
         res,
         labels,
@@ -170,8 +138,8 @@ pub(crate) fn on_cdlp(
         room,
         Rule::Exact,
         most,
-        size.vertices,
-        ids,
+        g.size.vertices,
+        g.ids,
         claim,
         res,
         claimed,
@@ -183,36 +151,25 @@ pub(crate) fn on_cdlp(
 pub(crate) fn on_lcc(
     room: bool,
     most: usize,
-    size: Size,
-    ids: &[i64],
-    out_offsets: &[usize],
-    out_targets: &[usize],
-    in_offsets: &[usize],
-    in_sources: &[usize],
+    g: Lent,
     claim: &[u8],
     numerators: &mut [usize],
     denominators: &mut [usize],
     work: &mut [usize],
     lines: &mut [usize],
-) -> Judged
-    requires roomy { (Roomy room size.vertices (length numerators.old))
-        × (Roomy room size.vertices (length denominators.old))
-        × (Roomy room size.vertices (length lines.old)) }
-    requires roomy_2 { Roomy room size.vertices (length work.old) }
+) -> Result<Verdict, Refusal>
+    requires roomy { (Roomy room g.size.vertices (length numerators.old))
+        × (Roomy room g.size.vertices (length denominators.old))
+        × (Roomy room g.size.vertices (length lines.old)) }
+    requires roomy_2 { Roomy room g.size.vertices (length work.old) }
     ensures lines_after { terms (says result) numerators.new denominators.new lines.new
         ≡ lcc_verdict room most
-        (lent size ids.now out_offsets.now out_targets.now
-        in_offsets.now in_sources.now)
+        (standing g.entry)
         claim.now numerators.old denominators.old lines.old }
     ensures work_after { work.new ≡ cleared work.old }
 {
     let answer = lcc(
-        size,
-        ids,
-        out_offsets,
-        out_targets,
-        in_offsets,
-        in_sources,
+        g,
         numerators,
         denominators,
         work,
@@ -221,8 +178,8 @@ pub(crate) fn on_lcc(
         answer,
         room,
         most,
-        size.vertices,
-        ids,
+        g.size.vertices,
+        g.ids,
         claim,
         numerators,
         denominators,

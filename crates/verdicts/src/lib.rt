@@ -5,4 +5,4 @@ pub mod claims;
 pub mod each;
 pub mod verdict;
 
-pub use matching::Judged;
+pub use matching::Verdict;

@@ -1,17 +1,16 @@
 // The verdict on a lent graph: 12, then as its kernel does, then the claim.
 ghost use Rattle.std.specs.Prelude.{◌≡◌, ◌&&◌, leb};
-ghost use Rattle.graph.specs.Sound.{lent};
+ghost use Rattle.graph.specs.Sound.{standing};
 ghost use Rattle.matching.specs.Verdict.{says};
 ghost use Rattle.verdicts.specs.Call.{most_lines, outcome, unknown_call, verdict_call};
 
 use crate::each::{on_bfs, on_cdlp, on_lcc, on_wcc};
 use basis::Refusal;
-use basis::area::{clear, clear_signed};
-use basis::order::lesser;
+use basis::area::clear;
 use basis::refusal::UNKNOWN_NUMBER;
-use graph::Size;
-use kernels::{BFS, CDLP, LCC, WCC};
-use matching::Judged;
+use graph::Lent;
+use kernels::Kernel;
+use matching::Verdict;
 
 // How many lines a claim may have.
 pub const MOST_LINES: usize = 65536;
@@ -28,8 +27,7 @@ fn has_room(
 ) -> bool
     ensures { result ≡ (leb n res && (leb n claimed && (leb n first && (leb n second && (leb n third && leb n lines))))) }
 {
-    let work = lesser(first, lesser(second, lesser(third, lines)));
-    n <= lesser(res, lesser(claimed, work))
+    n <= res && n <= claimed && n <= first && n <= second && n <= third && n <= lines
 }
 
 // The refusal of an unknown kernel number: all areas are zero.
@@ -40,20 +38,20 @@ fn refuse_unknown(
     second: &mut [usize],
     third: &mut [usize],
     lines: &mut [usize],
-) -> Judged
+) -> Result<Verdict, Refusal>
     ensures { outcome (says result) res.new claimed.new first.new second.new third.new
         lines.new
         ≡ unknown_call
         res.old claimed.old first.old second.old third.old
         lines.old }
 {
-    clear_signed(res);
-    clear_signed(claimed);
+    clear(res);
+    clear(claimed);
     clear(first);
     clear(second);
     clear(third);
     clear(lines);
-    Judged::Refused(Refusal::plain(UNKNOWN_NUMBER))
+    Err(Refusal::plain(UNKNOWN_NUMBER))
 }
 
 // The verdict on a claim of at most so many lines. Each area serves its kernel: BFS, WCC and CDLP leave their values in `result`, which
@@ -61,12 +59,7 @@ fn refuse_unknown(
 // next labels and counts; LCC leaves its fractions in `first` and `second` and works in `third`. `lines` maps the vertices to their lines.
 pub fn verdict_within(
     most: usize,
-    size: Size,
-    ids: &[i64],
-    out_offsets: &[usize],
-    out_targets: &[usize],
-    in_offsets: &[usize],
-    in_sources: &[usize],
+    g: Lent,
     kernel: usize,
     parameter: i64,
     claim: &[u8],
@@ -76,18 +69,17 @@ pub fn verdict_within(
     second: &mut [usize],
     third: &mut [usize],
     lines: &mut [usize],
-) -> Judged
+) -> Result<Verdict, Refusal>
     ensures { outcome (says result) res.new claimed.new first.new second.new third.new
         lines.new
         ≡ verdict_call most
-        (lent size ids.now out_offsets.now out_targets.now
-        in_offsets.now in_sources.now)
+        (standing g.entry)
         kernel parameter claim.now
         res.old claimed.old first.old second.old third.old
         lines.old }
 {
     let room = has_room(
-        size.vertices,
+        g.size.vertices,
         res.len(),
         claimed.len(),
         first.len(),
@@ -95,95 +87,33 @@ pub fn verdict_within(
         third.len(),
         lines.len(),
     );
-    if kernel == BFS {
-        clear(second);
-        clear(third);
-        return on_bfs(
-            room,
-            most,
-            size,
-            ids,
-            out_offsets,
-            out_targets,
-            in_offsets,
-            in_sources,
-            parameter,
-            claim,
-            res,
-            claimed,
-            first,
-            lines,
-        );
+    match Kernel::try_from(kernel) {
+        Ok(Kernel::Bfs) => {
+            clear(second);
+            clear(third);
+            on_bfs(room, most, g, parameter, claim, res, claimed, first, lines)
+        }
+        Ok(Kernel::Wcc) => {
+            clear(second);
+            clear(third);
+            on_wcc(room, most, g, claim, res, claimed, first, lines)
+        }
+        Ok(Kernel::Cdlp) => on_cdlp(
+            room, most, g, parameter, claim, res, claimed, first, second, third, lines,
+        ),
+        Ok(Kernel::Lcc) => {
+            clear(res);
+            clear(claimed);
+            on_lcc(room, most, g, claim, first, second, third, lines)
+        }
+        Ok(Kernel::Sssp) => refuse_unknown(res, claimed, first, second, third, lines),
+        Err(_) => refuse_unknown(res, claimed, first, second, third, lines),
     }
-    if kernel == WCC {
-        clear(second);
-        clear(third);
-        return on_wcc(
-            room,
-            most,
-            size,
-            ids,
-            out_offsets,
-            out_targets,
-            in_offsets,
-            in_sources,
-            claim,
-            res,
-            claimed,
-            first,
-            lines,
-        );
-    }
-    if kernel == CDLP {
-        return on_cdlp(
-            room,
-            most,
-            size,
-            ids,
-            out_offsets,
-            out_targets,
-            in_offsets,
-            in_sources,
-            parameter,
-            claim,
-            res,
-            claimed,
-            first,
-            second,
-            third,
-            lines,
-        );
-    }
-    if kernel == LCC {
-        clear_signed(res);
-        clear_signed(claimed);
-        return on_lcc(
-            room,
-            most,
-            size,
-            ids,
-            out_offsets,
-            out_targets,
-            in_offsets,
-            in_sources,
-            claim,
-            first,
-            second,
-            third,
-            lines,
-        );
-    }
-    refuse_unknown(res, claimed, first, second, third, lines)
 }
 
 // The verdict at the library's limit of lines.
 pub fn verdict(
-    size: Size,
-    ids: &[i64],
-    out_offsets: &[usize],
-    out_targets: &[usize],
-    in_offsets: &[usize],
-    in_sources: &[usize],
+    g: Lent,
     kernel: usize,
     parameter: i64,
     claim: &[u8],
@@ -193,32 +123,16 @@ pub fn verdict(
     second: &mut [usize],
     third: &mut [usize],
     lines: &mut [usize],
-) -> Judged
+) -> Result<Verdict, Refusal>
     ensures { outcome (says result) res.new claimed.new first.new second.new third.new
         lines.new
         ≡ verdict_call most_lines
-        (lent size ids.now out_offsets.now out_targets.now
-        in_offsets.now in_sources.now)
+        (standing g.entry)
         kernel parameter claim.now
         res.old claimed.old first.old second.old third.old
         lines.old }
 {
     verdict_within(
-        MOST_LINES,
-        size,
-        ids,
-        out_offsets,
-        out_targets,
-        in_offsets,
-        in_sources,
-        kernel,
-        parameter,
-        claim,
-        res,
-        claimed,
-        first,
-        second,
-        third,
-        lines,
+        MOST_LINES, g, kernel, parameter, claim, res, claimed, first, second, third, lines,
     )
 }
