@@ -22,12 +22,15 @@ use Rattle.cdlp.proofs.Lists.{labels-low, labels_append, labels_length, labels-s
 use Rattle.cdlp.proofs.Labels.{Chosen, next-chosen, chosen-one}
 
 -- a vertex of a part has a label, and its label a count, where the counts are as many as before
-pub vertex_low : {part L C : List ℕ} → Labelled part L C → (i : ℕ) → i < length part → get_or part i 0 < length L
-vertex_low {part = part} {L = L} h i q = below_at (length L) part h.low_part i q
+pub vertex-low : {part L C : List ℕ} → Labelled part L C → (i : ℕ) → i < length part → get_or part i 0 < length L
+vertex-low {part = part} {L = L} h i q = below_at (length L) part h.low_part i q
 
-pub label_low : {part L C : List ℕ} → Labelled part L C → (D : List ℕ) → length D ≡ length C → (i : ℕ) → i < length part
+pub label-low : {part L C : List ℕ} → Labelled part L C → (D : List ℕ) → length D ≡ length C → (i : ℕ) → i < length part
     → get_or L (get_or part i 0) 0 < length D
-label_low {part = part} {L = L} {C = C} h D e i q = rw e (below_at (length C) L h.low_labels (get_or part i 0) (vertex_low h i q))
+label-low {part = part} {L = L} {C = C} h D e i q = rw e (below_at (length C) L h.low_labels (get_or part i 0) (vertex-low h i q))
+
+-- the two together, for the loops that hear and forget
+pub ruleset lows = (vertex-low, label-low)
 
 -- one label more is heard
 pub hear-more : (L part : List ℕ) (i : ℕ) (C : List ℕ) (b r : Best) (whole : Poll) → i < length part

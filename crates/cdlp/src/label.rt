@@ -24,7 +24,7 @@ fn lead(b: Best, label: usize, count: usize) -> Best
 }
 
 // The labels of a part are heard, in order.
-#[tactic(auto, using(crate::proofs::Polls::vertex_low, crate::proofs::Polls::label_low))]
+#[tactic(auto, using(crate::proofs::Polls::lows))]
 fn hear(part: &[usize], labels: &[usize], counts: &mut [usize], start: Best) -> Best
     requires { Heard part.now labels.now counts.old }
     ensures { poll counts.new result
@@ -41,7 +41,7 @@ fn hear(part: &[usize], labels: &[usize], counts: &mut [usize], start: Best) -> 
 }
 
 // The counts of a part's labels go back to zero.
-#[tactic(auto, using(crate::proofs::Polls::vertex_low, crate::proofs::Polls::label_low))]
+#[tactic(auto, using(crate::proofs::Polls::lows))]
 fn forget(part: &[usize], labels: &[usize], counts: &mut [usize])
     requires { Labelled part.now labels.now counts.old }
     ensures { counts.new ≡ forgotten (labels_at 0 labels.now part.now) counts.old }
