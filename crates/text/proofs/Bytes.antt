@@ -1,14 +1,18 @@
 -- Laws of single bytes: of a range, at a place, and of the first byte c of a list. Assumes nothing.
-use Prim.Native.Nat.{ℕ, suc, ◌+◌, ◌≤◌, ◌<◌}
+use Prim.Native.Nat.{ℕ, suc, ◌+◌, ◌-◌, ◌≤◌, ◌<◌}
 use mathlib.Core.Path.{◌≡◌, refl, sym, ap, ◌∙◌}
 use mathlib.Core.List.{List, [], ◌∷◌, ◌++◌}
 use mathlib.Core.Bool.{Bool, true, false, ◌||◌}
 use native.Mathlib.Omega.{arith}
-use native.Mathlib.Numerals.{add-one}
-use borrow.Author.Tests.{le-leb, lt-leb, leb-true, lt-ltb, le-ltb, ltb-true, eq-eqb, ne_eqb, eqb-true}
+use borrow.Author.Tests.{le-leb, lt-leb, leb-true, lt-ltb, le-ltb, ltb-true, ltb-false, eq-eqb, ne_eqb, eqb-true}
 use lib.Dec.{leb, ltb, eqb}
-use lib.ListN.{length, get_or, take, drop, drop_of_length-le, get_or-eq_default}
-use lib.Seq.{drop-cons, drop-drop, drop-append-add}
+use lib.ListN.{length, get_or, take, drop, length-drop, get_or-eq_default}
+use lib.Seq.{drop-drop, drop-append-add, take_all}
+use Rattle.std.specs.Prelude.{Option, None, Some, is_some}
+use Rattle.std.specs.Option.{unwrap_or, option_map, option_eq}
+use Rattle.std.specs.Char.{is_ascii_digit}
+use Rattle.std.specs.List.{position, position_or_len}
+use Rattle.std.proofs.Common.{Bor}
 use Rattle.basis.specs.Scan.{mem}
 use Rattle.basis.proofs.Tests.{clash, bool_cases, and_first, and_second, and_both, and-off, or-first, or-second, eqb_swap}
 use Rattle.text.specs.Word.{within, is_digit}
@@ -19,6 +23,11 @@ use Rattle.text.specs.Scan.{has_at}
 pub within-yes : {lo hi b : ℕ} → lo ≤ b → b ≤ hi → within lo hi b ≡ true
 unfolding within
 within-yes {lo} {hi} {b} h k = and_both (le-leb lo b h) (le-leb b hi k)
+
+-- as the library tests one
+pub digit-is : (b : ℕ) → is_ascii_digit b ≡ is_digit b
+unfolding within
+digit-is b = refl
 
 pub within_low : {lo b : ℕ} (hi : ℕ) → b < lo → within lo hi b ≡ false
 unfolding within
@@ -61,6 +70,13 @@ has-below s p c q = ltb-true p (length s) (and_first (ltb p (length s)) (eqb (ge
 pub has-is : (s : List ℕ) (p c : ℕ) → has_at s p c ≡ true → get_or s p 0 ≡ c
 unfolding has_at
 has-is s p c q = eqb-true (get_or s p 0) c (and_second (ltb p (length s)) (eqb (get_or s p 0) c) q)
+
+-- a byte above 0 stands within the file
+pub has-here : (s : List ℕ) (p c : ℕ) → get_or s p 0 ≡ suc c → has_at s p (suc c) ≡ true
+unfolding has_at
+has-here s p c e =
+    bool_cases (ltb p (length s)) _ (λ t. rw (t, eq-eqb (get_or s p 0) (suc c) e))
+    (λ t. absurd (omega (arith, e, get_or-eq_default s 0 (ltb-false p (length s) t))))
 
 pub has_no : (s : List ℕ) (p c : ℕ) → (get_or s p 0 ≡ c → ⊥) → has_at s p c ≡ false
 unfolding has_at
@@ -178,24 +194,28 @@ drop_past s a b at d e =
     let q : at + length a + 1 ≡ at + (length a + 1) = omega arith in
     ap (λ (k : ℕ). drop k s) q ∙ sym (drop-drop (length a + 1) at s) ∙ ap (drop (length a + 1)) e ∙ drop-append-add a (d ∷ b) 1
 
--- ---- the scan for the first c from a place on, which stands at t
-module _ (c : ℕ) (s : List ℕ) (i t : ℕ) (inv : i + length (up_to c (drop i s)) ≡ t) where
-  pub end-out : length s ≤ i → i ≡ t
-  end-out h = omega (arith, ap (λ (l : List ℕ). length (up_to c l)) (drop_of_length-le s h))
+-- ---- the library's place of the first c, and its byte at a place
+first-up_to : (c : ℕ) (l : List ℕ) → position_or_len (λ b. eqb b c) l ≡ length (up_to c l)
+first-up_to c [] = refl
+first-up_to c (b ∷ l) =
+    bool_cases (eqb c b) _ (λ e. rw (up_to-stop c b l e, eqb_swap b c, e))
+    (λ e. rw (up_to-more c b l e, eqb_swap b c, e, first-up_to c l) (omega arith))
 
-  pub end-here : i < length s → get_or s i 0 ≡ c → i ≡ t
-  end-here h e =
-      omega (
-        arith,
-        ap (λ (l : List ℕ). length (up_to c l)) (drop-cons s i 0 h)
-            ∙ ap length (up_to-stop c (get_or s i 0) (drop (suc i) s) (eq-eqb c (get_or s i 0) (sym e))),
-      )
+pub end-first : (c : ℕ) (s rest : List ℕ) (from : ℕ) (o : Option ℕ) (n : ℕ) → rest ≡ take (length s - from) (drop from s)
+    → o ≡ position (λ b. eqb b c) rest → n ≡ unwrap_or o (length rest) → from + n ≡ from + length (up_to c (drop from s))
+end-first c s rest from o n e f g =
+    let d : rest ≡ drop from s = e ∙ take_all (length s - from) (drop from s) (omega (arith, length-drop from s)) in
+    let q : n ≡ position_or_len (λ b. eqb b c) rest = g ∙ ap (λ (k : Option ℕ). unwrap_or k (length rest)) f ∙ by in
+    omega (arith, q ∙ first-up_to c rest ∙ ap (λ (l : List ℕ). length (up_to c l)) d)
+  where
+    by : unwrap_or (position (λ b. eqb b c) rest) (length rest) ≡ position_or_len (λ b. eqb b c) rest
+    by =
+        bool_cases (ltb (position_or_len (λ b. eqb b c) rest) (length rest)) _ (λ t. rw t)
+        (λ t. rw t (omega (arith, ltb-false (position_or_len (λ b. eqb b c) rest) (length rest) t, first-up_to c rest, up_to-le c rest)))
 
-  pub end_on : i < length s → (get_or s i 0 ≡ c → ⊥) → (i + 1) + length (up_to c (drop (i + 1) s)) ≡ t
-  end_on h e =
-      let d : drop i s ≡ get_or s i 0 ∷ drop (i + 1) s = rw add-one (drop-cons s i 0 h) in
-      omega (
-        arith,
-        ap (λ (l : List ℕ). length (up_to c l)) d
-            ∙ ap length (up_to-more c (get_or s i 0) (drop (i + 1) s) (ne_eqb c (get_or s i 0) (λ q. e (sym q)))),
-      )
+pub has-get : (s : List ℕ) (at : ℕ) (o : Option (Bor ℕ)) (p : Bor ℕ) → is_some o ≡ ltb at (length s)
+    → ((d : ℕ) → unwrap_or (option_map (λ x. x.now) o) d ≡ get_or s at d)
+    → option_eq (λ x y. eqb x.now y.now) o (Some p) ≡ has_at s at p.now
+unfolding has_at
+has-get s at None p k h = rw (← k)
+has-get s at (Some x) p k h = rw (← k, ← h 0)

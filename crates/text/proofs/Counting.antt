@@ -75,6 +75,3 @@ module _ (s : List ℕ) (at : ℕ) (l : length s * 1 < 2 ^ 63) where
 
   pub coefficient-behind : at < length s → (x : Scanned (ℤ × Decimal)) → x ≡ two_at rest_at s at → Behind at x.next
   coefficient-behind h x e = scanned-behind rest_at rest-behind h x e
-
-pub bad-behind : {A : Type 0} (at : ℕ) (x : Scanned A) → Behind at x.next → (p : ℕ) → x.next ≡ p → Behind at p
-bad-behind at x b p q = subst (Behind at) q b

@@ -12,45 +12,21 @@ use lib.ListN.{length, get_or, drop, length-drop, get_or-eq_default}
 use lib.Pow.{pow-add}
 use Rattle.basis.proofs.Tests.{clash, false_of, bool_cases, and_first, and_second, and-off, failed, held}
 use Rattle.text.specs.Word.{malformed, is_digit, with_digit, run_len, run_val}
-use Rattle.text.specs.Decimal.{digit_limit, decimal, digit_of, up, down, wrong, past_point}
+use Rattle.text.specs.Decimal.{digit_limit, digit_of, up, down, wrong, past_point}
 use Rattle.text.specs.Decimal.{whole_is_good, signed_power, power_at, parts_of, fraction_of, decimal_of}
-use Rattle.text.specs.Stop.{
-  is_sign,
-  digits_stop,
-  digits_power,
-  power_stop,
-  parts_stop,
-  fraction_stop,
-  decimal_stop,
-  power_word,
-  scaled_by,
-}
-use Rattle.text.specs.Scan.{scanned, cut_number, run_at, decimal_says}
+use Rattle.text.specs.Stop.{is_sign, digits_stop, digits_power, power_stop, parts_stop, fraction_stop, decimal_stop, power_word}
+use Rattle.text.specs.Scan.{has_at, scanned, cut_number, run_at, decimal_says}
 use Rattle.text.specs.declared.count.Scan.{Scan}
 use Rattle.text.specs.declared.decimal.Decimal.{Decimal}
 use Rattle.std.specs.Prelude.{Result, Ok, Err}
 use Rattle.text.specs.declared.decimal.Power.{Power}
 use Rattle.text.specs.declared.decimal.Power.TheVariants as P
-use Rattle.text.proofs.Bytes.{within-yes, within_low, within-high, within-is}
+use Rattle.text.proofs.Bytes.{within-yes, within-is, has-here, has-is}
 use Rattle.text.proofs.Runs.{val-digit, val-stop, len-digit, len-stop, len-le, cap-run}
 
 -- ---- a digit
-pub digit-below : (b : ℕ) → b < 48 → false ≡ is_digit b
-digit-below b h = sym (within_low 57 h)
-
-pub digit-above : (b : ℕ) → 57 < b → false ≡ is_digit b
-digit-above b h = sym (within-high 48 h)
-
 pub digit-yes : (b : ℕ) → 48 ≤ b → b ≤ 57 → true ≡ is_digit b
 digit-yes b h k = sym (within-yes h k)
-
-pub worth-below : (b : ℕ) → b < 48 → 0 ≡ digit_of b
-unfolding digit_of
-worth-below b h = rw (← digit-below b h)
-
-pub worth-above : (b : ℕ) → 57 < b → 0 ≡ digit_of b
-unfolding digit_of
-worth-above b h = rw (← digit-above b h)
 
 pub worth-yes : (b : ℕ) → 48 ≤ b → b ≤ 57 → b - 48 ≡ digit_of b
 unfolding digit_of
@@ -66,16 +42,16 @@ digit-small b = by (is_digit b) refl
 
 -- ---- the point, the digits before it, the power after it
 module _ (s : List ℕ) (at : ℕ) where
-  pub point-yes : get_or s at 0 ≡ 46 → at + 1 ≡ past_point s at
+  pub point-yes : has_at s at 46 ≡ true → at + 1 ≡ past_point s at
   unfolding past_point
-  point-yes e = rw (eq-eqb (get_or s at 0) 46 e)
+  point-yes e = rw (eq-eqb (get_or s at 0) 46 (has-is s at 46 e))
 
   pub point-no : (get_or s at 0 ≡ 46 → ⊥) → at ≡ past_point s at
   unfolding past_point
   point-no e = rw (ne_eqb (get_or s at 0) 46 e)
 
-  pub point-past : length s ≤ at → at ≡ past_point s at
-  point-past h = point-no (λ e. omega (arith, get_or-eq_default s 0 h))
+  pub no-point : has_at s at 46 ≡ false → at ≡ past_point s at
+  no-point e = point-no (λ q. clash (has-here s at 45 q) e)
 
 pub whole-one : (s : List ℕ) (w : ℕ) → w ≡ 1 → true ≡ whole_is_good s w
 unfolding whole_is_good
@@ -93,10 +69,6 @@ module _ (s : List ℕ) (w : ℕ) (n : w ≡ 1 → ⊥) where
   pub whole-more : 2 ≤ w → 48 < get_or s 0 0 → true ≡ whole_is_good s w
   unfolding whole_is_good
   whole-more h k = rw (ne_eqb w 1 n, lt-ltb 1 w h, lt-ltb 48 (get_or s 0 0) k)
-
-pub sign-plus : (b : ℕ) → b ≡ 43 → true ≡ is_sign b
-unfolding is_sign
-sign-plus b e = rw (eq-eqb b 43 e)
 
 pub sign-other : (b : ℕ) → (b ≡ 43 → ⊥) → eqb b 45 ≡ is_sign b
 unfolding is_sign
@@ -181,14 +153,6 @@ module _ (s : List ℕ) (at : ℕ) where
           let three : at + 2 + 1 ≡ at + 3 = omega arith in
           let four : at + 2 + 2 ≡ at + 4 = omega arith in
           rw (ne_eqb (length s) at n, ← B, eq-eqb b 101 k, ← G, held t (is_sign g) T q, ← three, ← four) h
-
--- ---- a number with its power
-module _ (n f k : ℕ) (p : Power) where
-  pub scaled-up : p ≡ P.Up k → decimal n k f ≡ scaled_by n f p
-  scaled-up e = rw e
-
-  pub scaled-down : p ≡ P.Down k → decimal n 0 (f + k) ≡ scaled_by n f p
-  scaled-down e = rw e
 
 -- ---- the parts of a decimal
 module _ (s : List ℕ) (w p f n : ℕ) where

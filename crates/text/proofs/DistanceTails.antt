@@ -1,5 +1,5 @@
 -- A distance up to the end of its line, and the line: one law for each way the code leaves. Assumes nothing.
-use Prim.Native.Nat.{ℕ, suc, ◌+◌, ◌*◌, ◌^◌, ◌≤◌, ◌<◌}
+use Prim.Native.Nat.{ℕ, suc, ◌+◌, ◌*◌, ◌^◌, ◌≤◌, ◌<◌, max}
 use mathlib.Core.Path.{◌≡◌, refl, sym, ap, ◌∙◌}
 use mathlib.Core.List.{List, ◌∷◌, ◌++◌}
 use mathlib.Core.Bool.{Bool, true, false, cond}
@@ -43,26 +43,42 @@ shared_has s p b w =
     (λ e. let h : length s ≤ p = ltb-false p (length s) e in
     rw (← has-past s p b h, drop_of_length-le s h))
 
-module _ (s w : List ℕ) (p i x : ℕ) (inv : i + shared_front (drop i w) (drop p s) ≡ x) where
-  shared_step : i < length w → i + cond (has_at s p (get_or w i 0)) (suc (shared_front (drop (i + 1) w) (drop (p + 1) s))) 0 ≡ x
-  shared_step h =
-      ap (λ (n : ℕ). i + n)
-      (sym (shared_has s p (get_or w i 0) (drop (i + 1) w)) ∙ ap (λ l. shared_front l (drop p s)) (rw add-one (sym (drop-cons w i 0 h))))
-      ∙ inv
+-- what it keeps: so many bytes stand in order, and the place is within the file
+pub record Sharing (s w : List ℕ) (at i : ℕ) : Type 0 where
+  pub same : i + shared_front (drop i w) (drop (at + i) s) ≡ shared_front w (drop at s)
+  pub inside : at + i ≤ max at (length s)
 
-  pub shared-not : (t : Bool) → i < length w → t ≡ has_at s p (get_or w i 0) → t ≡ false → i ≡ x
-  shared-not t h e n = let z = rw (failed t _ e n) at (shared_step h) in omega (arith, z)
+pub sharing-start : (s w : List ℕ) (at : ℕ) → Sharing s w at 0
+sharing-start s w at = record { same = let q : at + 0 ≡ at = omega arith in omega (arith, ap (λ (k : ℕ). shared_front w (drop k s)) q); inside = omega arith }
 
-  pub shared-more : (t : Bool) → i < length w → t ≡ has_at s p (get_or w i 0) → t ≡ true
-      → (i + 1) + shared_front (drop (i + 1) w) (drop (p + 1) s) ≡ x
-  shared-more t h e n = let z = rw (held t _ e n) at (shared_step h) in omega (arith, z)
+module _ (s w : List ℕ) (at i : ℕ) (r : Sharing s w at i) where
+  pub sharing-fits : length s * 1 < 2 ^ 63 → at < 2 ^ 64 → at + i < 2 ^ 64
+  sharing-fits h k = omega (arith, r.inside)
 
-  pub shared-end : length w ≤ i → i ≡ x
+  pub sharing-end : length w ≤ i → i ≤ length w → length w ≡ shared_front w (drop at s)
   unfolding shared_front
-  shared-end h = let z = rw (drop_of_length-le w h) at inv in omega (arith, z)
+  sharing-end h k = let z = rw (drop_of_length-le w h) at r.same in omega (arith, z)
 
-pub shared-in : (s : List ℕ) (p b : ℕ) (t : Bool) → t ≡ has_at s p b → t ≡ true → p < length s
-shared-in s p b t e n = has-below s p b (held t _ e n)
+  module _ (t : Bool) (h : i < length w) (e : t ≡ has_at s (at + i) (get_or w i 0)) where
+    shared_step : i + cond (has_at s (at + i) (get_or w i 0)) (suc (shared_front (drop (i + 1) w) (drop (at + i + 1) s))) 0
+        ≡ shared_front w (drop at s)
+    shared_step =
+        ap (λ (n : ℕ). i + n)
+        (sym (shared_has s (at + i) (get_or w i 0) (drop (i + 1) w))
+        ∙ ap (λ l. shared_front l (drop (at + i) s)) (rw add-one (sym (drop-cons w i 0 h))))
+        ∙ r.same
+
+    pub shared-not : t ≡ false → i ≡ shared_front w (drop at s)
+    shared-not n = let z = rw (failed t _ e n) at shared_step in omega (arith, z)
+
+    pub sharing-more : t ≡ true → Sharing s w at (i + 1)
+    sharing-more n =
+        let z = rw (held t _ e n) at shared_step in
+        let q : at + i + 1 ≡ at + (i + 1) = omega arith in
+        record {
+          same = omega (arith, z, ap (λ (k : ℕ). shared_front (drop (i + 1) w) (drop k s)) q);
+          inside = omega (arith, has-below s (at + i) (get_or w i 0) (held t _ e n));
+        }
 
 -- ---- the first byte of a line's rest, and what is scanned of it
 first-here : (s : List ℕ) (at : ℕ) → eqb (get_or (line_from s at) 0 0) infinity_mark ≡ has_at s at infinity_mark

@@ -16,7 +16,7 @@ use Rattle.text.specs.Bytes.{lf}
 use Rattle.text.specs.Word.{Word, malformed, outside, value, well_formed, ident_of}
 use Rattle.text.specs.Weight.{millionths_of, carried, weight_of}
 use Rattle.text.specs.Line.{LineSaid, line, none, fault, up_to, column_in, line_says, line_by, pair_form, edge_form, edge_line}
-use Rattle.text.specs.Weighed.{weight_form, unweighed, plain_form, edge_form_by, weighed_line, listed_line}
+use Rattle.text.specs.Weighed.{weight_form, unweighed, plain_form, edge_form_by, listed_line}
 use Rattle.text.specs.Weighed.{is_bad_form, has_weights}
 use Rattle.text.specs.declared.line.Cursor.{Cursor}
 use Rattle.text.specs.declared.line.Fault.{Fault}
@@ -77,9 +77,6 @@ plain-line s at = by (leb (length s) at) (mem lf (drop at s)) (edge_form.word (u
 
 -- the code's ways out
 module _ (s : List ℕ) (at : ℕ) (weighted : Bool) where
-  pub listed-weighed : weighted ≡ true → (x : LineSaid (ℤ × (ℤ × ℕ))) → x ≡ weighed_line s at → x ≡ listed_line weighted s at
-  listed-weighed h x e = rw h e
-
   module _ (h : weighted ≡ false) (k : Cursor) where
     listed-is : (x : LineSaid (ℤ × ℤ)) → x ≡ edge_line s at → weightless x ≡ listed_line weighted s at
     listed-is x e = rw h (ap weightless e ∙ sym (plain-line s at))

@@ -1,5 +1,7 @@
 -- Laws of a run of digits, and of a number that is cut down. Assumes nothing.
-use Prim.Native.Nat.{ℕ, suc, ◌+◌, ◌≤◌, ◌<◌}
+use Prim.Native.Nat.{ℕ, suc, ◌+◌, ◌≤◌, ◌<◌, max}
+use borrow.Author.Tests.{leb-true, leb-false}
+use lib.Dec.{leb}
 use mathlib.Core.Path.{◌≡◌, refl, sym, ap, ◌∙◌}
 use mathlib.Core.List.{List, [], ◌∷◌, ◌++◌, append-nil}
 use mathlib.Core.Bool.{Bool, true, false}
@@ -8,12 +10,12 @@ use native.Mathlib.Numerals.{add-one}
 use lib.ListN.{length, get_or, drop, drop_of_length-le}
 use lib.Seq.{drop-cons}
 use Rattle.basis.specs.Scan.{each}
-use Rattle.basis.proofs.Tests.{and_first, and_second}
+use Rattle.basis.proofs.Tests.{bool_cases, and_first, and_second}
 use Rattle.text.specs.Word.{within, is_digit, with_digit, run_len, run_val}
 use Rattle.text.specs.Grammar.{number_of}
 use Rattle.text.specs.Scan.{cut_number, run_at}
 use Rattle.text.specs.declared.count.Scan.{Scan}
-use Rattle.text.proofs.Bytes.{within-yes, within_low, within-high}
+use Rattle.text.proofs.Bytes.{within-yes}
 
 -- ---- one byte of a run
 pub val-digit : (n b : ℕ) (bs : List ℕ) → is_digit b ≡ true → run_val n (b ∷ bs) ≡ run_val (with_digit n b) bs
@@ -110,23 +112,22 @@ module _ (s : List ℕ) (from start : ℕ) where
       let ei : i ≡ from + run_len (drop from s) = omega arith in
       λ k. record { value = en k; next = ei k }
 
-  running-stop : (n i : ℕ) → Running s from start n i → i < length s → is_digit (get_or s i 0) ≡ false
+  -- at a byte that is no digit
+  pub running-stop : (n i : ℕ) → Running s from start n i → i < length s → is_digit (get_or s i 0) ≡ false
       → ◌≡◌ {A = Scan ℕ} (record { value = n; next = i }) (run_at s from start)
   running-stop n i r h e =
       let d : drop i s ≡ get_or s i 0 ∷ drop (suc i) s = drop-cons s i 0 h in
       running-end n i r (ap (run_val n) d ∙ val-stop n (get_or s i 0) (drop (suc i) s) e)
       (ap run_len d ∙ len-stop (get_or s i 0) (drop (suc i) s) e)
 
-  -- at a byte below the digits, above them, and at the end
-  pub running-low : (n i : ℕ) → Running s from start n i → i < length s → get_or s i 0 < 48
-      → ◌≡◌ {A = Scan ℕ} (record { value = n; next = i }) (run_at s from start)
-  running-low n i r h e = running-stop n i r h (within_low 57 e)
-
-  pub running-high : (n i : ℕ) → Running s from start n i → i < length s → 57 < get_or s i 0
-      → ◌≡◌ {A = Scan ℕ} (record { value = n; next = i }) (run_at s from start)
-  running-high n i r h e = running-stop n i r h (within-high 48 e)
-
-  pub running-out : (n i : ℕ) → Running s from start n i → length s ≤ i → ◌≡◌ {A = Scan ℕ} (record { value = n; next = i }) (run_at s from start)
-  running-out n i r h =
+  -- and at the end
+  pub running-out : (n i : ℕ) → Running s from start n i → length s ≤ i → (from ≤ length s → i ≤ length s) → (k : ℕ)
+      → k ≡ max from (length s)
+      → ◌≡◌ {A = Scan ℕ} (record { value = n; next = k }) (run_at s from start)
+  running-out n i r h b k e =
       let d : drop i s ≡ [] = drop_of_length-le s h in
-      running-end n i r (ap (run_val n) d) (ap run_len d)
+      let l : i ≡ from + run_len (drop from s) = omega (arith, r.len, ap run_len d) in
+      let q : k ≡ i =
+      bool_cases (leb from (length s)) _ (λ t. let m : i ≤ length s = b (leb-true from (length s) t) in omega (arith, leb-true from (length s) t))
+      (λ t. let m : length s < from = leb-false from (length s) t in let m2 : length s ≤ from = omega arith in omega (arith, l, ap run_len (drop_of_length-le s m2))) in
+      ap (λ (j : ℕ). record { value = n; next = j }) q ∙ running-end n i r (ap (run_val n) d) (ap run_len d)

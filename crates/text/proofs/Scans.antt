@@ -4,63 +4,39 @@ use mathlib.Core.Path.{◌≡◌, refl, ap, ◌∙◌}
 use mathlib.Core.List.{List}
 use mathlib.Core.Bool.{Bool, true, false}
 use native.Mathlib.Omega.{arith}
-use borrow.Author.Tests.{le-leb, lt-leb, leb-true, leb-false, eq-eqb}
+use borrow.Author.Tests.{lt-leb, leb-true, leb-false, eq-eqb, eqb-false}
 use lib.Dec.{leb}
 use lib.IntN.{ℤ}
 use lib.ListN.{length, get_or}
-use mir.Syntax.{w64}
-use mir.Val.{to_z}
-use mir.ValLaws.{to_z_pos}
-use Rattle.text.specs.Word.{Word, malformed, outside, value, well_formed, within, minus_of, ranged_of, signed_of}
+use Rattle.text.specs.Word.{Word, malformed, outside, value, well_formed, within, is_digit, ranged_of, signed_of}
 use Rattle.text.specs.Scan.{Scanned, scanned, has_at, cut_number, run_at, count_at, cut_word, saturated}
 use Rattle.text.specs.Scan.{count_says, ranged_at, signed_at, ident_at, closed, field_at, word_of, ranged_says, scan_says}
 use Rattle.text.specs.declared.count.Scan.{Scan}
 use Rattle.std.specs.Prelude.{Option, None, Some, Result, Ok, Err}
-use Rattle.text.proofs.Bytes.{within-yes, within_low, within-high, has-yes, has_no, nothing-past}
+use Rattle.text.proofs.Bytes.{within-yes, no-first, no_zero, has-yes, has_no, nothing-past}
 
 -- ---- a count
 module _ (s : List ℕ) (at : ℕ) where
-  count_none : (get_or s at 0 ≡ 48 → ⊥) → within 49 57 (get_or s at 0) ≡ false → scanned malformed at ≡ saturated (count_at s at)
+  pub count-none : is_digit (get_or s at 0) ≡ false → scanned malformed at ≡ saturated (count_at s at)
   unfolding count_at
-  count_none n e = rw (has_no s at 48 n, e)
+  count-none d = rw (has_no s at 48 (eqb-false (get_or s at 0) 48 (no_zero (get_or s at 0) d)), no-first (get_or s at 0) d)
 
   pub count_past : length s ≤ at → scanned malformed at ≡ saturated (count_at s at)
-  count_past h =
-      let e : get_or s at 0 ≡ 0 = nothing-past s at h in
-      count_none (λ q. omega arith) (rw e (within_low 57 (omega arith)))
+  unfolding within
+  count_past h = count-none (ap is_digit (nothing-past s at h))
 
   pub count-zero : at < length s → get_or s at 0 ≡ 48 → scanned (value 0) (at + 1) ≡ saturated (count_at s at)
   unfolding count_at
   count-zero l e = rw (← has-yes s at 48 l, eq-eqb (get_or s at 0) 48 e)
 
-  module _ (n : get_or s at 0 ≡ 48 → ⊥) where
-    pub count_low : get_or s at 0 < 49 → scanned malformed at ≡ saturated (count_at s at)
-    count_low h = count_none n (within_low 57 h)
-
-    pub count-high : 57 < get_or s at 0 → scanned malformed at ≡ saturated (count_at s at)
-    count-high h = count_none n (within-high 49 h)
-
-    pub count-run : (r : Scan ℕ) → 49 ≤ get_or s at 0 → get_or s at 0 ≤ 57 → r ≡ run_at s at 0
-        → scanned (value r.value) r.next ≡ saturated (count_at s at)
-    unfolding count_at run_at
-    count-run r h k e =
-        rw (has_no s at 48 n, within-yes {lo = 49} {hi = 57} {b = get_or s at 0} h k) (ap (λ (x : Scan ℕ). scanned (value x.value) x.next) e)
+  pub count-run : (get_or s at 0 ≡ 48 → ⊥) → (r : Scan ℕ) → 48 ≤ get_or s at 0 → get_or s at 0 ≤ 57 → r ≡ run_at s at 0
+      → scanned (value r.value) r.next ≡ saturated (count_at s at)
+  unfolding count_at run_at
+  count-run n r h k e =
+      rw (has_no s at 48 n, within-yes {lo = 49} {hi = 57} {b = get_or s at 0} (omega arith) k)
+      (ap (λ (x : Scan ℕ). scanned (value x.value) x.next) e)
 
 -- ---- a number by its sign and its range
-module _ (negative : Bool) (n next : ℕ) where
-  pub ranged-least : negative ≡ true → n ≤ 9223372036854775808 → (z : ℤ) → z ≡ minus_of n → scanned (value z) next
-      ≡ ranged_at negative n next
-  ranged-least e h z q = rw (e, q, le-leb n (2 ^ 63) h)
-
-  pub ranged_below : negative ≡ true → 9223372036854775808 < n → scanned outside next ≡ ranged_at negative n next
-  ranged_below e h = rw (e, lt-leb n (2 ^ 63) h)
-
-  pub ranged-most : negative ≡ false → n ≤ 9223372036854775807 → scanned (value (to_z w64 n)) next ≡ ranged_at negative n next
-  ranged-most e h = rw (e, le-leb n (2 ^ 63 - 1) h) (ap (λ (z : ℤ). scanned (value z) next) (to_z_pos w64 n (omega arith)))
-
-  pub ranged-above : negative ≡ false → 9223372036854775807 < n → scanned outside next ≡ ranged_at negative n next
-  ranged-above e h = rw (e, lt-leb n (2 ^ 63 - 1) h)
-
 -- the cut changes nothing of what the number means
 ranged-cut-by : (negative : Bool) (n : ℕ) (t : Bool) → leb n (2 ^ 63) ≡ t → ranged_of negative (cut_number n) ≡ ranged_of negative n
 ranged-cut-by negative n true e =

@@ -4,7 +4,7 @@ use mathlib.Core.Path.{◌≡◌, refl, sym, ap, ◌∙◌}
 use mathlib.Core.List.{List, [], ◌∷◌, append-nil}
 use mathlib.Core.Bool.{Bool, true, false, cond, ◌&&◌}
 use native.Mathlib.Omega.{arith}
-use native.Mathlib.Nat.{add-zero, mul-le-mul, pow-le-pow_right}
+use native.Mathlib.Nat.{add-zero, pow-le-pow_right}
 use native.Mathlib.Numerals.{add-one}
 use borrow.Author.Tests.{leb-true, ltb-true, ne_eqb, eqb-true}
 use lib.Dec.{leb, ltb, eqb}
@@ -28,50 +28,6 @@ use Rattle.text.proofs.Grammars.{digits-front, front-number}
 use Rattle.text.proofs.Words.{count_by}
 use Rattle.text.proofs.Idents.{count-short}
 use Rattle.text.proofs.Weights.{places_are, places-good, lt_of, count-said}
-
--- ---- what the last digit after the point is worth
-module _ (p : ℕ) where
-  worth-by : (k : ℕ) → 6 - p ≡ k → 10 ^ k ≡ 10 ^ (6 - p)
-  worth-by k e = ap (λ (n : ℕ). 10 ^ n) (sym e)
-
-  pub worth-six : 5 < p → 1 ≡ 10 ^ (6 - p)
-  worth-six h = worth-by 0 (omega arith)
-
-  pub worth-five : p ≤ 5 → 4 < p → 10 ≡ 10 ^ (6 - p)
-  worth-five h k = worth-by 1 (omega arith)
-
-  pub worth-four : p ≤ 4 → 3 < p → 100 ≡ 10 ^ (6 - p)
-  worth-four h k = worth-by 2 (omega arith)
-
-  pub worth-three : p ≤ 3 → 2 < p → 1000 ≡ 10 ^ (6 - p)
-  worth-three h k = worth-by 3 (omega arith)
-
-  pub worth-two : p ≤ 2 → 1 < p → 10000 ≡ 10 ^ (6 - p)
-  worth-two h k = worth-by 4 (omega arith)
-
-  pub worth-one : p ≤ 1 → 0 < p → 100000 ≡ 10 ^ (6 - p)
-  worth-one h k = worth-by 5 (omega arith)
-
-  pub worth-none : p ≤ 0 → 1000000 ≡ 10 ^ (6 - p)
-  worth-none h = worth-by 6 (omega arith)
-
-  worth-most : 10 ^ (6 - p) ≤ 1000000
-  worth-most = pow-le-pow_right {n = 10} (omega arith) {i = 6 - p} {j = 6} (omega arith)
-
-  -- the number of at most six digits, times that
-  pub worth-times : (f w : ℕ) → f ≤ 999999 → w ≡ 10 ^ (6 - p) → f * w ≤ 999999 * 1000000
-  worth-times f w h e = mul-le-mul h (let k : w ≤ 1000000 = omega (arith, worth-most) in k)
-
-  -- all millionths, above what is carried and not
-  module _ (n f w : ℕ) (e : w ≡ 10 ^ (6 - p)) where
-    all : min (n * 1000000 + f * w) 100000000001 ≡ min (with_fraction n f p) 100000000001
-    all = ap (λ (k : ℕ). min (n * 1000000 + f * k) 100000000001) e
-
-    pub millionths-above : 100000000001 < n * 1000000 + f * w → 100000000001 ≡ min (with_fraction n f p) 100000000001
-    millionths-above h = (let q : 100000000001 ≡ min (n * 1000000 + f * w) 100000000001 = omega arith in q) ∙ all
-
-    pub millionths-within : n * 1000000 + f * w ≤ 100000000001 → n * 1000000 + f * w ≡ min (with_fraction n f p) 100000000001
-    millionths-within h = (let q : n * 1000000 + f * w ≡ min (n * 1000000 + f * w) 100000000001 = omega arith in q) ∙ all
 
 -- ---- what stands behind the whole part
 places-are : (bs : List ℕ) → places_are bs ≡ true → (run_len bs ≡ length bs) × ((0 < length bs) × (length bs ≤ most_places))

@@ -1,5 +1,6 @@
 // A byte at a place, a run of digits, and a count.
-ghost use Rattle.std.specs.Prelude.{◌≡◌, ◌+◌, ◌≤◌, length, drop};
+ghost use Rattle.std.specs.Prelude.{◌≡◌, ◌+◌, ◌≤◌, length, drop, ◌==◌};
+ghost use Rattle.std.specs.List.{position};
 ghost use Rattle.text.specs.Word.{with_digit};
 ghost use Rattle.text.specs.Bytes.{lf, zero_digit, nine_digit};
 ghost use Rattle.text.specs.Line.{up_to};
@@ -40,28 +41,31 @@ pub struct Scan<T> {
 pub fn has(s: &[u8], at: usize, c: u8) -> bool
     ensures { result ≡ has_at s.now at c }
 {
-    if at < s.len() { s[at] == c } else { false }
+    s.get(at) == Some(&c)
+}
+
+// How far the first LF is, if there is one.
+fn first_lf(s: &[u8]) -> Option<usize>
+    ensures { result ≡ position (λ b. b == lf) s.now }
+{
+    s.iter().position(|b| *b == LF)
 }
 
 // The place of the first LF at or after a place, or the end.
 pub fn line_end(s: &[u8], from: usize) -> usize
     ensures { result ≡ from + length (up_to lf (drop from s.now)) }
 {
-    let mut i = from;
-    while i < s.len() {
-        if s[i] == LF {
-            return i;
-        }
-        i += 1;
+    match s.get(from..) {
+        Some(rest) => from + first_lf(rest).unwrap_or(rest.len()),
+        None => from,
     }
-    i
 }
 
 // A number as it is carried.
 fn cut(n: u64) -> u64
     ensures { result ≡ cut_number n }
 {
-    if CAP < n { CAP } else { n }
+    n.min(CAP)
 }
 
 // One digit more on a number that is cut down.
@@ -69,51 +73,36 @@ fn step(n: u64, b: u8) -> u64
     requires { (zero_digit ≤ b) × (b ≤ nine_digit) }
     ensures { result ≡ cut_number (with_digit n b) }
 {
-    if 922337203685477580 < n {
-        return CAP;
-    }
-    n * 10 + ((b - ZERO) as u64)
+    cut(n.saturating_mul(10).saturating_add((b - ZERO) as u64))
 }
 
 // The digits at a place, written after those of `start`.
 pub(crate) fn digits(s: &[u8], from: usize, start: u64) -> Scan<u64>
     ensures { result ≡ run_at s.now from start }
 {
-    let mut n = cut(start);
-    let mut i = from;
-    while i < s.len() {
-        let b = s[i];
-        if b < ZERO {
-            return Scan { value: n, next: i };
+    let mut value = cut(start);
+    for i in from..s.len() {
+        if !s[i].is_ascii_digit() {
+            return Scan { value, next: i };
         }
-        if NINE < b {
-            return Scan { value: n, next: i };
-        }
-        n = step(n, b);
-        i += 1;
+        value = step(value, s[i]);
     }
-    Scan { value: n, next: i }
+    Scan {
+        value,
+        next: from.max(s.len()),
+    }
 }
 
 // The count at a place, `0` or a digit 1 to 9 and more digits; or the place of the byte at which it breaks off.
 pub fn count(s: &[u8], at: usize) -> Result<Scan<u64>, usize>
     ensures { count_says result ≡ saturated (count_at s.now at) }
 {
-    if s.len() <= at {
-        return Err(at);
-    }
-    let b = s[at];
-    if b == ZERO {
-        return Ok(Scan {
+    match s.get(at) {
+        Some(&ZERO) => Ok(Scan {
             value: 0,
             next: at + 1,
-        });
+        }),
+        Some(b) if b.is_ascii_digit() => Ok(digits(s, at, 0)),
+        _ => Err(at),
     }
-    if b < ONE {
-        return Err(at);
-    }
-    if NINE < b {
-        return Err(at);
-    }
-    Ok(digits(s, at, 0))
 }

@@ -1,11 +1,10 @@
 // The decimal of a coefficient claim.
 ghost use Rattle.std.specs.Prelude.{◌≡◌, true, ◌+◌, ◌*◌, ◌≤◌, length, get_or};
-ghost use Rattle.text.specs.Word.{is_digit};
 ghost use Rattle.text.specs.Decimal.{digit_of, past_point, whole_is_good, power_at, parts_of, decimal_of};
 ghost use Rattle.text.specs.Stop.{is_sign, digits_stop, digits_power, power_stop, parts_stop, decimal_stop, power_word, scaled_by};
 ghost use Rattle.text.specs.Scan.{scanned, decimal_says};
 
-use crate::count::{MINUS, NINE, PLUS, ZERO, digits};
+use crate::count::{MINUS, PLUS, ZERO, digits, has};
 
 // What stands before the digits of a fraction.
 pub const POINT: u8 = 46;
@@ -35,82 +34,46 @@ enum Power {
 fn byte_at(s: &[u8], at: usize) -> u8
     ensures { result ≡ get_or s.now at 0 }
 {
-    if at < s.len() { s[at] } else { 0 }
-}
-
-// Whether a byte is a digit.
-fn is_digit(b: u8) -> bool
-    ensures { result ≡ is_digit b }
-{
-    if b < ZERO {
-        return false;
-    }
-    if NINE < b {
-        return false;
-    }
-    true
+    s.get(at).copied().unwrap_or(0)
 }
 
 // Whether a byte is a sign.
+#[tactic(auto, unfolding(crate::specs::Stop::is_sign))]
 fn is_sign(b: u8) -> bool
     ensures { result ≡ is_sign b }
 {
-    if b == PLUS {
-        return true;
-    }
-    b == MINUS
+    b == PLUS || b == MINUS
 }
 
 // What a digit is worth; 0 of any other byte.
+#[tactic(auto, unfolding(crate::specs::Decimal::digit_of, crate::specs::Word::within))]
 fn digit_of(b: u8) -> u8
     ensures { result ≡ digit_of b }
 {
-    if b < ZERO {
-        return 0;
-    }
-    if NINE < b {
-        return 0;
-    }
-    b - ZERO
+    if b.is_ascii_digit() { b - ZERO } else { 0 }
 }
 
 // Where the digits after the point start; `at` itself where there is no point.
 fn past_point(s: &[u8], at: usize) -> usize
     ensures { result ≡ past_point s.now at }
 {
-    if at < s.len() {
-        if s[at] == POINT {
-            return at + 1;
-        }
-    }
-    at
+    if has(s, at, POINT) { at + 1 } else { at }
 }
 
 // One digit, or more with no leading zero, before the point.
+#[tactic(auto, unfolding(crate::specs::Decimal::whole_is_good))]
 fn whole_is_good(s: &[u8], w: usize) -> bool
     requires { w ≤ length s.now }
     ensures { result ≡ whole_is_good s.now w }
 {
-    if w == 1 {
-        return true;
-    }
-    if w < 2 {
-        return false;
-    }
-    let b = s[0];
-    if b <= ZERO {
-        return false;
-    }
-    true
+    w == 1 || w > 1 && s[0] > ZERO
 }
 
 // What two digits are worth.
 fn two_digits(x: u8, y: u8) -> u8
     ensures { result ≡ digit_of x * 10 + digit_of y }
 {
-    let a = digit_of(x);
-    let b = digit_of(y);
-    a * 10 + b
+    digit_of(x) * 10 + digit_of(y)
 }
 
 // Two digits up to the end, after the sign g.
@@ -119,11 +82,11 @@ fn signed_power(s: &[u8], at: usize, g: u8) -> Result<Power, usize>
     ensures { result ≡ power_word (digits_power s.now at g) (digits_stop s.now at) }
 {
     let x = byte_at(s, at);
-    if !is_digit(x) {
+    if !x.is_ascii_digit() {
         return Err(at);
     }
     let y = byte_at(s, at + 1);
-    if !is_digit(y) {
+    if !y.is_ascii_digit() {
         return Err(at + 1);
     }
     if s.len() != at + 2 {

@@ -23,16 +23,12 @@ pub enum Distance {
 fn shared_front(s: &[u8], at: usize, word: &[u8]) -> usize
     ensures { result ≡ shared_front word.now (drop at s.now) }
 {
-    let mut p = at;
-    let mut i = 0;
-    while i < word.len() {
-        if !has(s, p, word[i]) {
+    for i in 0..word.len() {
+        if !has(s, at + i, word[i]) {
             return i;
         }
-        p += 1;
-        i += 1;
     }
-    i
+    word.len()
 }
 
 // `infinity` from a place to the end of its line, if its first letter stands there.

@@ -1,41 +1,19 @@
 // An identifier at a place, and one that a byte must follow.
-ghost use Rattle.std.specs.Prelude.{◌≡◌, ◌≤◌};
-ghost use Rattle.text.specs.Word.{minus_of};
+ghost use Rattle.std.specs.Prelude.{◌≡◌};
 ghost use Rattle.text.specs.Scan.{count_at, ranged_at, signed_at, ident_at, field_at, ranged_says, scan_says};
 
 use crate::count::{MINUS, Scan, ZERO, count, has};
-
-// The number -n.
-fn minus(n: u64) -> i64
-    requires { n ≤ 9223372036854775808 }
-    ensures { result ≡ minus_of n }
-{
-    if 9223372036854775807 < n {
-        return -9223372036854775808;
-    }
-    0 - (n as i64)
-}
 
 // A number with its sign, that ends before the place `next`; no value where it is outside the range of i64.
 fn ranged(n: u64, next: usize, negative: bool) -> Scan<Option<i64>>
     ensures { ranged_says result ≡ ranged_at negative n next }
 {
-    if negative {
-        if n <= 9223372036854775808 {
-            return Scan {
-                value: Some(minus(n)),
-                next,
-            };
-        }
-        return Scan { value: None, next };
-    }
-    if n <= 9223372036854775807 {
-        return Scan {
-            value: Some(n as i64),
-            next,
-        };
-    }
-    Scan { value: None, next }
+    let value = if negative {
+        0i64.checked_sub_unsigned(n)
+    } else {
+        i64::try_from(n).ok()
+    };
+    Scan { value, next }
 }
 
 // The count at a place with the sign before it.

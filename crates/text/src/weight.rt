@@ -21,25 +21,7 @@ const ABOVE: u64 = 100000000001;
 fn worth(places: usize) -> u64
     ensures { result ≡ 10 ^ (most_places - places) }
 {
-    if 5 < places {
-        return 1;
-    }
-    if 4 < places {
-        return 10;
-    }
-    if 3 < places {
-        return 100;
-    }
-    if 2 < places {
-        return 1000;
-    }
-    if 1 < places {
-        return 10000;
-    }
-    if 0 < places {
-        return 100000;
-    }
-    MILLION
+    10u64.pow(PLACES.saturating_sub(places) as u32)
 }
 
 // n wholes and the number f of so many digits after the point, in millionths as they are carried.
@@ -47,11 +29,9 @@ fn millionths(n: u64, f: u64, places: usize) -> u64
     requires { f ≤ 999999 }
     ensures { result ≡ min (with_fraction n f places) (most_weight + 1) }
 {
-    if 100000 < n {
-        return ABOVE;
-    }
-    let m = n * MILLION + f * worth(places);
-    if ABOVE < m { ABOVE } else { m }
+    n.saturating_mul(MILLION)
+        .saturating_add(f * worth(places))
+        .min(ABOVE)
 }
 
 // What stands from p on behind n wholes, up to the end: nothing, or a point and one to six digits.

@@ -1,8 +1,7 @@
-use Rattle.text.proofs.Bytes.{has-yes, has-past}
+use Rattle.text.proofs.Bytes.{has-get}
+use mathlib.Core.Path.{◌∙◌}
+use native.Mathlib.Omega.{arith}
 use Rattle.text.proofs.count.has.Goals as goal
 
-pub returns-then-at-s : goal.returns-then-at-s
-returns-then-at-s c = search has-yes
-
-pub returns-else-at-s : goal.returns-else-at-s
-returns-else-at-s c = search has-past
+pub returns : goal.returns
+returns c = let a = c.get.ensures.lookup in c.eq.ensures ∙ has-get _ _ _ _ a.0 (a.4 (omega arith))

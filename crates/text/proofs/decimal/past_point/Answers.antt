@@ -1,11 +1,14 @@
-use Rattle.text.proofs.Decimals.{point-yes, point-no, point-past}
+use native.Mathlib.Omega.{arith}
+use mathlib.Core.Path.{sym, ◌∙◌}
+use Rattle.text.proofs.Bytes.{has-below}
+use Rattle.text.proofs.Decimals.{point-yes, no-point}
 use Rattle.text.proofs.decimal.past_point.Goals as goal
 
-pub returns-then-s-at-eq-POINT : goal.returns-then-s-at-eq-POINT
-returns-then-s-at-eq-POINT c = search point-yes
+pub overflow_add-result : goal.overflow_add-result
+overflow_add-result c = omega (arith, has-below _ _ _ (sym c.has.ensures ∙ c.if-has.true))
 
-pub returns-else-s-at-eq-POINT : goal.returns-else-s-at-eq-POINT
-returns-else-s-at-eq-POINT c = search point-no
+pub returns-then-has : goal.returns-then-has
+returns-then-has c = point-yes _ _ (sym c.has.ensures ∙ c.if-has.true)
 
-pub returns-else-at-s : goal.returns-else-at-s
-returns-else-at-s c = search point-past
+pub returns-else-has : goal.returns-else-has
+returns-else-has c = no-point _ _ (sym c.has.ensures ∙ c.if-has.false)

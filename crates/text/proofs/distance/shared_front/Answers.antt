@@ -1,15 +1,17 @@
-use native.Mathlib.Omega.{arith}
-use Rattle.text.proofs.DistanceTails.{shared-not, shared-more, shared-end, shared-in}
+use Rattle.text.proofs.DistanceTails.{sharing-start, sharing-fits, sharing-more, sharing-end, shared-not}
 use Rattle.text.proofs.distance.shared_front.Goals as goal
+
+pub loop-i-init : goal.loop-i-init
+loop-i-init c = search sharing-start
+
+pub overflow_add-at : goal.overflow_add-at
+overflow_add-at c = search sharing-fits
 
 pub returns-then-not-has : goal.returns-then-not-has
 returns-then-not-has c = search shared-not
 
-pub overflow_add-p : goal.overflow_add-p
-overflow_add-p c = omega (arith, shared-in _ _ _ _ c.has.ensures c.if-not-has.false)
-
 pub loop-i-preserved : goal.loop-i-preserved
-loop-i-preserved c = search shared-more
+loop-i-preserved c = search sharing-more
 
 pub returns : goal.returns
-returns c = search shared-end
+returns c = search sharing-end
