@@ -1,76 +1,34 @@
 -- Laws of the steps of the soundness check: one for each answer that a step gives, by the tests that the code makes. Assumes nothing.
-use Prim.Native.Nat.{ℕ, suc, ◌+◌, ◌-◌, ◌/◌, ◌≤◌, ◌<◌}
+use Prim.Native.Nat.{ℕ, ◌+◌, ◌≤◌, ◌<◌}
 use mathlib.Core.Path.{◌≡◌, refl, sym, ap, ◌∙◌}
 use mathlib.Core.Bool.{Bool, true, false, ◌&&◌}
 use mathlib.Core.List.{List, [], ◌∷◌}
 use native.Mathlib.Omega.{arith}
 use native.Mathlib.Numerals.{add-one}
 use native.Mathlib.Decide.{dec_lt}
-use lib.IntN.{ℤ, pos}
-use lib.ListN.{length, get_or, take, drop, length-take, drop_of_length-le}
-use lib.Seq.{get_or-take, drop-cons}
+use lib.IntN.{ℤ}
+use lib.ListN.{length, get_or, drop, drop_of_length-le}
+use lib.Seq.{drop-cons}
 use lib.Dec.{leb, ltb}
-use lib.Signed.{lt_z}
 use borrow.Author.Tests.{lt-ltb, le-ltb, le-leb, lt-leb, eq-eqb, ne_eqb, leb-true, ltb-true}
 use Rattle.basis.specs.Limits.{most_vertices, most_arcs}
 use Rattle.basis.specs.Order.{above_by, rising}
 use Rattle.basis.specs.Scan.{every, each, mem}
 use Rattle.basis.proofs.Tests.{same_test, and_first, and_second, and-off}
-use Rattle.basis.proofs.Scans.{every-at, every_more, every-fail, every-end, each-fail, each-every, mem_index, mem-none}
-use Rattle.basis.proofs.Orders.{rising_by-of, rising_by-fail, number-order}
+use Rattle.basis.proofs.Scans.{every-at, mem_index, mem-none}
+use Rattle.basis.proofs.Orders.{number-order}
 use Rattle.graph.specs.declared.Size.{Size}
-use Rattle.std.specs.Prelude.{Option, Some, None}
+use Rattle.std.specs.Prelude.{Option, Some, None, is_some}
+use Rattle.std.specs.Ordering.{nat_cmp}
 use Rattle.graph.specs.Part.{part_of}
-use Rattle.graph.specs.Find.{bisect_by, is_there}
+use Rattle.graph.specs.Find.{below, bisect_by}
 use Rattle.graph.specs.Sound.{Graph, outward, inward, lent, first_ids_rise, sound_ids, other, never_fall, sound_offsets}
 use Rattle.graph.specs.Sound.{sound_part, sound_parts, sound_side, mirrored, both_ways, sound_sides, sound_graph}
-use Rattle.graph.specs.Steps.{bisect_finds, answered}
+use Rattle.graph.specs.Steps.{answered}
 use Rattle.graph.specs.Walk.{Ways}
 use Rattle.graph.proofs.Parts.{part-far}
 use Rattle.graph.proofs.Sounds.{part-rises}
-use Rattle.graph.proofs.Finds.{Halving, halving-here, halving-end, Right, bisect-finds}
-
--- ---- neighbours in a list
-module _ {A : Type 0} (less : A → A → Bool) (z : A) (l : List A) where
-  abbrev pub ascends : ℕ → Bool
-  ascends i = less (get_or l i z) (get_or l (i + 1) z)
-
--- ---- identifiers
-module _ (n : ℕ) (ids : List ℤ) where
-  pub ids_short : length ids < n → false ≡ first_ids_rise n ids
-  ids_short h = rw (lt-leb n (length ids) h)
-
-  module _ (l : n ≤ length ids) where
-    -- the first n
-    ids_at : (i : ℕ) → i < n → get_or (take n ids) i (pos 0) ≡ get_or ids i (pos 0)
-    ids_at i h = get_or-take n ids i (pos 0) h
-
-    pub ids-end : (i : ℕ) → n ≤ i + 1 → every i (ascends lt_z (pos 0) ids) ≡ true → true ≡ first_ids_rise n ids
-    ids-end i h a =
-        rw (le-leb n (length ids) l)
-        (sym (rising_by-of lt_z (pos 0) (take n ids)
-        (λ k g. let e = length-take n ids in
-        rw (ids_at k (omega arith), ids_at (suc k) (omega arith), ← add-one k) (every-at (ascends lt_z (pos 0) ids) i k (omega arith) a))))
-
-    pub ids-stop : (i : ℕ) (x y : ℤ) → i + 1 < n → x ≡ get_or ids i (pos 0) → y ≡ get_or ids (i + 1) (pos 0) → lt_z x y ≡ false
-        → false ≡ first_ids_rise n ids
-    ids-stop i x y h p q t =
-        rw (le-leb n (length ids) l)
-        (sym (rising_by-fail lt_z (pos 0) (take n ids) i (let e = length-take n ids in omega arith)
-        (rw (ids_at i (omega arith), ids_at (suc i) (omega arith), ← add-one i, ← p, ← q) t)))
-
-pub ids_more : (ids : List ℤ) (i : ℕ) (x y : ℤ) → every i (ascends lt_z (pos 0) ids) ≡ true → x ≡ get_or ids i (pos 0)
-    → y ≡ get_or ids (i + 1) (pos 0) → lt_z x y ≡ true
-    → every (i + 1) (ascends lt_z (pos 0) ids) ≡ true
-ids_more ids i x y a p q t = every_more (ascends lt_z (pos 0) ids) i a (rw (← p, ← q) t)
-
--- ---- a scan of a list of vertices by its places: its end, and where it breaks off
-module _ (p : ℕ → Bool) (l : List ℕ) (i : ℕ) where
-  pub members-end : length l ≤ i → i ≤ length l → every i (λ i. p (get_or l i 0)) ≡ true → true ≡ each p l
-  members-end a b h = every-end (λ i. p (get_or l i 0)) (length l) i a b h ∙ each-every p 0 l
-
-  members-stop : i < length l → p (get_or l i 0) ≡ false → false ≡ each p l
-  members-stop g h = sym (each-fail p 0 l i g h)
+use Rattle.graph.proofs.Finds.{Right, bisect-finds, bisect-numbers}
 
 -- the list rises, from a least number on
 abbrev starts_at : ℕ → List ℕ → Bool
@@ -145,14 +103,6 @@ module _ (n m : ℕ) (off : List ℕ) where
     offsets-rest g t e = rw (eq-eqb (get_or off 0 0) 0 h, eq-eqb (get_or off n 0) m g) e
 
 -- ---- one way of a graph
--- a scan of the parts; l is v's
-module _ (n : ℕ) (off tgt : List ℕ) (v : ℕ) (l : List ℕ) (q : l ≡ part_of n off tgt v) (t : Bool) (e : t ≡ sound_part n v l) where
-  pub parts_more : t ≡ true → sound_part n v (part_of n off tgt v) ≡ true
-  parts_more h = rw (← q, ← e) h
-
-  pub parts-stop : v < n → t ≡ false → false ≡ sound_parts n off tgt
-  parts-stop g h = sym (every-fail (λ v. sound_part n v (part_of n off tgt v)) n v g (rw (← q, ← e) h))
-
 module _ (n m : ℕ) (off tgt : List ℕ) where
   pub side-offsets : length off ≤ n → false ≡ sound_side n m off tgt
   unfolding sound_side
@@ -177,19 +127,11 @@ module _ (n m : ℕ) (off tgt : List ℕ) where
   side-parts h = and_second ((ltb n (length off) && leb m (length tgt)) && sound_offsets n m off) (sound_parts n off tgt) h
 
 -- ---- "the inward arcs are exactly the outward ones reversed"
-module _ (l : List ℕ) (x low high : ℕ) (h : Halving ltb 0 l x low high) where
-  pub found_here : low < high → ltb (get_or l (low + (high - low) / 2) 0) x ≡ false → ltb x (get_or l (low + (high - low) / 2) 0) ≡ false
-      → true ≡ bisect_finds l x
-  found_here g t u = ap is_there (halving-here h g (get_or l (low + (high - low) / 2) 0) refl t u)
-
-  pub found_none : high ≤ low → false ≡ bisect_finds l x
-  found_none g = ap is_there (halving-end h g)
-
 -- a part that rises has a member exactly where a bisection finds it
-finds-member : (l : List ℕ) (x : ℕ) → rising l ≡ true → bisect_finds l x ≡ mem x l
+finds-member : (l : List ℕ) (x : ℕ) → rising l ≡ true → is_some (bisect_by ltb 0 l x) ≡ mem x l
 finds-member l x r = by (bisect_by ltb 0 l x) (bisect-finds number-order 0 l r x)
   where
-    by : (f : Option ℕ) → Right 0 l x f → is_there f ≡ mem x l
+    by : (f : Option ℕ) → Right 0 l x f → is_some f ≡ mem x l
     by (Some i) (a, b) = sym (mem_index x l i a b)
     by None h = sym (mem-none x l h)
 
@@ -200,33 +142,16 @@ parts-rise n off tgt s v =
       | no h ↦ rw (← part-far n off tgt v (omega arith))
     ]
 
-module _ (n : ℕ) (off tgt : List ℕ) (u : ℕ) (m : List ℕ) where
-  -- a scan of the members of a part of u; l is the part at the other end
-  module _ (s : sound_parts n off tgt ≡ true) (i : ℕ) (l : List ℕ) (q : l ≡ part_of n off tgt (get_or m i 0)) (t : Bool)
-      (e : t ≡ bisect_finds l u) where
-    stands : t ≡ mem u (part_of n off tgt (get_or m i 0))
-    stands = e ∙ finds-member l u (rw q (parts-rise n off tgt s (get_or m i 0))) ∙ ap (mem u) q
+-- u is one of w's part exactly where the bisection of that part ends at a place
+pub found_member : (n : ℕ) (off tgt : List ℕ) (u : ℕ) → sound_parts n off tgt ≡ true → (w : ℕ) (l : List ℕ) → l ≡ part_of n off tgt w
+    → (r : Option ℕ) → r ≡ bisect_by (below nat_cmp) u l u → is_some r ≡ mem u (part_of n off tgt w)
+found_member n off tgt u s w l q r e =
+    ap is_some (e ∙ bisect-numbers l u) ∙ finds-member l u (rw q (parts-rise n off tgt s w)) ∙ ap (mem u) q
 
-    pub answered-more : t ≡ true → mem u (part_of n off tgt (get_or m i 0)) ≡ true
-    answered-more h = sym stands ∙ h
-
-    pub answered-stop : i < length m → t ≡ false → false ≡ answered n off tgt u m
-    answered-stop g h = members-stop (λ w. mem u (part_of n off tgt w)) m i g (sym stands ∙ h)
-
--- a scan of the parts of one way; l is u's
-module _ (n : ℕ) (from back : List ℕ) (from' back' : List ℕ) where
-  module _ (u : ℕ) (l : List ℕ) (q : l ≡ part_of n from' from u) (t : Bool) (e : t ≡ answered n back' back u l) where
-    pub mirrored-more : t ≡ true → answered n back' back u (part_of n from' from u) ≡ true
-    mirrored-more h = rw (← q, ← e) h
-
-    pub mirrored-stop : u < n → t ≡ false → false ≡ mirrored n (part_of n from' from) (part_of n back' back)
-    unfolding mirrored
-    mirrored-stop g h = sym (every-fail (λ u. answered n back' back u (part_of n from' from u)) n u g (rw (← q, ← e) h))
-
-  pub mirrored-end : (u : ℕ) → n ≤ u → u ≤ n → every u (λ u. answered n back' back u (part_of n from' from u)) ≡ true
-      → true ≡ mirrored n (part_of n from' from) (part_of n back' back)
-  unfolding mirrored
-  mirrored-end u a b h = every-end (λ u. answered n back' back u (part_of n from' from u)) n u a b h
+pub mirrored-is : (n : ℕ) (from' from back' back : List ℕ)
+    → every n (λ u. answered n back' back u (part_of n from' from u)) ≡ mirrored n (part_of n from' from) (part_of n back' back)
+unfolding mirrored
+mirrored-is n from' from back' back = refl
 
 -- ---- the whole graph: a clause that fails, and all of them
 graph_is : (g : Graph) → sound_graph g ≡ (sound_sides g && both_ways g.vertices (outward g) (inward g))

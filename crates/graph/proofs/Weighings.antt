@@ -1,5 +1,5 @@
 -- Laws of the weights beside arcs: by the tests that the code makes, and what sound weights are. Assumes nothing.
-use Prim.Native.Nat.{ℕ, zero, suc, ◌+◌, ◌-◌, ◌/◌, ◌≤◌, ◌<◌}
+use Prim.Native.Nat.{ℕ, zero, suc, ◌+◌, ◌-◌, ◌≤◌, ◌<◌}
 use mathlib.Core.Path.{◌≡◌, refl, sym, ap, ap₂, ◌∙◌}
 use mathlib.Core.Bool.{Bool, true, false, not, ◌&&◌, ◌||◌}
 use mathlib.Core.Logic.{⊎_elim, ◌↔◌}
@@ -10,28 +10,31 @@ use native.Mathlib.Omega.{arith}
 use lib.IntN.{ℤ}
 use lib.ListN.{length, get_or, take, drop, set, length-take, length-drop, length-replicate}
 use lib.Seq.{get_or-take, get_or-drop}
-use lib.Dec.{eqb, leb, ltb}
+use lib.Dec.{eqb, leb}
 use borrow.Author.Tests.{eq-eqb, ne_eqb, eqb-true, le-leb, lt-leb, leb-true}
 use Rattle.basis.specs.Area.{cleared, copied}
 use Rattle.basis.specs.Limits.{most_weight}
 use Rattle.basis.specs.Order.{rising}
 use Rattle.basis.specs.Scan.{every, mem}
 use Rattle.basis.proofs.Tests.{and_first, and_second, and_both, or_cases, failed, held, clash, bool_cases}
-use Rattle.basis.proofs.Scans.{every-at, every_of, every_more, every-fail, every-end, each_at, each_of, each-fail, mem_index, mem-none-of}
+use Rattle.basis.proofs.Scans.{every-at, every_of, every-fail, each_at, each_of, each-fail, mem_index, mem-none-of}
 use Rattle.basis.proofs.Scans.{mem-cases}
 use Rattle.basis.proofs.Orders.{number-order, rising-lt}
 use Rattle.basis.proofs.Areas.{copied-length, copied_at}
 use Rattle.graph.specs.declared.Size.{Size}
 use Rattle.std.specs.Prelude.{Option, Some, None}
+use Rattle.std.specs.Ordering.{nat_cmp}
 use Rattle.graph.specs.Part.{part_of}
-use Rattle.graph.specs.Find.{bisect_by}
+use Rattle.graph.specs.Find.{below, bisect_by}
 use Rattle.graph.specs.Sound.{Graph, lent, sound_part, mirrored, sound_graph, Side, Sound}
 use Rattle.graph.specs.Walk.{Ways, arcs_checked}
 use Rattle.graph.specs.Weights.{Weighted, weighing, counts_weighted, is_weighted, Leg, legs, legs_of, out_legs, in_legs, has_leg}
 use Rattle.graph.specs.Weights.{legs_answered, legs_mirrored, all_light, sound_weights, sound_weighted, SoundWeights, SoundWeighted}
 use Rattle.graph.specs.Weights.{Beside}
 use Rattle.graph.proofs.Parts.{part-far, part-whole}
-use Rattle.graph.proofs.Finds.{Halving, halving-here, halving-end, Right, bisect-finds}
+use Rattle.std.specs.List.{list_all, zip}
+use Rattle.graph.proofs.Runs.{all-each}
+use Rattle.graph.proofs.Finds.{Right, bisect-finds, bisect-numbers}
 use Rattle.graph.proofs.Sounds.{side-of, side-from, sound-of, sound-from, part-rises, offset-le, offset-most, mirrored-at}
 use Rattle.graph.proofs.Walks.{or-none, Cursors, out_below, walk_none, walk-on, walk_more, cursor-at}
 use Rattle.graph.proofs.Walks.{check-told, check-area, checks-late}
@@ -79,26 +82,12 @@ leg-is x c ws cs j r l h e =
       | no a ↦ elim (dec_lt j i) as (λ _. i ≡ j) [ yes b ↦ absurd (let z = rising-lt ws r j i b g in omega arith) | no b ↦ omega arith ]
     ])
 
--- ---- a bisection for x
-module _ (ws cs : List ℕ) (x c low high : ℕ) (r : rising ws ≡ true) (l : length cs ≡ length ws) (h : Halving ltb 0 ws x low high) where
-  right : (f : Option ℕ) → f ≡ bisect_by ltb 0 ws x → Right 0 ws x f
-  right f e = rw e (bisect-finds number-order 0 ws r x)
-
-  pub leg-here : low < high → ltb (get_or ws (low + (high - low) / 2) 0) x ≡ false → ltb x (get_or ws (low + (high - low) / 2) 0) ≡ false
-      → eqb (get_or cs (low + (high - low) / 2) 0) c ≡ has_leg x c (legs ws cs)
-  leg-here g t u =
-      let p = right (Some (low + (high - low) / 2)) (halving-here h g (get_or ws (low + (high - low) / 2) 0) refl t u) in
-      sym (leg-is x c ws cs (low + (high - low) / 2) r l p.0 p.1)
-
-  pub leg-missing : high ≤ low → false ≡ has_leg x c (legs ws cs)
-  leg-missing g = sym (leg-none x c ws cs (right None (halving-end h g)))
-
--- ---- the weights are light
-pub light-more : (l : List ℕ) (i : ℕ) → get_or l i 0 ≤ most_weight → leb (get_or l i 0) most_weight ≡ true
-light-more l i h = le-leb (get_or l i 0) most_weight h
-
-pub light-stop : (l : List ℕ) (m i : ℕ) → i < m → most_weight < get_or l i 0 → false ≡ all_light m l
-light-stop l m i g h = sym (every-fail (λ i. leb (get_or l i 0) most_weight) m i g (lt-leb (get_or l i 0) most_weight h))
+-- ---- two lists side by side
+legs-zip : (ws cs : List ℕ) → zip ws cs ≡ legs ws cs
+unfolding legs
+legs-zip [] cs = refl
+legs-zip (w ∷ ws) [] = refl
+legs-zip (w ∷ ws) (c ∷ cs) = ap (λ (l : List Leg). (w, c) ∷ l) (legs-zip ws cs)
 
 -- ---- an area with a place for each arc of one way
 module _ {n m : ℕ} {off tgt : List ℕ} (s : Side n m off tgt) (l : List ℕ) (room : m ≤ length l) (v : ℕ) where
@@ -217,53 +206,38 @@ module _ {n m : ℕ} {oo ot io is ow iw : List ℕ} (b : Beside n m oo ot io is 
       sym (every_of (λ u. legs_answered (legs_of n io is iw) u (legs_of n oo ot ow u)) n
       (λ u l. answered-of (legs_of n io is iw) u (out u) (cost u) (out-long u) (λ i h. f u i l h)))
 
-  -- ---- the search: u's arcs and weights are M and W, those at the other end of arc i are A and B
-  module _ (u : ℕ) (M W : List ℕ) (p : M ≡ out u) (q : W ≡ cost u) where
-    pub found-long : length W ≡ length M
-    found-long = rw (p, q) (out-long u)
+  -- ---- the search for an arc from u among those that lead to w, which are A and weigh B
+  module _ (u w : ℕ) (A B : List ℕ) (p : A ≡ into w) (q : B ≡ paid w) (f : Option ℕ) (e : f ≡ bisect_by (below nat_cmp) u A u) where
+    leg-rises : rising A ≡ true
+    leg-rises = rw p (ends-rise in_side w)
 
-    module _ (i : ℕ) (A B : List ℕ) (e : A ≡ into (get_or M i 0)) (f : B ≡ paid (get_or M i 0)) where
-      pub found-rises : rising A ≡ true
-      found-rises = rw e (ends-rise in_side (get_or M i 0))
+    leg-beside : length B ≡ length A
+    leg-beside = rw (p, q) (in-long w)
 
-      pub found-beside : length B ≡ length A
-      found-beside = rw (e, f) (in-long (get_or M i 0))
+    leg-right : (g : Option ℕ) → f ≡ g → Right 0 A u g
+    leg-right g s = rw (← s, e, bisect-numbers A u) (bisect-finds number-order 0 A leg-rises u)
 
-      module _ (t : Bool) (g : t ≡ has_leg u (get_or W i 0) (legs A B)) where
-        found-is : t ≡ has_leg u (get_or W i 0) (legs_of n io is iw (get_or M i 0))
-        found-is = g ∙ ap₂ (λ a b. has_leg u (get_or W i 0) (legs a b)) e f
+    leg-told : (c : ℕ) → has_leg u c (legs A B) ≡ has_leg u c (legs_of n io is iw w)
+    leg-told c = ap₂ (λ a b. has_leg u c (legs a b)) p q
 
-        pub found-more : t ≡ true → every i (answered_at (legs_of n io is iw) u M W) ≡ true
-            → every (i + 1) (answered_at (legs_of n io is iw) u M W) ≡ true
-        found-more h k = every_more (answered_at (legs_of n io is iw) u M W) i k (held t _ found-is h)
+    pub leg-place : (i : ℕ) → f ≡ Some i → i < length B
+    leg-place i s = let r = leg-right (Some i) s in omega (arith, r.0, leg-beside)
 
-        pub found-stop : i < length M → t ≡ false → false ≡ legs_answered (legs_of n io is iw) u (legs_of n oo ot ow u)
-        found-stop l h =
-            sym (answered-fail (legs_of n io is iw) u M W found-long i l (failed t _ found-is h))
-            ∙ ap₂ (λ a b. legs_answered (legs_of n io is iw) u (legs a b)) p q
+    pub leg-here : (i : ℕ) → f ≡ Some i → (c : ℕ) → eqb (get_or B i 0) c ≡ has_leg u c (legs_of n io is iw w)
+    leg-here i s c = let r = leg-right (Some i) s in sym (leg-is u c A B i leg-rises leg-beside r.0 r.1) ∙ leg-told c
 
-    pub found-end : (i : ℕ) → length M ≤ i → i ≤ length M
-        → every i (answered_at (legs_of n io is iw) u M W) ≡ true
-        → true ≡ legs_answered (legs_of n io is iw) u (legs_of n oo ot ow u)
-    found-end i g l h =
-        sym (answered-of (legs_of n io is iw) u M W found-long
-        (λ j k. every-at (answered_at (legs_of n io is iw) u M W) i j (omega arith) h))
-        ∙ ap₂ (λ a b. legs_answered (legs_of n io is iw) u (legs a b)) p q
+    pub leg-missing : f ≡ None → (c : ℕ) → false ≡ has_leg u c (legs_of n io is iw w)
+    leg-missing s c = sym (leg-none u c A B (leg-right None s)) ∙ leg-told c
+
+pub answered-is : (back : ℕ → List Leg) (u : ℕ) (ws cs : List ℕ)
+    → list_all (λ (a : Leg). has_leg u a.1 (back a.0)) (zip ws cs) ≡ legs_answered back u (legs ws cs)
+answered-is back u ws cs = ap (list_all (λ (a : Leg). has_leg u a.1 (back a.0))) (legs-zip ws cs) ∙ all-each (λ (a : Leg). has_leg u a.1 (back a.0)) (legs ws cs)
 
 -- ---- the arcs of every vertex
 module _ (n : ℕ) (from back : ℕ → List Leg) where
-  pub search-more : (u : ℕ) (t : Bool) → t ≡ legs_answered back u (from u) → t ≡ true
-      → every u (λ u. legs_answered back u (from u)) ≡ true
-      → every (u + 1) (λ u. legs_answered back u (from u)) ≡ true
-  search-more u t e h k = every_more (λ u. legs_answered back u (from u)) u k (held t (legs_answered back u (from u)) e h)
-
-  pub search-stop : (u : ℕ) (t : Bool) → u < n → t ≡ legs_answered back u (from u) → t ≡ false → false ≡ legs_mirrored n from back
+  pub search-is : every n (λ u. legs_answered back u (from u)) ≡ legs_mirrored n from back
   unfolding legs_mirrored
-  search-stop u t l e h = sym (every-fail (λ u. legs_answered back u (from u)) n u l (failed t (legs_answered back u (from u)) e h))
-
-  pub search-end : (u : ℕ) → n ≤ u → u ≤ n → every u (λ u. legs_answered back u (from u)) ≡ true → true ≡ legs_mirrored n from back
-  unfolding legs_mirrored
-  search-end u a b h = every-end (λ u. legs_answered back u (from u)) n u a b h
+  search-is = refl
 
 -- ---- the walk, a arcs of it made: it stands at an arc of a vertex, as soundness walks; the arcs passed weigh the same at their other ends
 pub record Walking (n m : ℕ) (oo ot io is ow iw : List ℕ) (a : ℕ) (cursors : List ℕ) : Type 0 where

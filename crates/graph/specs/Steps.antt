@@ -1,12 +1,7 @@
 -- What the steps of the soundness check answer, piece by piece of `sound_graph`.
-use Rattle.std.specs.Prelude.{ℕ, Bool, List, ltb}
+use Rattle.std.specs.Prelude.{ℕ, Bool, List}
 use Rattle.basis.specs.Scan.{each, mem}
 use Rattle.graph.specs.Part.{part_of}
-use Rattle.graph.specs.Find.{bisect_by, is_there}
-
--- whether the bisection of a list l for x, as whole numbers, ends at a place
-abbrev pub bisect_finds : List ℕ → ℕ → Bool
-bisect_finds l x = is_there (bisect_by ltb 0 l x)
 
 -- each arc from u to a member of a list stands at its other end
 abbrev pub answered : ℕ → List ℕ → List ℕ → ℕ → List ℕ → Bool

@@ -6,9 +6,8 @@ ghost use Rattle.graph.specs.Part.{part_of};
 ghost use Rattle.graph.specs.Sound.{standing, sound_parts, both_ways, sound_graph};
 ghost use Rattle.graph.specs.Walk.{Ways, arcs_walked, all_walked, at_ends, arcs_checked};
 
-use crate::Lent;
-use crate::part::part;
 use crate::sound::{sides_sound, sound};
+use crate::{Lent, Way};
 use basis::area::{clear, copy};
 
 // The arcs from u, in order: u stands at the target's cursor, which moves on. That a cursor passes its part's end shows at the end of the
@@ -18,9 +17,7 @@ fn arcs_walked(targets: &[usize], in_sources: &[usize], u: usize, cursors: &mut 
     ensures { arcs_checked result cursors.new
         ≡ arcs_walked in_sources.now u targets.now cursors.old }
 {
-    let mut i = 0;
-    while i < targets.len() {
-        let w = targets[i];
+    for &w in targets {
         let cursor = cursors[w];
         if in_sources.len() <= cursor {
             return false;
@@ -29,30 +26,21 @@ fn arcs_walked(targets: &[usize], in_sources: &[usize], u: usize, cursors: &mut 
             return false;
         }
         cursors[w] = cursor + 1;
-        i += 1;
     }
     true
 }
 
 // The arcs of every vertex.
-fn all_walked(
-    out_targets: &[usize],
-    out_offsets: &[usize],
-    in_sources: &[usize],
-    n: usize,
-    cursors: &mut [usize],
-) -> bool
-    requires { (sound_parts n out_offsets.now out_targets.now ≡ true) × (n ≤ length cursors.old) }
+fn all_walked(out: Way, in_sources: &[usize], n: usize, cursors: &mut [usize]) -> bool
+    requires { (sound_parts n out.offsets.now out.targets.now ≡ true) × (n ≤ length cursors.old) }
     ensures { arcs_checked result cursors.new
-        ≡ all_walked in_sources.now (part_of n out_offsets.now out_targets.now) n
+        ≡ all_walked in_sources.now (part_of n out.entry.offsets.now out.entry.targets.now) n
         cursors.old }
 {
-    let mut u = 0;
-    while u < n {
-        if !arcs_walked(part(out_targets, out_offsets, n, u), in_sources, u, cursors) {
+    for u in 0..n {
+        if !arcs_walked(out.part(n, u), in_sources, u, cursors) {
             return false;
         }
-        u += 1;
     }
     true
 }
@@ -62,37 +50,21 @@ fn at_ends(in_offsets: &[usize], n: usize, cursors: &[usize]) -> bool
     requires { (n < length in_offsets.now) × (n ≤ length cursors.now) }
     ensures { result ≡ at_ends n in_offsets.now cursors.now }
 {
-    let mut w = 0;
-    while w < n {
-        let cursor = cursors[w];
-        let end = in_offsets[w + 1];
-        if cursor != end {
-            return false;
-        }
-        w += 1;
-    }
-    true
+    cursors[..n] == in_offsets[1..=n]
 }
 
 // The inward arcs are exactly the outward ones reversed. Every cursor begins at the start of its vertex's part.
-fn reversed(
-    out_targets: &[usize],
-    out_offsets: &[usize],
-    in_sources: &[usize],
-    in_offsets: &[usize],
-    n: usize,
-    cursors: &mut [usize],
-) -> bool
-    requires ways { Ways n (part_of n out_offsets.now out_targets.now) in_offsets.now in_sources.now }
+fn reversed(out: Way, into: Way, n: usize, cursors: &mut [usize]) -> bool
+    requires ways { Ways n (part_of n out.offsets.now out.targets.now) into.offsets.now into.targets.now }
     requires n_in_bounds { n ≤ length cursors.old }
-    ensures { result ≡ both_ways n (part_of n out_offsets.now out_targets.now)
-        (part_of n in_offsets.now in_sources.now) }
+    ensures { result ≡ both_ways n (part_of n out.entry.offsets.now out.entry.targets.now)
+        (part_of n into.entry.offsets.now into.entry.targets.now) }
 {
-    copy(in_offsets, n, cursors);
-    if !all_walked(out_targets, out_offsets, in_sources, n, cursors) {
+    copy(into.offsets, n, cursors);
+    if !all_walked(out, into.targets, n, cursors) {
         return false;
     }
-    at_ends(in_offsets, n, cursors)
+    at_ends(into.offsets, n, cursors)
 }
 
 // A lent graph is sound: what `sound` answers, in linear time where the working area has a place for each vertex. The area is zero
@@ -110,14 +82,7 @@ pub fn sound_over(g: Lent, cursors: &mut [usize]) -> bool
         clear(cursors);
         return false;
     }
-    let answer = reversed(
-        g.outward.targets,
-        g.outward.offsets,
-        g.inward.targets,
-        g.inward.offsets,
-        n,
-        cursors,
-    );
+    let answer = reversed(g.outward, g.inward, n, cursors);
     clear(cursors);
     answer
 }

@@ -1,12 +1,12 @@
 // Are the weights beside the arcs of a lent graph sound?
 ghost use Rattle.std.specs.Prelude.{◌≡◌, true, ◌≤◌, length};
 ghost use Rattle.basis.specs.Area.{cleared};
-ghost use Rattle.basis.specs.Order.{rising};
 ghost use Rattle.graph.specs.Sound.{standing, sound_graph};
 ghost use Rattle.graph.specs.Walk.{arcs_checked};
 ghost use Rattle.graph.specs.Weights.{weighing_of, counts_weighted, legs, out_legs, in_legs, has_leg, legs_answered, legs_mirrored, all_light};
 ghost use Rattle.graph.specs.Weights.{sound_weights, sound_weighted, HasBeside};
 
+use crate::find::bisect;
 use crate::part::part;
 use crate::walk::sound_over;
 use crate::{Size, Weighed};
@@ -25,37 +25,21 @@ fn all_light(weights: &[usize], m: usize) -> bool
     requires { m ≤ length weights.now }
     ensures { result ≡ all_light m weights.now }
 {
-    let mut i = 0;
-    while i < m {
-        if MOST_WEIGHT < weights[i] {
-            return false;
-        }
-        i += 1;
-    }
-    true
+    weights[..m].iter().all(|weight| *weight <= MOST_WEIGHT)
 }
 
-// A bisection of a part that rises finds x, and the weight beside it is c.
-fn has_leg(members: &[usize], weights: &[usize], x: usize, c: usize) -> bool
-    requires { (rising members.now ≡ true) × (length weights.now ≡ length members.now) }
-    ensures { result ≡ has_leg x c (legs members.now weights.now) }
+// One of the arcs that lead to w comes from u, and weighs c.
+fn has_leg(g: Weighed, w: usize, u: usize, c: usize) -> bool
+    requires { HasBeside (weighing_of g) }
+    ensures { result ≡ has_leg u c (in_legs (weighing_of g.entry) w) }
 {
-    let mut low = 0;
-    let mut high = members.len();
-    while low < high {
-        let middle = low + (high - low) / 2;
-        let there = members[middle];
-        if there < x {
-            low = middle + 1;
-        } else {
-            if x < there {
-                high = middle;
-            } else {
-                return weights[middle] == c;
-            }
-        }
+    let n = g.graph.size.vertices;
+    let into = g.graph.inward;
+    let weights = part(g.in_weights, into.offsets, n, w);
+    match bisect(into.part(n, w), u) {
+        Some(place) => weights[place] == c,
+        None => false,
     }
-    false
 }
 
 // The arcs of u stand at their other ends with the same weight.
@@ -65,19 +49,11 @@ fn legs_answered(g: Weighed, u: usize) -> bool
 {
     let n = g.graph.size.vertices;
     let out = g.graph.outward;
-    let into = g.graph.inward;
-    let members = part(out.targets, out.offsets, n, u);
     let weights = part(g.out_weights, out.offsets, n, u);
-    let mut i = 0;
-    while i < members.len() {
-        let w = members[i];
-        let back = part(into.targets, into.offsets, n, w);
-        if !has_leg(back, part(g.in_weights, into.offsets, n, w), u, weights[i]) {
-            return false;
-        }
-        i += 1;
-    }
-    true
+    out.part(n, u)
+        .iter()
+        .zip(weights)
+        .all(|(w, weight)| has_leg(g, *w, u, *weight))
 }
 
 // So do the arcs of every vertex: by bisection, with no working area.
@@ -85,14 +61,7 @@ fn legs_searched(g: Weighed) -> bool
     requires { HasBeside (weighing_of g) }
     ensures { result ≡ legs_mirrored g.entry.graph.size.vertices (out_legs (weighing_of g.entry)) (in_legs (weighing_of g.entry)) }
 {
-    let mut u = 0;
-    while u < g.graph.size.vertices {
-        if !legs_answered(g, u) {
-            return false;
-        }
-        u += 1;
-    }
-    true
+    (0..g.graph.size.vertices).all(|u| legs_answered(g, u))
 }
 
 // The same in one walk over the outward arcs. Every cursor begins at the start of its vertex's part; the inward arc that reverses the next
@@ -106,15 +75,13 @@ fn legs_walked(g: Weighed, cursors: &mut [usize]) -> bool
     let out_weights = g.out_weights;
     let in_weights = g.in_weights;
     copy(g.graph.inward.offsets, g.graph.size.vertices, cursors);
-    let mut i = 0;
-    while i < g.graph.size.arcs {
+    for i in 0..g.graph.size.arcs {
         let w = out_targets[i];
         let cursor = cursors[w];
         if in_weights[cursor] != out_weights[i] {
             return false;
         }
         cursors[w] = cursor + 1;
-        i += 1;
     }
     true
 }

@@ -1,17 +1,15 @@
-use borrow.Author.Tests.{not-true, not-false}
-use Rattle.graph.proofs.Steps.{members-end, answered-more, answered-stop}
-use Rattle.basis.proofs.Scans.{every_more, every-none}
-use native.Mathlib.Omega.{arith}
+use mathlib.Core.Path.{◌∙◌}
+use borrow.Author.Rules.{rules}
+use borrow.Author.Tests.{tests}
+use Rattle.std.proofs.lemmas.Iterator.{YieldsList-from_slice}
+use Rattle.std.proofs.lemmas.Iterator.Search.{all_from_yields_List}
+use Rattle.basis.specs.Scan.{mem}
+use Rattle.graph.specs.Part.{part_of}
+use Rattle.graph.proofs.Runs.{all-each}
+use Rattle.graph.proofs.Steps.{found_member}
 use Rattle.graph.proofs.sound.part_answered.Goals as goal
 
-pub loop-i-init : goal.loop-i-init
-loop-i-init c = (omega arith, every-none _)
-
-pub returns-then-not-finds : goal.returns-then-not-finds
-returns-then-not-finds c = search (answered-stop, not-true)
-
-pub loop-i-preserved : goal.loop-i-preserved
-loop-i-preserved c = (omega arith, search (every_more, answered-more, not-false))
-
 pub returns : goal.returns
-returns c = search members-end
+returns c =
+    all_from_yields_List (λ w. mem c.args.u (part_of c.args.n c.args.back.offsets.now c.args.back.targets.now w)) _ _ _
+    c.all.ensures.ran (YieldsList-from_slice c.args.members.now cc) (λ x b q k. search (rules, tests, found_member)) ∙ all-each _ _

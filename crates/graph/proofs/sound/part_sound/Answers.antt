@@ -2,8 +2,8 @@ use native.Mathlib.Omega.{arith}
 use Rattle.graph.proofs.Steps.{part-begin, part_low, part-wide, part-self, part-more, part_end}
 use Rattle.graph.proofs.sound.part_sound.Goals as goal
 
-pub loop-i-init : goal.loop-i-init
-loop-i-init c = (omega arith, search part-begin)
+pub loop-w-init : goal.loop-w-init
+loop-w-init c = (omega arith, search part-begin)
 
 pub returns-then-w-least : goal.returns-then-w-least
 returns-then-w-least c = search part_low
@@ -14,8 +14,8 @@ returns-then-n-w c = search part-wide
 pub returns-then-w-v : goal.returns-then-w-v
 returns-then-w-v c = search part-self
 
-pub loop-i-preserved : goal.loop-i-preserved
-loop-i-preserved c = (omega arith, search part-more)
+pub loop-w-preserved : goal.loop-w-preserved
+loop-w-preserved c = (omega arith, search part-more)
 
 pub returns : goal.returns
 returns c = search part_end

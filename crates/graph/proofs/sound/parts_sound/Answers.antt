@@ -1,17 +1,15 @@
-use borrow.Author.Tests.{not-true, not-false}
-use Rattle.graph.proofs.Steps.{parts_more, parts-stop}
-use Rattle.basis.proofs.Scans.{every_more, every-none, every-end}
+use mathlib.Core.Path.{◌∙◌}
 use native.Mathlib.Omega.{arith}
+use borrow.Author.Rules.{rules}
+use borrow.Author.Tests.{tests}
+use Rattle.std.proofs.lemmas.Iterator.{YieldsList-from_range}
+use Rattle.std.proofs.lemmas.Iterator.Search.{all_from_yields_List}
+use Rattle.graph.specs.Part.{part_of}
+use Rattle.graph.specs.Sound.{sound_part}
+use Rattle.graph.proofs.Runs.{all-below}
 use Rattle.graph.proofs.sound.parts_sound.Goals as goal
 
-pub loop-v-init : goal.loop-v-init
-loop-v-init c = (omega arith, every-none _)
-
-pub returns-then-not-part_sound : goal.returns-then-not-part_sound
-returns-then-not-part_sound c = search (parts-stop, not-true)
-
-pub loop-v-preserved : goal.loop-v-preserved
-loop-v-preserved c = (omega arith, search (every_more, parts_more, not-false))
-
 pub returns : goal.returns
-returns c = search every-end
+returns c =
+    all_from_yields_List (λ v. sound_part c.args.n v (part_of c.args.n c.args.way.offsets.now c.args.way.targets.now v)) _ _ _
+    c.all.ensures.ran (YieldsList-from_range 0 c.args.n c.args.n (cc) (omega arith)) (λ x b q k. search (rules, tests)) ∙ all-below _ _

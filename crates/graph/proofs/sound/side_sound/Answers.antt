@@ -2,11 +2,11 @@ use Rattle.graph.proofs.Steps.{side-offsets, side-targets, side-stop, side-rest}
 use Rattle.basis.proofs.Tests.{failed, held}
 use Rattle.graph.proofs.sound.side_sound.Goals as goal
 
-pub returns-then-offsets-n : goal.returns-then-offsets-n
-returns-then-offsets-n c = search side-offsets
+pub returns-then-way-n : goal.returns-then-way-n
+returns-then-way-n c = search side-offsets
 
-pub returns-then-targets-m : goal.returns-then-targets-m
-returns-then-targets-m c = search side-targets
+pub returns-then-way-m : goal.returns-then-way-m
+returns-then-way-m c = search side-targets
 
 pub returns-then-not-offsets_sound : goal.returns-then-not-offsets_sound
 returns-then-not-offsets_sound c = search (side-stop, failed)

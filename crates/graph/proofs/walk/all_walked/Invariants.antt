@@ -1,4 +1,4 @@
-use Prim.Native.Nat.{◌-◌, ◌≤◌}
+use Prim.Native.Nat.{◌≤◌}
 use mathlib.Core.Path.{◌≡◌}
 use mathlib.Core.Bool.{true}
 use lib.ListN.{length}
@@ -9,8 +9,5 @@ use Rattle.graph.proofs.walk.all_walked.Given as goal
 abbrev pub invariant-loop-u : goal.invariant-loop-u
 invariant-loop-u l =
     (l.u ≤ l.n) × (length l.cursors ≡ length l.initial.cursors)
-    × (all_walked l.in_sources (part_of l.n l.out_offsets l.out_targets) l.u l.initial.cursors
+    × (all_walked l.in_sources (part_of l.n l.out.offsets.now l.out.targets.now) l.u l.initial.cursors
     ≡ arcs_checked true l.cursors)
-
-abbrev pub decreases-loop-u : goal.decreases-loop-u
-decreases-loop-u l = l.n - l.u

@@ -1,20 +1,16 @@
 use native.Mathlib.Omega.{arith}
-use borrow.Author.Tests.{lt-ltb, le-ltb}
-use Rattle.graph.proofs.Finds.{halving-start, halving-up, halving-down}
-use Rattle.graph.proofs.Weighings.{leg-here, leg-missing}
+use Rattle.graph.proofs.Weighings.{leg-place, leg-here, leg-missing}
 use Rattle.graph.proofs.weights.has_leg.Goals as goal
 
-pub loop-low-init : goal.loop-low-init
-loop-low-init c = (omega arith, halving-start _ _ _ _)
+pub offset_bounds-weights-place : goal.offset_bounds-weights-place
+offset_bounds-weights-place c =
+    omega (arith, leg-place c.requires _ _ _ _ c.part.ensures c.part-weights.ensures _ c.bisect.ensures _ c.in-Some.is)
 
-pub loop-low-preserved-then-there-x : goal.loop-low-preserved-then-there-x
-loop-low-preserved-then-there-x c = (omega arith, search (halving-up, lt-ltb))
+pub bounds-weights-place : goal.bounds-weights-place
+bounds-weights-place c = leg-place c.requires _ _ _ _ c.part.ensures c.part-weights.ensures _ c.bisect.ensures _ c.in-Some.is
 
-pub loop-low-preserved : goal.loop-low-preserved
-loop-low-preserved c = (omega arith, search (halving-down, lt-ltb, le-ltb))
+pub returns-in-Some : goal.returns-in-Some
+returns-in-Some c = leg-here c.requires _ _ _ _ c.part.ensures c.part-weights.ensures _ c.bisect.ensures _ c.in-Some.is _
 
-pub returns-else-x-there : goal.returns-else-x-there
-returns-else-x-there c = search (leg-here, le-ltb)
-
-pub returns : goal.returns
-returns c = search leg-missing
+pub returns-in-None : goal.returns-in-None
+returns-in-None c = leg-missing c.requires _ _ _ _ c.part.ensures c.part-weights.ensures _ c.bisect.ensures c.in-None.is _

@@ -1,33 +1,15 @@
-use native.Mathlib.Omega.{arith}
+use mathlib.Core.Path.{◌∙◌, ap₂}
 use borrow.Author.Rules.{rules}
-use Rattle.basis.proofs.Scans.{every-none}
-use Rattle.graph.proofs.Weighings.{found-long, found-rises, found-beside, found-more, found-stop, found-end}
+use borrow.Author.Tests.{tests}
+use Rattle.std.proofs.lemmas.Iterator.{YieldsList-from_slice, YieldsList-from_zip}
+use Rattle.std.proofs.lemmas.Iterator.Search.{all_from_yields_List}
+use Rattle.graph.specs.Weights.{Leg, legs, has_leg, weighing_of, in_legs, legs_answered}
+use Rattle.graph.proofs.Weighings.{answered-is}
 use Rattle.graph.proofs.weights.legs_answered.Goals as goal
 
-pub loop-i-init : goal.loop-i-init
-loop-i-init c = (omega arith, every-none _)
-
-pub bounds-weights-i : goal.bounds-weights-i
-bounds-weights-i c = search (found-long, rules)
-
-pub has_leg-requires : goal.has_leg-requires
-has_leg-requires c = (search found-rises, search found-beside)
-
-pub returns-then-not-has_leg : goal.returns-then-not-has_leg
-returns-then-not-has_leg c =
-    found-stop c.requires _ _ _ c.part-members.ensures c.part-weights.ensures _ _ _ c.part-back.ensures c.part.ensures _ c.has_leg.ensures
-    c.loop-i-test.true c.if-not-has_leg.true
-
-pub loop-i-preserved : goal.loop-i-preserved
-loop-i-preserved c = (
-  omega arith,
-  found-more c.requires _ _ _ c.part-members.ensures
-      c.part-weights.ensures _ _ _
-      c.part-back.ensures
-      c.part.ensures _ c.has_leg.ensures c.if-not-has_leg.false
-      c.loop-i.invariant.1,
-)
-
 pub returns : goal.returns
-returns c = found-end c.requires _ _ _ c.part-members.ensures c.part-weights.ensures c.loop-i.i c.loop-i-test.false c.loop-i.invariant.0
-    c.loop-i.invariant.1
+returns c =
+    all_from_yields_List (λ (a : Leg). has_leg c.args.u a.1 (in_legs (weighing_of c.args.g) a.0)) c.all.new.self _ _ c.all.ensures.ran
+    (YieldsList-from_zip (YieldsList-from_slice c.part.result.now cc) (YieldsList-from_slice c.part-weights.result.now cc))
+    (λ x b q k. search (rules, tests)) ∙ answered-is _ _ _ _
+    ∙ ap₂ (λ a b. legs_answered (in_legs (weighing_of c.args.g)) c.args.u (legs a b)) c.part.ensures c.part-weights.ensures

@@ -1,21 +1,16 @@
+use mathlib.Core.Path.{◌∙◌}
 use native.Mathlib.Omega.{arith}
-use Rattle.basis.proofs.Scans.{every-none}
-use Rattle.graph.proofs.Weighings.{search-more, search-stop, search-end}
+use borrow.Author.Rules.{rules}
+use borrow.Author.Tests.{tests}
+use Rattle.std.proofs.lemmas.Iterator.{YieldsList-from_range}
+use Rattle.std.proofs.lemmas.Iterator.Search.{all_from_yields_List}
+use Rattle.graph.specs.Weights.{weighing_of, in_legs, out_legs, legs_answered}
+use Rattle.graph.proofs.Runs.{all-below}
+use Rattle.graph.proofs.Weighings.{search-is}
 use Rattle.graph.proofs.weights.legs_searched.Goals as goal
 
-pub loop-u-init : goal.loop-u-init
-loop-u-init c = (omega arith, every-none _)
-
-pub returns-then-not-legs_answered : goal.returns-then-not-legs_answered
-returns-then-not-legs_answered c = search search-stop
-
-pub loop-u-preserved : goal.loop-u-preserved
-loop-u-preserved c = (
-  omega arith,
-  search-more
-      c.args.g.graph.size.vertices _ _ _ _
-      c.legs_answered.ensures c.if-not-legs_answered.false c.loop-u.invariant.1,
-)
-
 pub returns : goal.returns
-returns c = search search-end
+returns c =
+    all_from_yields_List (λ u. legs_answered (in_legs (weighing_of c.args.g)) u (out_legs (weighing_of c.args.g) u)) _ _ _
+    c.all.ensures.ran (YieldsList-from_range 0 c.args.g.graph.size.vertices c.args.g.graph.size.vertices (cc) (omega arith))
+    (λ x b q k. search (rules, tests)) ∙ all-below _ _ ∙ search-is _ _ _

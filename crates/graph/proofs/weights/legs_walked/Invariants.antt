@@ -1,4 +1,4 @@
-use Prim.Native.Nat.{◌≤◌, ◌-◌}
+use Prim.Native.Nat.{◌≤◌}
 use mathlib.Core.Path.{◌≡◌}
 use lib.ListN.{length}
 use Rattle.graph.proofs.Weighings.{Walking}
@@ -9,6 +9,3 @@ invariant-loop-i l =
     (length l.cursors ≡ length l.initial.cursors) × (l.i ≤ l.g.graph.size.arcs)
     × Walking l.g.graph.size.vertices l.g.graph.size.arcs l.g.graph.outward.offsets.now l.g.graph.outward.targets.now
     l.g.graph.inward.offsets.now l.g.graph.inward.targets.now l.g.out_weights.now l.g.in_weights.now l.i l.cursors
-
-abbrev pub decreases-loop-i : goal.decreases-loop-i
-decreases-loop-i l = l.g.graph.size.arcs - l.i
