@@ -86,13 +86,7 @@ fn damaged_sizes(rt: &impl Print) -> io::Result<()> {
     print!(rt; "minus the length: ")?;
     read(rt, &[-4, -1, -1, -1], 0)?;
     join(rt, "the least number: ", [LEAST, -1, -1, -1], 0, 1)?;
-    join(
-        rt,
-        "the least number twice: ",
-        [LEAST, LEAST, -1, -1],
-        1,
-        0,
-    )?;
+    join(rt, "the least number twice: ", [LEAST, LEAST, -1, -1], 1, 0)?;
     print!(rt; "the least number: ")?;
     read(rt, &[LEAST, -1, -1, -1], 0)?;
     join(
@@ -148,7 +142,7 @@ fn join_each(
     print!(rt; "{shows}join {u} with each: ")?;
     joined_each(rt, book::joining::join_each(&mut entries, u, others))?;
     print!(rt; ": entries")?;
-    area(rt, entries)?;
+    area(rt, &entries)?;
     println!(rt; "")
 }
 

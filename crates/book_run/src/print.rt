@@ -23,7 +23,10 @@ pub fn joined(rt: &impl Print, answer: Result<Joining, Refusal>) -> io::Result<(
 pub fn joined_each(rt: &impl Print, answer: Result<usize, Stopped>) -> io::Result<()> {
     match answer {
         Ok(merges) => print!(rt; "all, {merges} merged"),
-        Err(s) => print!(rt; "stopped after {}, {} merged: {}", s.joined, s.merges, s.refusal),
+        Err(s) => print!(rt;
+            "stopped after {}, {} merged: {}",
+            s.joined, s.merges, s.refusal
+        ),
     }
 }
 
