@@ -1,18 +1,19 @@
 -- Laws of the areas after a file was read: values written from the front, as far as there is room. Assumes nothing.
-use Rattle.std.specs.Prelude.{Result, Ok, Err, Option}
+use Rattle.std.specs.Prelude.{Result, Ok, Err, Option, is_err}
 use Prim.Native.Nat.{ℕ, suc, ◌+◌, ◌≤◌}
 use mathlib.Core.Path.{◌≡◌, refl, sym, ap, ap₂, ◌∙◌}
 use mathlib.Core.List.{List, [], ◌∷◌, ◌++◌}
-use mathlib.Core.Bool.{Bool}
+use mathlib.Core.Bool.{Bool, true, false}
 use native.Mathlib.Omega.{arith}
 use native.Mathlib.Decide.{dec_lt}
 use native.Mathlib.Nat.{zero-add}
 use lib.IntN.{ℤ, pos}
 use lib.ListN.{length, take, drop, set, replicate, length-replicate, length-take, take-append-drop, drop_of_length-le}
 use lib.Seq.{sets, sets-eq, length-sets, set_out}
-use Rattle.basis.specs.Refusal.{gives, refuses, mapped}
+use Rattle.basis.specs.Refusal.{said, gives, refuses, mapped}
 use Rattle.basis.specs.declared.refusal.Refusal.{Refusal}
 use Rattle.basis.specs.Area.{pad, pad_z, pad_with}
+use Rattle.basis.proofs.Tests.{no-case}
 use Rattle.basis.proofs.Areas.{pad-lent}
 use Rattle.basis.proofs.Saids.{mapped-gives, mapped-refuses}
 use Rattle.graph.specs.Arcs.{seconds, bumps}
@@ -66,7 +67,7 @@ again z size a b e k = ap (λ (j : ℕ). replicate j z) (k ∙ ap length e ∙ l
 
 module _ (most : ℕ) (s : List ℕ) (size : ℕ) (a : List ℤ) (e : a ≡ replicate size (pos 0)) (x : Result ℕ Refusal) (b : List ℤ)
     (told : ids_left x b ≡ mapped (ids_into a 0) (identifiers most s)) where
-  pub vertices-lines : (n : ℕ) → x ≡ Ok n → vertex_outcome (gives n) b ≡ vertex_call most s size
+  vertices-lines : (n : ℕ) → x ≡ Ok n → vertex_outcome (gives n) b ≡ vertex_call most s size
   vertices-lines n q =
       let g = mapped-gives (ids_into a 0) (identifiers most s) (n, b) (ap (λ y. ids_left y b) (sym q) ∙ told) in
       let c : n ≡ length g.0 = ap (λ (y : ℕ × List ℤ). y.0) g.2 ∙ zero-add (length g.0) in
@@ -74,16 +75,31 @@ module _ (most : ℕ) (s : List ℕ) (size : ℕ) (a : List ℤ) (e : a ≡ repl
       ∙ put_front (pos 0) size g.0 in
       rw g.1 (ap₂ (λ (k : ℕ) (l : List ℤ). vertex_outcome (gives k) l) c d)
 
-  pub vertices-zero : (r : Refusal) → x ≡ Err r → length b ≡ length a → (c : List ℤ) → c ≡ replicate (length b) (pos 0)
+  vertices-zero : (r : Refusal) → x ≡ Err r → length b ≡ length a → (c : List ℤ) → c ≡ replicate (length b) (pos 0)
       → vertex_outcome (refuses r) c ≡ vertex_call most s size
   vertices-zero r q k c f =
       rw (mapped-refuses (ids_into a 0) (identifiers most s) r (ap (λ y. ids_left y b) (sym q) ∙ told))
       (ap (vertex_outcome (refuses r)) (f ∙ again (pos 0) size a b e k))
 
+  pub vertices-kept : is_err x ≡ false → vertex_outcome (said x) b ≡ vertex_call most s size
+  vertices-kept h = go x refl h
+    where
+      go : (y : Result ℕ Refusal) → x ≡ y → is_err y ≡ false → vertex_outcome (said y) b ≡ vertex_call most s size
+      go (Ok n) q h = vertices-lines n q
+      go (Err r) q h = no-case cc
+
+  pub vertices-cleared : is_err x ≡ true → length b ≡ length a → (c : List ℤ) → c ≡ replicate (length b) (pos 0)
+      → vertex_outcome (said x) c ≡ vertex_call most s size
+  vertices-cleared h k c f = go x refl h
+    where
+      go : (y : Result ℕ Refusal) → x ≡ y → is_err y ≡ true → vertex_outcome (said y) c ≡ vertex_call most s size
+      go (Ok n) q h = no-case cc
+      go (Err r) q h = vertices-zero r q k c f
+
 module _ (undirected : Bool) (most : ℕ) (place : ℤ → Option ℕ) (s : List ℕ) (sc st : ℕ) (a b : List ℕ) (ea : a ≡ replicate sc 0)
     (eb : b ≡ replicate st 0)
     (x : Result ℕ Refusal) (c t : List ℕ) (told : edges_left x c t ≡ mapped (numbered_into place a b 0) (edges_of undirected most place s)) where
-  pub edges-lines : (n : ℕ) → x ≡ Ok n → edge_outcome (gives n) c t ≡ edge_call undirected most place s sc st
+  edges-lines : (n : ℕ) → x ≡ Ok n → edge_outcome (gives n) c t ≡ edge_call undirected most place s sc st
   edges-lines n q =
       let g = mapped-gives (numbered_into place a b 0) (edges_of undirected most place s) (n, c, t)
       (ap (λ y. edges_left y c t) (sym q) ∙ told) in
@@ -97,12 +113,27 @@ module _ (undirected : Bool) (most : ℕ) (place : ℤ → Option ℕ) (s : List
       edges-of : {k m : ℕ} {c d t u : List ℕ} → k ≡ m → c ≡ d → t ≡ u → edge_outcome (gives k) c t ≡ edge_outcome (gives m) d u
       edges-of p q r = cc
 
-  pub edges-zero : (r : Refusal) → x ≡ Err r → length c ≡ length a → length t ≡ length b → (d u : List ℕ)
+  edges-zero : (r : Refusal) → x ≡ Err r → length c ≡ length a → length t ≡ length b → (d u : List ℕ)
       → d ≡ replicate (length c) 0 → u ≡ replicate (length t) 0
       → edge_outcome (refuses r) d u ≡ edge_call undirected most place s sc st
   edges-zero r q kc kt d u ed eu =
       rw (mapped-refuses (numbered_into place a b 0) (edges_of undirected most place s) r (ap (λ y. edges_left y c t) (sym q) ∙ told))
       (ap₂ (λ (l m : List ℕ). edge_outcome (refuses r) l m) (ed ∙ again 0 sc a c ea kc) (eu ∙ again 0 st b t eb kt))
+
+  pub edges-kept : is_err x ≡ false → edge_outcome (said x) c t ≡ edge_call undirected most place s sc st
+  edges-kept h = go x refl h
+    where
+      go : (y : Result ℕ Refusal) → x ≡ y → is_err y ≡ false → edge_outcome (said y) c t ≡ edge_call undirected most place s sc st
+      go (Ok n) q h = edges-lines n q
+      go (Err r) q h = no-case cc
+
+  pub edges-cleared : is_err x ≡ true → length c ≡ length a → length t ≡ length b → (d u : List ℕ)
+      → d ≡ replicate (length c) 0 → u ≡ replicate (length t) 0 → edge_outcome (said x) d u ≡ edge_call undirected most place s sc st
+  edges-cleared h kc kt d u ed eu = go x refl h
+    where
+      go : (y : Result ℕ Refusal) → x ≡ y → is_err y ≡ true → edge_outcome (said y) d u ≡ edge_call undirected most place s sc st
+      go (Ok n) q h = no-case cc
+      go (Err r) q h = edges-zero r q kc kt d u ed eu
 
 pub stays-clear : (a e : List ℕ) → a ≡ replicate (length e) 0 → length a ≡ length e → a ≡ replicate (length a) 0
 stays-clear a e p q = p ∙ ap (λ (k : ℕ). replicate k 0) (sym q)

@@ -1,182 +1,140 @@
--- Laws of reading a file line by line. Assumes nothing.
-use Rattle.std.specs.Prelude.{Option, Some, None}
-use Prim.Native.Nat.{ℕ, zero, suc, ◌+◌, ◌≤◌, ◌<◌}
+-- Laws of reading one line of a file. Assumes nothing.
+use Rattle.std.specs.Prelude.{Option, Some, None, Result, Ok, Err}
+use Prim.Native.Nat.{ℕ, ◌+◌}
 use mathlib.Core.Path.{◌≡◌, refl, sym, ap, ◌∙◌}
-use mathlib.Core.Bool.{Bool, true, false, cond, ◌&&◌, ◌||◌}
+use mathlib.Core.Bool.{Bool, true, false, cond, ◌&&◌}
 use mathlib.Core.List.{List}
-use native.Mathlib.Omega.{arith}
-use borrow.Author.Tests.{le-leb, lt-leb, lt-ltb}
-use lib.Dec.{leb}
+use borrow.Author.Tests.{eqb-true}
+use lib.Dec.{leb, eqb}
 use lib.IntN.{ℤ}
 use lib.Signed.{lt_z}
-use Rattle.basis.specs.Refusal.{gives, refuses, at_column, at, too_many, not_above, vertex_file, edge_file}
+use Rattle.basis.specs.Refusal.{Said, gives, refuses, at, onward, too_many, not_above, vertex_file, edge_file}
 use Rattle.basis.specs.Order.{same_z}
 use Rattle.basis.specs.declared.refusal.Refusal.{Refusal}
-use Rattle.basis.proofs.Tests.{no-case}
-use Rattle.basis.specs.Scan.{or_else}
-use Rattle.text.specs.Line.{LineSaid, line, fault, vertex_line, vertex_says, edge_line, edge_says}
-use Rattle.text.specs.File.{Before, fault_of, bad_at}
+use mir.Val.{of_z, to_z}
+use mir.Syntax.{w64}
+use Rattle.basis.proofs.Orders.{signed-order}
+use Rattle.basis.proofs.Tests.{no-case, clash, and-off}
+use Rattle.text.specs.Line.{none, reader_says, vertex_line, edge_line}
+use Rattle.text.specs.File.{Before, first, after, unless}
 use Rattle.text.specs.declared.line.Cursor.{Cursor}
-use Rattle.text.specs.declared.line.VertexLine.{VertexLine}
-use Rattle.text.specs.declared.line.VertexLine.TheVariants as VL
-use Rattle.text.specs.declared.line.EdgeLine.{EdgeLine}
-use Rattle.text.specs.declared.line.EdgeLine.TheVariants as EL
+use Rattle.text.specs.declared.line.Fault.{Fault}
 use Rattle.graph.specs.Arcs.{Arc}
 use Rattle.graph.specs.Find.{is_there}
-use Rattle.lists.specs.declared.vertices.Vertices.{Vertices}
-use Rattle.lists.specs.declared.edges.Edges.{Edges}
+use Rattle.lists.specs.declared.Lines.{Lines}
 use Rattle.lists.specs.Files.{vertex_test, is_above, vertex_number, edge_test, numbered}
-use Rattle.lists.specs.Steps.{LineStep, more, stop, by_fault, step_by, before_by, vertex_step, order_fault}
-use Rattle.lists.specs.Steps.{looked_by, pair_of, with_numbers, edge_step}
+use Rattle.lists.specs.Steps.{before_of, lines_at, counted, step_by, vertex_step, order_fault, looked_by, with_numbers, edge_step}
 
--- ---- too many lines come before any other fault
-module _ (most k n : ℕ) where
-  pub limit-over : most ≤ k → 1 ≡ cond (leb most k) too_many n
-  limit-over h = rw (le-leb most k h)
+-- ---- one line more, by what is read at the reader's place
+module _ {A : Type 0} (file most : ℕ) (test : Before A → A → ℕ) (c : Lines A) (k : Cursor) where
+  -- the reader past a line that says v, where the test finds no fault
+  abbrev tested : A → Said (Option A × Lines A)
+  tested v = unless (test (before_of c.last) v) file (c.passed + 1) (gives (Some v, lines_at k.at (c.passed + 1) (Some v)))
 
-  pub limit-kept : k < most → n ≡ cond (leb most k) too_many n
-  limit-kept h = rw (lt-leb most k h)
+  counted_first : (x : Result A Fault) → step_by file most test c (reader_says k (Some x)) ≡ onward (counted file most c.passed x) tested
+  counted_first (Err f) = refl
+  counted_first (Ok v) = go (leb most c.passed)
+    where
+      go : (t : Bool)
+          → unless (cond t too_many (test (before_of c.last) v)) file (c.passed + 1)
+          (gives (Some v, lines_at k.at (c.passed + 1) (Some v)))
+          ≡ onward (cond t (refuses (at too_many file (c.passed + 1))) (gives v)) tested
+      go true = refl
+      go false = refl
 
--- the refusal of a line that is wrong by itself
-module _ (file most k n c : ℕ) (r : Refusal) where
-  pub bad-over : most ≤ k → r ≡ at too_many file (k + 1) → r ≡ bad_at file most k n c
-  bad-over h e = rw (le-leb most k h) e
+  by-count : (x : Result A Fault) (y : Said A) → y ≡ counted file most c.passed x
+      → onward y tested ≡ step_by file most test c (reader_says k (Some x))
+  by-count x y e = ap (λ z. onward z tested) e ∙ sym (counted_first x)
 
-  pub bad-here : k < most → r ≡ at_column n file (k + 1) c → r ≡ bad_at file most k n c
-  bad-here h e = rw (lt-leb most k h) e
-
--- ---- the fault of a vertex line
-module _ (most k : ℕ) (last z : ℤ) where
-  pub vertex-over : most ≤ k → 1 ≡ fault_of vertex_file most vertex_test k (before_by k last) z
-  vertex-over h = rw (le-leb most k h)
-
-  pub vertex-first : k < most → k ≡ 0 → 0 ≡ fault_of vertex_file most vertex_test k (before_by k last) z
-  vertex-first h e = rw (lt-leb most k h, e)
-
-  module _ (h : k < most) (d : k ≡ 0 → ⊥) where
-    later : vertex_test (before_by k last) z ≡ cond (lt_z last z) 0 not_above
-    later = rw (lt-ltb 0 k (omega arith))
-
-    -- the test t of two signed values x and y, which are the last number and this one
-    module _ (x y : ℤ) (p : x ≡ last) (q : y ≡ z) (t : Bool) (e : t ≡ lt_z x y) where
-      pub vertex-rises : t ≡ true → 0 ≡ fault_of vertex_file most vertex_test k (before_by k last) z
-      vertex-rises g = rw (lt-leb most k h, later, ← p, ← q, ← e, g)
-
-      pub vertex-falls : t ≡ false → 4 ≡ fault_of vertex_file most vertex_test k (before_by k last) z
-      vertex-falls g = rw (lt-leb most k h, later, ← p, ← q, ← e, g)
-
--- ---- the order of edge lines; a number that is handed on as another is marked
-module _ (undirected : Bool) (a b : ℤ) where
-  pub way-both : undirected ≡ true → (a' b' : ℤ) → a' ≡ a → b' ≡ b → (t : Bool) → t ≡ lt_z b' a' → t ≡ (undirected && lt_z b a)
-  way-both e a' b' p q t h = rw (e, ← p, ← q) h
-
-module _ (k : ℕ) (p q a b : ℤ) where
-  pub above-first : k ≡ 0 → true ≡ is_above (before_by k (p, q)) (a, b)
-  above-first e = rw e
-
-  module _ (d : k ≡ 0 → ⊥) (p' a' : ℤ) (hp : p' ≡ p) (ha : a' ≡ a) (t : Bool) (e : t ≡ lt_z p' a') where
-    pair : is_above (before_by k (p, q)) (a, b) ≡ (t || (same_z p a && lt_z q b))
-    pair = rw (lt-ltb 0 k (omega arith), e, hp, ha)
-
-    pub above-less : t ≡ true → true ≡ is_above (before_by k (p, q)) (a, b)
-    above-less f = rw (pair, f)
-
-    module _ (f : t ≡ false) (u : Bool) (g : u ≡ same_z p' a') where
-      second : is_above (before_by k (p, q)) (a, b) ≡ (u && lt_z q b)
-      second = rw (pair, f, g, hp, ha)
-
-      pub above-second : u ≡ true → (q' b' : ℤ) → q' ≡ q → b' ≡ b → (v : Bool) → v ≡ lt_z q' b' → v ≡ is_above (before_by k (p, q)) (a, b)
-      above-second h q' b' hq hb v o = rw (second, h, ← hq, ← hb) o
-
-      pub above-none : u ≡ false → false ≡ is_above (before_by k (p, q)) (a, b)
-      above-none h = rw (second, h)
-
-module _ (undirected : Bool) (k : ℕ) (p q a b a' b' : ℤ) (ha : a' ≡ a) (hb : b' ≡ b) (t : Bool) (e : t ≡ same_z a' b') where
-  self : same_z a b ≡ t
-  self = rw (← ha, ← hb) (sym e)
-
-  pub order-self : t ≡ true → 5 ≡ order_fault undirected (before_by k (p, q)) (a, b)
-  unfolding order_fault
-  order-self f = rw (self, f)
-
-  module _ (f : t ≡ false) (u : Bool) (g : u ≡ (undirected && lt_z b' a')) where
-    way : (undirected && lt_z b a) ≡ u
-    way = rw (← ha, ← hb) (sym g)
-
-    pub order-way : u ≡ true → 6 ≡ order_fault undirected (before_by k (p, q)) (a, b)
-    unfolding order_fault
-    order-way h = rw (self, f, way, h)
-
-    module _ (h : u ≡ false) (p' q' : ℤ) (hp : p' ≡ p) (hq : q' ≡ q) (v : Bool) (o : v ≡ is_above (before_by k (p', q')) (a', b')) where
-      ordered : is_above (before_by k (p, q)) (a, b) ≡ v
-      ordered = rw (← hp, ← hq, ← ha, ← hb) (sym o)
-
-      pub order-rises : v ≡ true → 0 ≡ order_fault undirected (before_by k (p, q)) (a, b)
-      unfolding order_fault
-      order-rises j = rw (self, f, way, h, ordered, j)
-
-      pub order-falls : v ≡ false → 4 ≡ order_fault undirected (before_by k (p, q)) (a, b)
-      unfolding order_fault
-      order-falls j = rw (self, f, way, h, ordered, j)
-
--- ---- one line more, by what it says
-module _ {A : Type 0} (file most : ℕ) (test : Before A → A → ℕ) (k : ℕ) (before : Before A) where
-  by-bad : (n c p : ℕ) (r : Refusal) → r ≡ bad_at file most k n c → stop (refuses r) ≡ step_by file most test k before (fault n c p)
-  by-bad n c p r g = rw g
-
-  module _ (v : A) (next f : ℕ) (e : f ≡ fault_of file most test k before v) where
-    by-more : f ≡ 0 → more v next (k + 1) ≡ step_by file most test k before (line v next)
-    by-more z = rw (← e, z)
-
-    by-fault : (f ≡ 0 → ⊥) → (r : Refusal) → r ≡ at f file (k + 1) → stop (refuses r) ≡ step_by file most test k before (line v next)
-    by-fault d r g = rw (← e, g) (go f d)
-      where
-        go : (f : ℕ) → (f ≡ 0 → ⊥) → stop (refuses (at f file (k + 1))) ≡ by_fault file most test k v next f
-        go zero d = absurd (d refl)
-        go (suc n) d = refl
-
-module _ (s : List ℕ) (most : ℕ) (c : Vertices) (x : VertexLine) (e : vertex_says x ≡ vertex_line s c.at.at) where
-  by : (y : VertexLine) → x ≡ y → step_by vertex_file most vertex_test c.lines (before_by c.lines c.last) (vertex_says y)
+-- ---- a vertex line
+module _ (s : List ℕ) (most : ℕ) (c : Lines ℤ) (k : Cursor) where
+  pub vertex-none : none k.at ≡ vertex_line s c.at.at → gives (None, record { at = k; passed = c.passed; last = c.last })
       ≡ vertex_step s most c
   unfolding vertex_step
-  by y q = ap (step_by vertex_file most vertex_test c.lines (before_by c.lines c.last)) (ap vertex_says (sym q) ∙ e)
+  vertex-none e = ap (step_by vertex_file most vertex_test c) e
 
-  pub vertex-end : (p : Cursor) → x ≡ VL.End p → stop (gives c.lines) ≡ vertex_step s most c
-  vertex-end p q = by (VL.End p) q
+  module _ (x : Result ℤ Fault) (e : reader_says k (Some x) ≡ vertex_line s c.at.at) where
+    by-vertex : (y : Said ℤ) → y ≡ counted vertex_file most c.passed x → onward y (tested vertex_file most vertex_test c k)
+        ≡ vertex_step s most c
+    unfolding vertex_step
+    by-vertex y h = by-count vertex_file most vertex_test c k x y h ∙ ap (step_by vertex_file most vertex_test c) e
 
-  pub vertex-bad : (n d : ℕ) (p : Cursor) → x ≡ VL.Fault n d p → (r : Refusal) → r ≡ bad_at vertex_file most c.lines n d
-      → stop (refuses r) ≡ vertex_step s most c
-  vertex-bad n d p q r h =
-      by-bad vertex_file most vertex_test c.lines (before_by c.lines c.last) n d p.at r h ∙ by (VL.Fault n d p) q
+    pub vertex-bad : (r : Refusal) → refuses r ≡ counted vertex_file most c.passed x → refuses r ≡ vertex_step s most c
+    vertex-bad r h = by-vertex (refuses r) h
 
-  -- the number z, handed on as y, the last one as l
-  module _ (z : ℤ) (p : Cursor) (q : x ≡ VL.Line z p) (y l : ℤ) (a : y ≡ z) (b : l ≡ c.last)
-      (f : ℕ) (g : f ≡ fault_of vertex_file most vertex_test c.lines (before_by c.lines l) y) where
-    faulted : f ≡ fault_of vertex_file most vertex_test c.lines (before_by c.lines c.last) z
-    faulted = g ∙ rw (a, b)
+    -- the number v, handed on as z
+    module _ (v : ℤ) (h : gives v ≡ counted vertex_file most c.passed x) (z : ℤ) (q : z ≡ v) (t : Bool)
+        (g : t ≡ eqb (vertex_test (before_of c.last) z) 0) where
+      pub vertex-fault : t ≡ false → (r : Refusal) → r ≡ at not_above vertex_file (c.passed + 1) → refuses r ≡ vertex_step s most c
+      vertex-fault f r o =
+          let n : vertex_test (before_of c.last) v ≡ 4 = low (before_of c.last) (rw q at (sym g ∙ f)) in
+          ap refuses o ∙ rw n at (by-vertex (gives v) h)
+        where
+          low : (b : Before ℤ) → eqb (vertex_test b v) 0 ≡ false → vertex_test b v ≡ 4
+          low first n = clash refl n
+          low (after y) n = go (lt_z y v) n
+            where
+              go : (t : Bool) → eqb (cond t 0 4) 0 ≡ false → ◌≡◌ {A = ℕ} (cond t 0 4) 4
+              go true n = clash refl n
+              go false n = refl
 
-    pub vertex-fault : (f ≡ 0 → ⊥) → (r : Refusal) → r ≡ at f vertex_file (c.lines + 1) → stop (refuses r) ≡ vertex_step s most c
-    vertex-fault d r h =
-        by-fault vertex_file most vertex_test c.lines (before_by c.lines c.last) z p.at f faulted d r h ∙ by (VL.Line z p) q
+      pub vertex-more : t ≡ true → gives (Some z, record { at = k; passed = c.passed + 1; last = Some z }) ≡ vertex_step s most c
+      vertex-more f =
+          let n : vertex_test (before_of c.last) v ≡ 0 = eqb-true (vertex_test (before_of c.last) v) 0 (rw q at (sym g ∙ f)) in
+          rw q (rw n at (by-vertex (gives v) h))
 
-    pub vertex-more : f ≡ 0 → more y p.at (c.lines + 1) ≡ vertex_step s most c
-    vertex-more o =
-        rw a (by-more vertex_file most vertex_test c.lines (before_by c.lines c.last) z p.at f faulted o ∙ by (VL.Line z p) q)
+-- ---- the order of an edge; a number that is handed on is marked
+module _ (undirected : Bool) (before : Before (ℤ × ℤ)) (e : ℤ × ℤ) where
+  pub order-self : to_z w64 (of_z w64 e.0) ≡ e.0 → to_z w64 (of_z w64 e.1) ≡ e.1 → of_z w64 e.0 ≡ of_z w64 e.1
+      → Some 5 ≡ order_fault undirected before e
+  unfolding order_fault
+  order-self p q h =
+      let n : e.0 ≡ e.1 = sym p ∙ ap (to_z w64) h ∙ q in
+      let m : same_z e.0 e.1 ≡ true = rw n (signed-order.same_refl e.1) in
+      rw m refl
+
+  module _ (d : of_z w64 e.0 ≡ of_z w64 e.1 → ⊥) where
+    apart : same_z e.0 e.1 ≡ false
+    apart = go (same_z e.0 e.1) refl
+      where
+        go : (t : Bool) → same_z e.0 e.1 ≡ t → same_z e.0 e.1 ≡ false
+        go true q = absurd (d (ap (of_z w64) (signed-order.same-eq e.0 e.1 q)))
+        go false q = q
+
+    pub order-way : undirected ≡ true → (b a : ℤ) → b ≡ e.1 → a ≡ e.0 → lt_z b a ≡ true → Some 6 ≡ order_fault undirected before e
+    unfolding order_fault
+    order-way u b a p q h = let m : lt_z e.1 e.0 ≡ true = rw (← p, ← q) h in rw (apart, u, m) refl
+
+    pub way-off : (b a : ℤ) → b ≡ e.1 → a ≡ e.0 → lt_z b a ≡ false → (undirected && lt_z e.1 e.0) ≡ false
+    way-off b a p q h = and-off undirected (lt_z e.1 e.0) (rw (← p, ← q) h)
+
+    module _ (w : (undirected && lt_z e.1 e.0) ≡ false) (t : Bool) (g : t ≡ is_above before e) where
+      pub order-rises : t ≡ true → None ≡ order_fault undirected before e
+      unfolding order_fault
+      order-rises h = let m : is_above before e ≡ true = sym g ∙ h in rw (apart, w, m) refl
+
+      pub order-falls : t ≡ false → Some 4 ≡ order_fault undirected before e
+      unfolding order_fault
+      order-falls h = let m : is_above before e ≡ false = sym g ∙ h in rw (apart, w, m) refl
 
 -- ---- the test of an edge: its order, then its vertices
+abbrev number_of : Option ℕ → ℕ → ℕ
+number_of None m = m
+number_of (Some n) m = n
+
 abbrev look_fault : Option Arc → ℕ
 look_fault (Some e) = 0
 look_fault None = 7
 
 test_by : (undirected : Bool) (place : ℤ → Option ℕ) (before : Before (ℤ × ℤ)) (e : ℤ × ℤ)
-    → edge_test undirected place before e ≡ or_else (order_fault undirected before e) (look_fault (looked_by (place e.0) (place e.1)))
+    → edge_test undirected place before e ≡ number_of (order_fault undirected before e) (look_fault (looked_by (place e.0) (place e.1)))
 unfolding edge_test order_fault
 test_by undirected place before e =
     go (same_z e.0 e.1) (undirected && lt_z e.1 e.0) (is_above before e) (place e.0) (place e.1)
   where
     go : (p q r : Bool) (x y : Option ℕ)
         → cond p 5 (cond q 6 (cond r (cond (is_there x && is_there y) 0 7) 4))
-        ≡ or_else (cond p 5 (cond q 6 (cond r 0 4))) (look_fault (looked_by x y))
+        ≡ number_of (cond p (Some 5) (cond q (Some 6) (cond r None (Some 4)))) (look_fault (looked_by x y))
     go true q r x y = refl
     go false true r x y = refl
     go false false false x y = refl
@@ -184,93 +142,67 @@ test_by undirected place before e =
     go false false true (Some u) None = refl
     go false false true (Some u) (Some v) = refl
 
--- a limit that is not passed, and no fault of order
-pub limit-none : (most k o : ℕ) → cond (leb most k) too_many o ≡ 0 → (leb most k ≡ false) × (o ≡ 0)
-limit-none most k o e = go (leb most k) refl e
+-- a fault of order is none of number 0
+faulted : {A : Type 0} (undirected : Bool) (before : Before (ℤ × ℤ)) (e : ℤ × ℤ) (n : ℕ) → order_fault undirected before e ≡ Some n
+    → (file k : ℕ) (x : Said A) → unless n file k x ≡ refuses (at n file k)
+unfolding order_fault
+faulted undirected before e n h file k x = go (same_z e.0 e.1) (undirected && lt_z e.1 e.0) (is_above before e) h
   where
-    go : (t : Bool) → leb most k ≡ t → cond t too_many o ≡ 0 → (leb most k ≡ false) × (o ≡ 0)
-    go true q h = absurd (let z : ⊥ = omega arith in z)
-    go false q h = (q, h)
+    go : (p q r : Bool) → cond p (Some 5) (cond q (Some 6) (cond r None (Some 4))) ≡ Some n → unless n file k x ≡ refuses (at n file k)
+    go true q r h = let m : 5 ≡ n = cc in rw (← m) refl
+    go false true r h = let m : 6 ≡ n = cc in rw (← m) refl
+    go false false true h = no-case cc
+    go false false false h = let m : 4 ≡ n = cc in rw (← m) refl
 
-module _ (undirected : Bool) (most : ℕ) (place : ℤ → Option ℕ) (s : List ℕ) (c : Edges) (x : EdgeLine)
-    (e : edge_says x ≡ edge_line s c.at.at) where
-  abbrev step : LineSaid (ℤ × ℤ) → LineStep (ℤ × ℤ)
-  step = step_by edge_file most (edge_test undirected place) c.lines (before_by c.lines (pair_of c))
+-- ---- an edge line
+module _ (undirected : Bool) (most : ℕ) (place : ℤ → Option ℕ) (s : List ℕ) (c : Lines (ℤ × ℤ)) (k : Cursor) where
+  abbrev step : Said (Option Arc × Lines (ℤ × ℤ))
+  step = with_numbers place (edge_step undirected most place s c)
 
-  by-edge : (y : EdgeLine) → x ≡ y → with_numbers place (step (edge_says y)) ≡ with_numbers place (edge_step undirected most place s c)
+  pub edge-none : none k.at ≡ edge_line s c.at.at → gives (None, record { at = k; passed = c.passed; last = c.last }) ≡ step
   unfolding edge_step
-  by-edge y q = ap (λ l. with_numbers place (step l)) (ap edge_says (sym q) ∙ e)
+  edge-none e = ap (λ y. with_numbers place (step_by edge_file most (edge_test undirected place) c y)) e
 
-  pub edge-end : (p : Cursor) → x ≡ EL.End p → stop (gives c.lines) ≡ with_numbers place (edge_step undirected most place s c)
-  edge-end p q = by-edge (EL.End p) q
+  module _ (x : Result (ℤ × ℤ) Fault) (e : reader_says k (Some x) ≡ edge_line s c.at.at) where
+    by-edge : (y : Said (ℤ × ℤ)) → y ≡ counted edge_file most c.passed x
+        → with_numbers place (onward y (tested edge_file most (edge_test undirected place) c k)) ≡ step
+    unfolding edge_step
+    by-edge y h =
+        ap (with_numbers place)
+        (by-count edge_file most (edge_test undirected place) c k x y h ∙ ap (step_by edge_file most (edge_test undirected place) c) e)
 
-  pub edge-bad : (n d : ℕ) (p : Cursor) → x ≡ EL.Fault n d p → (r : Refusal)
-      → r ≡ bad_at edge_file most c.lines n d
-      → stop (refuses r) ≡ with_numbers place (edge_step undirected most place s c)
-  edge-bad n d p q r h =
-      ap (with_numbers place)
-      (by-bad edge_file most (edge_test undirected place) c.lines (before_by c.lines (pair_of c)) n d p.at r h)
-      ∙ by-edge (EL.Fault n d p) q
+    pub edge-bad : (r : Refusal) → refuses r ≡ counted edge_file most c.passed x → refuses r ≡ step
+    edge-bad r h = by-edge (refuses r) h
 
-  -- the edge from a to b, handed on as a' and b', and the one before it
-  module _ (a b : ℤ) (p : Cursor) (q : x ≡ EL.Line a b p) (a' b' d' e' : ℤ) (ha : a' ≡ a) (hb : b' ≡ b) (hd : d' ≡ c.first)
-      (he : e' ≡ c.second)
-      (o : ℕ) (h : o ≡ order_fault undirected (before_by c.lines (d', e')) (a', b')) (f : ℕ)
-      (g : f ≡ cond (leb most c.lines) too_many o) where
-    abbrev before : Before (ℤ × ℤ)
-    before = before_by c.lines (pair_of c)
+    module _ (v : ℤ × ℤ) (h : gives v ≡ counted edge_file most c.passed x) where
+      by_test : (n : ℕ) → edge_test undirected place (before_of c.last) v ≡ n
+          → with_numbers place (unless n edge_file (c.passed + 1) (gives (Some v, lines_at k.at (c.passed + 1) (Some v)))) ≡ step
+      by_test n q = rw q at (by-edge (gives v) h)
 
-    abbrev line_fault : ℕ
-    line_fault = fault_of edge_file most (edge_test undirected place) c.lines before (a, b)
+      module _ (o : Option ℕ) (g : o ≡ order_fault undirected (before_of c.last) v) where
+        test-is : edge_test undirected place (before_of c.last) v ≡ number_of o (look_fault (looked_by (place v.0) (place v.1)))
+        test-is = test_by undirected place (before_of c.last) v ∙ rw g
 
-    order_is : order_fault undirected before (a, b) ≡ o
-    order_is = rw (← ha, ← hb, ← hd, ← he) (sym h)
+        pub edge-fault : (n : ℕ) → o ≡ Some n → (r : Refusal) → r ≡ at n edge_file (c.passed + 1) → refuses r ≡ step
+        edge-fault n q r j =
+            ap refuses j
+            ∙ ap (with_numbers place) (sym (faulted undirected (before_of c.last) v n (sym g ∙ q) edge_file (c.passed + 1)
+            (gives (Some v, lines_at k.at (c.passed + 1) (Some v)))))
+            ∙ by_test n (test-is ∙ ap (λ p. number_of p (look_fault (looked_by (place v.0) (place v.1)))) q)
 
-    tested : edge_test undirected place before (a, b) ≡ or_else o (look_fault (looked_by (place a) (place b)))
-    tested = test_by undirected place before (a, b) ∙ rw order_is
+        module _ (q : o ≡ None) (y : Option Arc) (w : y ≡ looked_by (place v.0) (place v.1)) where
+          pub edge-unknown : y ≡ None → (r : Refusal) → r ≡ at 7 edge_file (c.passed + 1) → refuses r ≡ step
+          edge-unknown u r j =
+              ap refuses j ∙ by_test 7 (test-is ∙ ap (λ p. number_of p (look_fault (looked_by (place v.0) (place v.1)))) q
+              ∙ ap look_fault (sym w ∙ u))
 
-    pub edge-fault : (f ≡ 0 → ⊥) → (r : Refusal) → r ≡ at f edge_file (c.lines + 1)
-        → stop (refuses r) ≡ with_numbers place (edge_step undirected most place s c)
-    edge-fault d r j =
-        ap (with_numbers place) (by-fault edge_file most (edge_test undirected place) c.lines before (a, b) p.at f same d r j)
-        ∙ by-edge (EL.Line a b p) q
-      where
-        go : (t : Bool) (m : ℕ) → (cond t too_many o ≡ 0 → ⊥) → cond t too_many o ≡ cond t too_many (or_else o m)
-        go true m d = refl
-        go false m d = by o d
-          where
-            by : (o : ℕ) → (o ≡ 0 → ⊥) → o ≡ or_else o m
-            by zero d = absurd (d refl)
-            by (suc n) d = refl
-
-        same : f ≡ line_fault
-        same = g ∙ rw tested (go (leb most c.lines) (look_fault (looked_by (place a) (place b))) (λ z. d (g ∙ z)))
-
-    module _ (z : f ≡ 0) (y : Option Arc) (w : y ≡ looked_by (place a') (place b')) where
-      looked : looked_by (place a) (place b) ≡ y
-      looked = rw (← ha, ← hb) (sym w)
-
-      by-look : look_fault (y) ≡ line_fault
-      by-look = let n = limit-none most c.lines o (sym g ∙ z) in rw (tested, n.0, n.1, looked)
-
-      pub edge-unknown : y ≡ None → (r : Refusal) → r ≡ at 7 edge_file (c.lines + 1)
-          → stop (refuses r) ≡ with_numbers place (edge_step undirected most place s c)
-      edge-unknown u r j =
-          let l : 7 ≡ line_fault = ap look_fault (sym u) ∙ by-look in
-          ap (with_numbers place) (by-fault edge_file most (edge_test undirected place) c.lines before (a, b) p.at 7 l (λ i. omega arith)
-          r j)
-          ∙ by-edge (EL.Line a b p) q
-
-      pub edge_more : (u v : ℕ) → y ≡ Some (u, v)
-          → more ((a', b'), (u, v)) p.at (c.lines + 1) ≡ with_numbers place (edge_step undirected most place s c)
-      edge_more u v k =
-          let l : 0 ≡ line_fault = ap look_fault (sym k) ∙ by-look in
-          let n : numbered place (a, b) ≡ (u, v) = numbers (place a) (place b) (looked ∙ k) in
-          rw (ha, hb, ← n) (ap (with_numbers place)
-          (by-more edge_file most (edge_test undirected place) c.lines before (a, b) p.at 0 l refl)
-          ∙ by-edge (EL.Line a b p) q)
-        where
-          numbers : (x y : Option ℕ) → looked_by x y ≡ Some (u, v) → ◌≡◌ {A = ℕ × ℕ} (vertex_number x, vertex_number y) (u, v)
-          numbers (Some i) (Some j) h = cc
-          numbers (Some i) None h = no-case cc
-          numbers None y h = no-case cc
+          pub edge_more : (a : Arc) → y ≡ Some a → gives (Some a, record { at = k; passed = c.passed + 1; last = Some v }) ≡ step
+          edge_more a u =
+              let n : numbered place v ≡ a = numbers (place v.0) (place v.1) (sym w ∙ u) in
+              rw (← n) (by_test 0 (test-is ∙ ap (λ p. number_of p (look_fault (looked_by (place v.0) (place v.1)))) q
+              ∙ ap look_fault (sym w ∙ u)))
+            where
+              numbers : (x y : Option ℕ) → looked_by x y ≡ Some a → ◌≡◌ {A = ℕ × ℕ} (vertex_number x, vertex_number y) a
+              numbers (Some i) (Some j) h = cc
+              numbers (Some i) None h = no-case cc
+              numbers None y h = no-case cc

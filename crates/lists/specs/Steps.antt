@@ -1,50 +1,48 @@
 -- What the loops over a file's lines do with one line, and what they keep.
-use Rattle.std.specs.Prelude.{Option, Some, None, ℕ, Result, Ok, Err, zero, suc, ◌+◌, Bool, cond, ◌&&◌, List, ℤ, length, ltb}
+use Rattle.std.specs.Prelude.{Option, Some, None, ℕ, Result, Ok, Err, ◌+◌, Bool, cond, ◌&&◌, List, ℤ, length, leb}
 use Rattle.std.proofs.lemmas.List.Edits.{sets}
 use Rattle.std.specs.Int.Signed.{lt_z}
 use Rattle.basis.specs.declared.refusal.Refusal.{Refusal}
-use Rattle.basis.specs.Refusal.{Said, said, gives, refuses, at, mapped, not_above, self_edge, larger_first, vertex_file, edge_file}
+use Rattle.basis.specs.Refusal.{Said, gives, refuses, at, mapped, too_many, not_above, self_edge, larger_first, vertex_file, edge_file}
 use Rattle.basis.specs.Order.{same_z}
+use Rattle.text.specs.declared.line.Fault.{Fault}
 use Rattle.text.specs.Line.{LineSaid, line, none, fault, vertex_line, edge_line}
-use Rattle.text.specs.File.{Before, first, after, fault_of, bad_at}
+use Rattle.text.specs.File.{Before, first, after, unless, fault_of, bad_at}
 use Rattle.graph.specs.Arcs.{Arc, seconds, bumps}
-use Rattle.lists.specs.declared.vertices.Vertices.{Vertices}
-use Rattle.lists.specs.declared.vertices.VertexStep.{VertexStep}
-use Rattle.lists.specs.declared.vertices.VertexStep.TheVariants as VS
-use Rattle.lists.specs.declared.edges.Edges.{Edges}
-use Rattle.lists.specs.declared.edges.EdgeStep.{EdgeStep}
-use Rattle.lists.specs.declared.edges.EdgeStep.TheVariants as ES
+use Rattle.lists.specs.declared.Lines.{Lines}
 use Rattle.lists.specs.Files.{vertex_test, is_above, edge_test, edges_of, numbered, all_numbered}
 
--- a line more: its values, the place past it and the lines so far; or the end of the reading
-pub data LineStep (A : Type 0) : Type 0 where
-  more : A → ℕ → ℕ → LineStep A
-  stop : Said ℕ → LineStep A
+-- what stands before a reader's next line, by the last that it passed
+abbrev pub before_of : {A : Type 0} → Option A → Before A
+before_of None = first
+before_of (Some v) = after v
+
+-- a reader at a place, which passed k lines
+abbrev pub lines_at : {A : Type 0} → ℕ → ℕ → Option A → Lines A
+lines_at place k last = record { at = record { at = place }; passed = k; last = last }
+
+-- what a line says after k others, by what is read of it: 1 before a fault of form or range
+abbrev pub counted : {A : Type 0} → ℕ → ℕ → ℕ → Result A Fault → Said A
+counted file most k (Ok v) = cond (leb most k) (refuses (at too_many file (k + 1))) (gives v)
+counted file most k (Err f) = refuses (bad_at file most k f.number f.column)
 
 module _ {A : Type 0} (file most : ℕ) (test : Before A → A → ℕ) where
-  -- a line with values, by the number of its fault
-  abbrev pub by_fault : ℕ → A → ℕ → ℕ → LineStep A
-  by_fault k v next zero = more v next (k + 1)
-  by_fault k v next (suc n) = stop (refuses (at (suc n) file (k + 1)))
+  -- one line more, by what is read at the reader's place: its values or its fault, or none where no line is left; and the reader then
+  abbrev pub step_by : Lines A → LineSaid A → Said (Option A × Lines A)
+  step_by c (line v next) =
+      unless (fault_of file most test c.passed (before_of c.last) v) file (c.passed + 1)
+      (gives (Some v, lines_at next (c.passed + 1) (Some v)))
+  step_by c (none p) = gives (None, lines_at p c.passed c.last)
+  step_by c (fault n x p) = refuses (bad_at file most c.passed n x)
 
-  -- after k lines, by what is read next: a line's values or its fault, or the count k where no line is left
-  abbrev pub step_by : ℕ → Before A → LineSaid A → LineStep A
-  step_by k before (line v next) = by_fault k v next (fault_of file most test k before v)
-  step_by k before (none p) = stop (gives k)
-  step_by k before (fault n c p) = stop (refuses (bad_at file most k n c))
-
--- the line before, of a reader that passed k lines
-abbrev pub before_by : {A : Type 0} → ℕ → A → Before A
-before_by k last = cond (ltb 0 k) (after last) first
+-- the code's answer with the reader as it stands then, or the refusal alone
+abbrev pub step_says : {A B : Type 0} → Lines A → Result (Option B) Refusal → Said (Option B × Lines A)
+step_says c (Ok x) = gives (x, c)
+step_says c (Err r) = refuses r
 
 -- one vertex line more, read at the reader's place and tested after the identifier that it passed last
-unfoldable pub vertex_step : List ℕ → ℕ → Vertices → LineStep ℤ
-vertex_step s most c = step_by vertex_file most vertex_test c.lines (before_by c.lines c.last) (vertex_line s c.at.at)
-
--- the code's answer as a step: the identifier, the place past its line and the lines so far, or the end of the reading
-abbrev pub vertex_step_says : VertexStep → LineStep ℤ
-vertex_step_says (VS.More d) = more d.last d.at.at d.lines
-vertex_step_says (VS.Stop r) = stop (said r)
+unfoldable pub vertex_step : List ℕ → ℕ → Lines ℤ → Said (Option ℤ × Lines ℤ)
+vertex_step s most c = step_by vertex_file most vertex_test c (vertex_line s c.at.at)
 
 -- what the identifiers leave behind: their count, and an area with them at its front, as far as there is room
 abbrev pub ids_into : List ℤ → ℕ → List ℤ → ℕ × List ℤ
@@ -55,14 +53,11 @@ abbrev pub ids_left : Result ℕ Refusal → List ℤ → Said (ℕ × List ℤ)
 ids_left (Ok n) area = gives (n, area)
 ids_left (Err r) area = refuses r
 
--- the edge that a reader passed last, by its two identifiers
-abbrev pub pair_of : Edges → ℤ × ℤ
-pair_of c = (c.first, c.second)
-
--- the fault of an edge whose vertices are not looked up yet
-unfoldable pub order_fault : Bool → Before (ℤ × ℤ) → ℤ × ℤ → ℕ
+-- the number of the fault of an edge whose vertices are not looked up yet
+unfoldable pub order_fault : Bool → Before (ℤ × ℤ) → ℤ × ℤ → Option ℕ
 order_fault undirected before e =
-    cond (same_z e.0 e.1) self_edge (cond (undirected && lt_z e.1 e.0) larger_first (cond (is_above before e) 0 not_above))
+    cond (same_z e.0 e.1) (Some self_edge)
+    (cond (undirected && lt_z e.1 e.0) (Some larger_first) (cond (is_above before e) None (Some not_above)))
 
 -- an edge's vertices where both are there, by what was found of its first end and of its second
 abbrev pub looked_by : Option ℕ → Option ℕ → Option Arc
@@ -70,25 +65,19 @@ looked_by (Some u) (Some v) = Some (u, v)
 looked_by (Some u) None = None
 looked_by None y = None
 
--- an edge's step with the numbers of its vertices beside its identifiers
-abbrev pub with_numbers : (ℤ → Option ℕ) → LineStep (ℤ × ℤ) → LineStep ((ℤ × ℤ) × Arc)
-with_numbers place (more e next k) = more (e, numbered place e) next k
-with_numbers place (stop r) = stop r
+-- an edge's step with the numbers of its vertices for its identifiers
+abbrev pub with_numbers : (ℤ → Option ℕ) → Said (Option (ℤ × ℤ) × Lines (ℤ × ℤ)) → Said (Option Arc × Lines (ℤ × ℤ))
+with_numbers place (gives (Some e, c)) = gives (Some (numbered place e), c)
+with_numbers place (gives (None, c)) = gives (None, c)
+with_numbers place (refuses r) = refuses r
 
 -- one edge line more, read at the reader's place and tested after the edge that it passed last
-unfoldable pub edge_step : Bool → ℕ → (ℤ → Option ℕ) → List ℕ → Edges → LineStep (ℤ × ℤ)
-edge_step undirected most place s c =
-    step_by edge_file most (edge_test undirected place) c.lines (before_by c.lines (pair_of c)) (edge_line s c.at.at)
+unfoldable pub edge_step : Bool → ℕ → (ℤ → Option ℕ) → List ℕ → Lines (ℤ × ℤ) → Said (Option (ℤ × ℤ) × Lines (ℤ × ℤ))
+edge_step undirected most place s c = step_by edge_file most (edge_test undirected place) c (edge_line s c.at.at)
 
 -- the same with the numbers of its vertices, which `place` finds
-abbrev pub numbered_step : Bool → ℕ → (ℤ → Option ℕ) → List ℕ → Edges → LineStep ((ℤ × ℤ) × Arc)
+abbrev pub numbered_step : Bool → ℕ → (ℤ → Option ℕ) → List ℕ → Lines (ℤ × ℤ) → Said (Option Arc × Lines (ℤ × ℤ))
 numbered_step undirected most place s c = with_numbers place (edge_step undirected most place s c)
-
--- the code's answer as a step: the edge by identifiers and by numbers, the place past its line and the lines so far, or the end of the
--- reading
-abbrev pub edge_step_says : EdgeStep → LineStep ((ℤ × ℤ) × Arc)
-edge_step_says (ES.More u v d) = more (pair_of d, (u, v)) d.at.at d.lines
-edge_step_says (ES.Stop r) = stop (said r)
 
 -- what edges leave behind: their count, one more for each at its first end, and an area with their second ends at its front, as far as
 -- there is room

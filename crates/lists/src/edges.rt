@@ -1,129 +1,78 @@
 // The edge file, line by line.
-ghost use Rattle.std.specs.Prelude.{◌≡◌, ◌&&◌, ◌+◌, ◌-◌, ◌<◌, ◌^◌, length, set};
-ghost use Rattle.std.specs.Int.Signed.{lt_z};
+ghost use Rattle.std.specs.Prelude.{◌≡◌, ◌-◌, ◌<◌, ◌^◌, length};
 ghost use Rattle.basis.specs.Area.{cleared};
 ghost use Rattle.basis.specs.Refusal.{said};
 ghost use Rattle.graph.specs.Find.{bisected};
 ghost use Rattle.lists.specs.Files.{is_above};
 ghost use Rattle.lists.specs.Calls.{edge_outcome, edge_call};
-ghost use Rattle.lists.specs.Steps.{before_by, order_fault, looked_by, numbered_step, edge_step_says, edges_scanned, edges_left};
+ghost use Rattle.lists.specs.Steps.{before_of, order_fault, looked_by, numbered_step, step_says, edges_scanned, edges_left};
 
-use crate::{bad_line, limited};
+use crate::{Lines, counted, put};
 use basis::Refusal;
 use basis::area::{clear, number_at};
-use basis::order::{less, same};
 use basis::refusal::{EDGE_FILE, LARGER_FIRST, NOT_ABOVE, SELF_EDGE, UNKNOWN_VERTEX};
 use graph::find::find;
-use text::line::{Cursor, EdgeLine};
+use text::line::Cursor;
 
-// A reader of edge lines: its place, the lines passed, and the ends of the last edge.
-#[derive(Clone, Copy)]
-struct Edges {
-    at: Cursor,
-    lines: usize,
-    first: i64,
-    second: i64,
-}
-
-// The numbers of an edge's vertices and the reader past its line, or how the reading ended.
-#[derive(Drop)]
-enum EdgeStep {
-    More(usize, usize, Edges),
-    Stop(Result<usize, Refusal>),
-}
-
-// Undirected, and the first number is the larger.
-fn wrong_way(undirected: bool, a: i64, b: i64) -> bool
-    ensures { result ≡ (undirected && lt_z b a) }
+// Whether an edge is above the one before it, if there is one.
+fn is_above(last: Option<(i64, i64)>, edge: (i64, i64)) -> bool
+    ensures { result ≡ is_above (before_of last) edge }
 {
-    if undirected {
-        return less(b, a);
+    let (a, b) = edge;
+    match last {
+        None => true,
+        Some((p, q)) => p < a || p == a && q < b,
     }
-    false
 }
 
-// Whether the edge from a to b is above the one from p to q that stood before it, if k lines did.
-fn is_above(k: usize, p: i64, q: i64, a: i64, b: i64) -> bool
-    ensures { result ≡ is_above (before_by k (p, q)) (a, b) }
+// The number of the fault of an edge in its order; its vertices are not looked up yet.
+fn order_fault(undirected: bool, last: Option<(i64, i64)>, edge: (i64, i64)) -> Option<usize>
+    ensures { result ≡ order_fault undirected (before_of last) edge }
 {
-    if k == 0 {
-        return true;
+    let (a, b) = edge;
+    if a == b {
+        return Some(SELF_EDGE);
     }
-    if less(p, a) {
-        return true;
+    if undirected && b < a {
+        return Some(LARGER_FIRST);
     }
-    if same(p, a) {
-        return less(q, b);
+    if is_above(last, edge) {
+        return None;
     }
-    false
+    Some(NOT_ABOVE)
 }
 
-// The fault of the edge from a to b after the one from p to q, or 0: its vertices are not looked up yet.
-fn order_fault(undirected: bool, k: usize, p: i64, q: i64, a: i64, b: i64) -> usize
-    ensures { result ≡ order_fault undirected (before_by k (p, q)) (a, b) }
+// The numbers of an edge's vertices, if both are there.
+fn look_up(ids: &[i64], edge: (i64, i64)) -> Option<(usize, usize)>
+    ensures { result ≡ looked_by (bisected ids.now edge.0) (bisected ids.now edge.1) }
 {
-    if same(a, b) {
-        return SELF_EDGE;
-    }
-    if wrong_way(undirected, a, b) {
-        return LARGER_FIRST;
-    }
-    if is_above(k, p, q, a, b) {
-        return 0;
-    }
-    NOT_ABOVE
-}
-
-// The numbers of the vertices of the edge from a to b, if both are there.
-fn look_up(ids: &[i64], a: i64, b: i64) -> Option<(usize, usize)>
-    ensures { result ≡ looked_by (bisected ids.now a) (bisected ids.now b) }
-{
+    let (a, b) = edge;
     Some((find(ids, a)?, find(ids, b)?))
 }
 
-// One edge line more.
-fn edge_step(s: &[u8], most: usize, undirected: bool, ids: &[i64], c: Edges) -> EdgeStep
-    requires { c.lines < 2 ^ 64 - 1 }
-    ensures { edge_step_says result ≡ numbered_step undirected most (bisected ids.now) s.now c }
+// One edge line more: the numbers of its vertices, or none where no line is left.
+fn next_edge(
+    lines: &mut Lines<(i64, i64)>,
+    s: &[u8],
+    most: usize,
+    undirected: bool,
+    ids: &[i64],
+) -> Result<Option<(usize, usize)>, Refusal>
+    requires { lines.now.passed < 2 ^ 64 - 1 }
+    ensures { step_says lines.new result ≡ numbered_step undirected most (bisected ids.now) s.now lines.old }
 {
-    let place = c.at;
-    let k = c.lines;
-    let line = place.edge(s);
-    match line {
-        EdgeLine::End(_) => EdgeStep::Stop(Ok(k)),
-        EdgeLine::Fault(n, column, _) => {
-            EdgeStep::Stop(Err(bad_line(EDGE_FILE, most, k, n, column)))
-        }
-        EdgeLine::Line(a, b, next) => {
-            let fault = limited(most, k, order_fault(undirected, k, c.first, c.second, a, b));
-            if fault != 0 {
-                return EdgeStep::Stop(Err(Refusal::at(fault, EDGE_FILE, k + 1)));
-            }
-            let joined = look_up(ids, a, b);
-            match joined {
-                None => EdgeStep::Stop(Err(Refusal::at(UNKNOWN_VERTEX, EDGE_FILE, k + 1))),
-                Some((u, v)) => EdgeStep::More(
-                    u,
-                    v,
-                    Edges {
-                        at: next,
-                        lines: k + 1,
-                        first: a,
-                        second: b,
-                    },
-                ),
-            }
-        }
+    let Some(line) = lines.at.edge(s) else {
+        return Ok(None);
+    };
+    let edge = counted(EDGE_FILE, most, lines.passed, line)?;
+    let number = lines.passed + 1;
+    if let Some(fault) = order_fault(undirected, lines.last, edge) {
+        return Err(Refusal::at(fault, EDGE_FILE, number));
     }
-}
-
-// A number is stored where there is room for it.
-fn put(area: &mut [usize], i: usize, value: usize)
-    ensures { area.new ≡ set area.old i value }
-{
-    if i < area.len() {
-        area[i] = value;
-    }
+    let ends = look_up(ids, edge).ok_or(Refusal::at(UNKNOWN_VERTEX, EDGE_FILE, number))?;
+    lines.passed = number;
+    lines.last = Some(edge);
+    Ok(Some(ends))
 }
 
 // The edges of an edge file, stored in two areas: one more for each in `counts` at its first end, the second ends in `targets`.
@@ -139,26 +88,17 @@ fn scan_edges(
     ensures { edges_left result counts.new targets.new
         ≡ edges_scanned undirected most (bisected ids.now) s.now counts.old targets.old }
 {
-    let mut c = Edges {
+    let mut lines = Lines {
         at: Cursor { at: 0 },
-        lines: 0,
-        first: 0,
-        second: 0,
+        passed: 0,
+        last: None,
     };
-    loop {
-        let step = edge_step(s, most, undirected, ids, c);
-        match step {
-            EdgeStep::More(u, v, next) => {
-                let degree = number_at(counts, u);
-                put(counts, u, degree + 1);
-                put(targets, c.lines, v);
-                c = next;
-            }
-            EdgeStep::Stop(out) => {
-                return out;
-            }
-        }
+    while let Some((u, v)) = next_edge(&mut lines, s, most, undirected, ids)? {
+        let degree = number_at(counts, u);
+        put(counts, u, degree + 1);
+        put(targets, lines.passed - 1, v);
     }
+    Ok(lines.passed)
 }
 
 // The edges of an edge file of at most so many lines between the vertices of a list that rises. `counts` holds how many edges begin at each
@@ -178,12 +118,9 @@ pub fn read_edges(
     clear(counts);
     clear(targets);
     let listed = scan_edges(s, most, undirected, ids, counts, targets);
-    match listed {
-        Ok(n) => Ok(n),
-        Err(r) => {
-            clear(counts);
-            clear(targets);
-            Err(r)
-        }
+    if listed.is_err() {
+        clear(counts);
+        clear(targets);
     }
+    listed
 }

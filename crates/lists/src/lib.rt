@@ -4,27 +4,43 @@
 pub mod edges;
 pub mod vertices;
 
-ghost use Rattle.std.specs.Prelude.{◌≡◌, cond, ◌-◌, ◌<◌, ◌^◌, leb};
-ghost use Rattle.basis.specs.Refusal.{too_many};
-ghost use Rattle.text.specs.File.{bad_at};
+ghost use Rattle.std.specs.Prelude.{◌≡◌, ◌-◌, ◌<◌, ◌^◌, set};
+ghost use Rattle.basis.specs.Refusal.{said};
+ghost use Rattle.lists.specs.Steps.{counted};
 
 use basis::Refusal;
 use basis::refusal::TOO_MANY;
+use text::line::{Cursor, Fault};
 
-// The refusal of a line after k others of a file, by the number and the column of its form or range: too many lines come before it.
-pub(crate) fn bad_line(file: usize, most: usize, k: usize, number: usize, column: usize) -> Refusal
-    requires { k < 2 ^ 64 - 1 }
-    ensures { result ≡ bad_at file most k number column }
-{
-    if most <= k {
-        return Refusal::at(TOO_MANY, file, k + 1);
-    }
-    Refusal::at_column(number, file, k + 1, column)
+// A reader of a file's lines: its place, how many lines it passed, and what the last of them says.
+#[derive(Clone, Copy)]
+pub(crate) struct Lines<T> {
+    pub(crate) at: Cursor,
+    pub(crate) passed: usize,
+    pub(crate) last: Option<T>,
 }
 
-// The number of a fault after k lines: too many lines come before it.
-pub(crate) fn limited(most: usize, k: usize, number: usize) -> usize
-    ensures { result ≡ cond (leb most k) too_many number }
+// What a line says after k others of a file: too many lines come before a fault of its form or range.
+pub(crate) fn counted<T: Copy>(
+    file: usize,
+    most: usize,
+    k: usize,
+    line: Result<T, Fault>,
+) -> Result<T, Refusal>
+    requires { k < 2 ^ 64 - 1 }
+    ensures { said result ≡ counted file most k line }
 {
-    if most <= k { TOO_MANY } else { number }
+    if most <= k {
+        return Err(Refusal::at(TOO_MANY, file, k + 1));
+    }
+    line.map_err(|fault| Refusal::at_column(fault.number, file, k + 1, fault.column))
+}
+
+// A value is stored where there is room for it.
+pub(crate) fn put<T: Copy>(area: &mut [T], i: usize, value: T)
+    ensures { area.new ≡ set area.old i value }
+{
+    if i < area.len() {
+        area[i] = value;
+    }
 }

@@ -6,7 +6,7 @@ use Rattle.lists.proofs.edges.scan_edges.Given as goal
 
 abbrev pub invariant-loop-u : goal.invariant-loop-u
 invariant-loop-u l =
-    Gathering l.s l.most l.undirected (bisected l.ids) l.initial.counts l.initial.targets l.c l.counts l.targets
+    Gathering l.s l.most l.undirected (bisected l.ids) l.initial.counts l.initial.targets l.lines l.counts l.targets
 
 abbrev pub decreases-loop-u : goal.decreases-loop-u
-decreases-loop-u l = length l.s - l.c.at.at
+decreases-loop-u l = length l.s - l.lines.at.at

@@ -3,8 +3,8 @@ use Prim.Native.Nat.{◌-◌}
 use lib.ListN.{length}
 use Rattle.lists.proofs.vertices.scan_vertices.Given as goal
 
-abbrev pub invariant-loop-next : goal.invariant-loop-next
-invariant-loop-next l = Listing l.s l.most l.initial.ids l.c l.ids
+abbrev pub invariant-loop-z : goal.invariant-loop-z
+invariant-loop-z l = Listing l.s l.most l.initial.ids l.lines l.ids
 
-abbrev pub decreases-loop-next : goal.decreases-loop-next
-decreases-loop-next l = length l.s - l.c.at.at
+abbrev pub decreases-loop-z : goal.decreases-loop-z
+decreases-loop-z l = length l.s - l.lines.at.at
