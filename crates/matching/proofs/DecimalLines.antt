@@ -1,5 +1,5 @@
 -- What the loop over a claim's decimals keeps, and how it ends. Assumes nothing.
-use Rattle.std.specs.Prelude.{Option, Some, None, Result, Ok}
+use Rattle.std.specs.Prelude.{Option, Some, None, Result, Ok, Err}
 use mathlib.Core.Path.{◌≡◌, refl, sym, ap, ap₂, ◌∙◌}
 use mathlib.Core.Bool.{Bool, true, false, cond, ◌||◌}
 use mathlib.Core.List.{List, [], ◌∷◌, ◌++◌}
@@ -13,10 +13,12 @@ use mir.Syntax.{w64}
 use mir.Val.{to_z, of_z}
 use borrow.Author.Tests.{lt-ltb, le-ltb, eq-eqb, ne_eqb}
 use Rattle.basis.specs.Area.{cleared}
-use Rattle.basis.specs.Refusal.{gives, refuses, at_column, at, plain, no_room, too_many, claim_file}
+use Rattle.basis.specs.Refusal.{gives, refuses, at, plain, no_room, too_many, claim_file}
 use Rattle.basis.specs.declared.refusal.Refusal.{Refusal}
 use Rattle.basis.proofs.Tests.{failed, held, and-off}
-use Rattle.text.specs.Line.{line, none, fault, pair_form, decimal_form, coefficient_line}
+use Rattle.text.specs.Line.{line, pair_form, decimal_form, coefficient_line, coefficient_says}
+use Rattle.text.specs.declared.line.Cursor.{Cursor}
+use Rattle.text.specs.declared.line.Fault.{Fault}
 use Rattle.text.specs.File.{no_test}
 use Rattle.text.specs.declared.decimal.Decimal.{Decimal}
 use Rattle.text.proofs.Places.{coefficient-range, line-moves}
@@ -29,7 +31,7 @@ use Rattle.matching.specs.Cover.{failing_place, its_line_from, its_line, incompl
 use Rattle.matching.specs.Verdict.{verdict_of, says, judged_by}
 use Rattle.matching.specs.Calls.{near_within, far_within, fraction_in, fractions, no_decimal, room_in_three, told}
 use Rattle.matching.specs.Calls.{coefficients_call}
-use Rattle.matching.specs.Steps.{new_in, set_at, stray_step, lesser_fault, far_step, end_line, counted, reported_in, Reportable, JudgedOf}
+use Rattle.matching.specs.Steps.{Found, new_in, set_at, stray_step, lesser_fault, far_step, end_line, counted, reported_in, Reportable, JudgedOf}
 use Rattle.matching.proofs.FirstPlaces.{bits_back, failing-same, failing-bound, first-column}
 use Rattle.matching.proofs.Leasts.{failing-now}
 use Rattle.matching.proofs.Covering.{Grown, Recorded, recorded-none, grown, recorded-next, recorded-end, strays-bound, value-old, value-new}
@@ -178,42 +180,45 @@ module _ (most : ℕ) (ids : List ℤ) (nums dens s : List ℕ) where
         h.fars ∙ failing-same (near_yet ids nums dens h.done) (near_yet ids nums dens (h.done ++ ((id, d) ∷ []))) (length ids) 0
         (λ u a b. sym (yet-same id d u (rw (ids_more h.done (id, d)) (g.all u (omega arith)))))
 
-    -- the line at the place
-    pub decimals-end : {p : ℕ} → none p ≡ coefficient_line s place → (i : Option ℕ) → counted i ≡ end_line lines (length ids) k stray
-        → (j : judged.Verdict) → says (Ok j) ≡ gives (verdict_of (counted i) (reported_in lines far))
-        → JudgedOf most ids nums dens s width lines (says (Ok j))
-    decimals-end {p} e = ended (passed-end (pair_form decimal_form) claim_file most no_test s h.passed p (sym e))
+    -- what was found at the place
+    module _ (x : Option (Result (ℤ × Decimal) Fault)) (c : Cursor) (e : coefficient_says c x ≡ coefficient_line s place) where
+      pub decimals-end : {x' : Option (ℤ × Decimal)} → Found x k (Ok x') → x' ≡ None → (i : Option ℕ)
+          → counted i ≡ end_line lines (length ids) k stray
+          → (j : judged.Verdict) → says (Ok j) ≡ gives (verdict_of (counted i) (reported_in lines far))
+          → JudgedOf most ids nums dens s width lines (says (Ok j))
+      decimals-end f g =
+          let n : x ≡ None = rw g at f in
+          ended (passed-end (pair_form decimal_form) claim_file most no_test s h.passed c.at (sym e ∙ ap (coefficient_says c) n))
 
-    module _ (l : k < most) where
-      pub decimals-fault : {n b p : ℕ} → fault n b p ≡ coefficient_line s place → (r : Refusal) → r ≡ at_column n claim_file (k + 1) b
-          → JudgedOf most ids nums dens s width lines (refuses r)
-      unfolding judged_by
-      decimals-fault {n} {b} {p} e r q =
-          record {
-            tells = rw (passed-fault (pair_form decimal_form) claim_file most no_test s h.passed l n b p (sym e), q);
-            wide = h.recorded.wide;
-          }
+      module _ (l : k < most) where
+        pub decimals-fault : {r : Refusal} → Found x k (Err r) → {y : Result judged.Verdict Refusal} → y ≡ Err r
+            → JudgedOf most ids nums dens s width lines (says y)
+        unfolding judged_by
+        decimals-fault {r} f q =
+            let here = sym e ∙ ap (coefficient_says c) f.1 in
+            let p = passed-fault (pair_form decimal_form) claim_file most no_test s h.passed l f.0.number f.0.column c.at here in
+            rw q record { tells = rw (p, f.2); wide = h.recorded.wide }
 
-      pub decimals-next : (id : ℤ) (d : Decimal) (next : ℕ) → line (id, d) next ≡ coefficient_line s place → length ids ≤ width
-          → {r : Option ℕ} → r ≡ new_in lines (bisected ids (to_z w64 (of_z w64 id))) → {record' : List ℕ} → record' ≡ set_at lines r (k + 1)
-          → {f : ℕ} → f ≡ far_step nums dens r d far → {i : ℕ} → i ≡ stray_step r k stray
-          → Decimals most ids nums dens s width record' next (k + 1) i f
-      decimals-next id d next e wide {r} p t t' y =
-          record {
-            done = h.done ++ ((id, d) ∷ []);
-            passed = passed-next (pair_form decimal_form) claim_file most no_test s h.passed l (id, d) next here refl;
-            short =
-                let m = line-moves (pair_form decimal_form) s place (line (id, d) next) e (id, d) next refl in
-                omega (arith, h.passed.forward, m.forward, m.inside);
-            recorded = rw (ids_more h.done (id, d)) (recorded-next (bisected ids) h.recorded id wide (found_within ids id) new t y);
-            fars = t' ∙ far-next id d r (rw new (grown (bisected ids) h.recorded id (found_within ids id)));
-          }
-        where
-          here : coefficient_line s place ≡ line (id, d) next
-          here = sym e
+        pub decimals-next : {x' : Option (ℤ × Decimal)} → Found x k (Ok x') → (id : ℤ) (d : Decimal) → x' ≡ Some (id, d) → length ids ≤ width
+            → {r : Option ℕ} → r ≡ new_in lines (bisected ids (to_z w64 (of_z w64 id))) → {record' : List ℕ} → record' ≡ set_at lines r (k + 1)
+            → {f : ℕ} → f ≡ far_step nums dens r d far → {i : ℕ} → i ≡ stray_step r k stray
+            → Decimals most ids nums dens s width record' c.at (k + 1) i f
+        decimals-next f id d g wide {r} p t t' y =
+            record {
+              done = h.done ++ ((id, d) ∷ []);
+              passed = passed-next (pair_form decimal_form) claim_file most no_test s h.passed l (id, d) c.at here refl;
+              short =
+                  let m = line-moves (pair_form decimal_form) s place (line (id, d) c.at) (sym here) (id, d) c.at refl in
+                  omega (arith, h.passed.forward, m.forward, m.inside);
+              recorded = rw (ids_more h.done (id, d)) (recorded-next (bisected ids) h.recorded id wide (found_within ids id) new t y);
+              fars = t' ∙ far-next id d r (rw new (grown (bisected ids) h.recorded id (found_within ids id)));
+            }
+          where
+            here : coefficient_line s place ≡ line (id, d) c.at
+            here = let n : x ≡ Some (Ok (id, d)) = rw g at f in sym e ∙ ap (coefficient_says c) n
 
-          new : r ≡ new_in lines (bisected ids id)
-          new = p ∙ ap (λ (z : ℤ). new_in lines (bisected ids z)) (bits_back id (coefficient-range s place id d next here))
+            new : r ≡ new_in lines (bisected ids id)
+            new = p ∙ ap (λ (z : ℤ). new_in lines (bisected ids z)) (bits_back id (coefficient-range s place id d c.at here))
 
     -- no line more is allowed, or none is left
     module _ (m : k ≤ most) (l : most ≤ k) where

@@ -2,19 +2,17 @@
 use mathlib.Core.Path.{◌≡◌, refl, sym, ap, ap₂, ◌∙◌}
 use mathlib.Core.Bool.{Bool, true, false, cond}
 use mathlib.Core.List.{List, [], ◌∷◌}
-use Prim.Native.Nat.{ℕ, zero, suc, ◌+◌, ◌-◌, ◌^◌, ◌≤◌, ◌<◌, min}
+use Prim.Native.Nat.{ℕ, zero, suc, ◌+◌, ◌-◌, ◌^◌, ◌≤◌, ◌<◌}
 use native.Mathlib.Numerals.{add-one}
 use native.Mathlib.Omega.{arith}
 use lib.Dec.{leb}
 use lib.IntN.{ℤ}
 use lib.Signed.{mag}
-use lib.ListN.{length, get_or, drop, drop_of_length-le}
-use lib.Seq.{drop-cons}
+use lib.ListN.{length}
 use borrow.Author.Tests.{leb-true}
 use mir.Syntax.{w64}
 use mir.Val.{to_z, of_z, hbits}
 use mir.Facts.{to_z-of_z}
-use Rattle.basis.proofs.Orders.{leb-min}
 use Rattle.basis.proofs.Tests.{held, and_first, and_second}
 use Rattle.basis.specs.Scan.{or_else}
 use Rattle.basis.proofs.Scans.{or-more}
@@ -22,24 +20,6 @@ use Rattle.basis.specs.Area.{column}
 use Rattle.matching.specs.Cover.{failing_place}
 use Rattle.matching.specs.Verdict.{first_place}
 use Rattle.matching.specs.Calls.{room_in_three}
-
-drop-one : {A : Type 0} (x : A) (l : List A) (i : ℕ) → i < length l → drop i l ≡ get_or l i x ∷ drop (i + 1) l
-drop-one x l i h = drop-cons l i x h ∙ ap (λ (k : ℕ). get_or l i x ∷ drop k l) (sym (add-one i))
-
--- ---- two lists of one length, from place i on
-module _ {A B : Type 0} (alike : A → B → Bool) (x : A) (y : B) (a : List A) (b : List B) (e : length a ≡ length b) (i : ℕ) where
-  pub first-end : length a ≤ i → first_place alike (i + 1) (drop i a) (drop i b) ≡ 0
-  unfolding first_place
-  first-end h = let g : length b ≤ i = omega arith in rw (drop_of_length-le a h, drop_of_length-le b g)
-
-  pub first-here : i < length a → alike (get_or a i x) (get_or b i y) ≡ false → first_place alike (i + 1) (drop i a) (drop i b) ≡ i + 1
-  unfolding first_place
-  first-here h t = let g : i < length b = omega arith in rw (drop-one x a i h, drop-one y b i g, t)
-
-  pub first-later : i < length a → alike (get_or a i x) (get_or b i y) ≡ true
-      → first_place alike (i + 1) (drop i a) (drop i b) ≡ first_place alike (i + 1 + 1) (drop (i + 1) a) (drop (i + 1) b)
-  unfolding first_place
-  first-later h t = let g : i < length b = omega arith in rw (drop-one x a i h, drop-one y b i g, t)
 
 -- ---- the first of the places from i up to n that fails a test
 module _ (p : ℕ → Bool) (n i : ℕ) where
@@ -108,9 +88,6 @@ first-column alike f g (suc n) i =
 
 -- ---- three tests of room
 module _ (n first second third : ℕ) where
-  pub room-all : {m o : ℕ} → m ≡ min second third → o ≡ min first m → leb n o ≡ room_in_three n first second third
-  room-all p q = rw (q, p, leb-min n first (min second third), leb-min n second third)
-
   -- what the answer t of all tests says
   module _ {t : Bool} (e : t ≡ room_in_three n first second third) (f : t ≡ true) where
     pub room-first : n ≤ first

@@ -1,5 +1,5 @@
 -- What the loop over a claim's numbers keeps, and how it ends. Assumes nothing.
-use Rattle.std.specs.Prelude.{Option, Some, None, Ok, Err}
+use Rattle.std.specs.Prelude.{Option, Some, None, Ok, Err, Result}
 use mathlib.Core.Path.{◌≡◌, refl, sym, ap, ◌∙◌}
 use mathlib.Core.Bool.{Bool, true, false, not, cond}
 use mathlib.Core.List.{List, [], ◌∷◌, ◌++◌}
@@ -14,13 +14,15 @@ use mir.Syntax.{w64}
 use mir.Val.{to_z, of_z}
 use borrow.Author.Tests.{eq-eqb}
 use Rattle.basis.specs.Area.{cleared}
-use Rattle.basis.specs.Refusal.{gives, refuses, at_column, at, too_many, claim_file}
+use Rattle.basis.specs.Refusal.{gives, refuses, at, too_many, claim_file}
 use Rattle.basis.specs.Scan.{every}
 use Rattle.basis.specs.declared.refusal.Refusal.{Refusal}
 use Rattle.basis.proofs.Areas.{column-is}
 use Rattle.basis.proofs.Scans.{every-at}
 use Rattle.basis.proofs.Tests.{bool_cases, clash}
-use Rattle.text.specs.Line.{line, none, fault, edge_form, claim_line}
+use Rattle.text.specs.Line.{line, edge_form, claim_line, edge_says}
+use Rattle.text.specs.declared.line.Cursor.{Cursor}
+use Rattle.text.specs.declared.line.Fault.{Fault}
 use Rattle.text.specs.File.{no_test}
 use Rattle.text.proofs.Places.{edge-range, line-moves}
 use Rattle.text.proofs.Files.{Passed, passed_none, passed-next, passed-end, passed-fault, passed-full, passed_over}
@@ -28,7 +30,7 @@ use Rattle.graph.specs.Find.{bisected}
 use Rattle.graph.proofs.Finds.{bisected-below}
 use Rattle.matching.specs.Claim.{number_lines, ids_of}
 use Rattle.matching.specs.Cover.{its_line_from, its_line, value_of}
-use Rattle.matching.specs.Steps.{new_in, set_at, FoundBelow, stray_step, is_recorded, end_line, counted, ReadOf}
+use Rattle.matching.specs.Steps.{Found, new_in, set_at, FoundBelow, stray_step, is_recorded, end_line, counted, ReadOf}
 use Rattle.matching.proofs.FirstPlaces.{bits_back}
 use Rattle.matching.proofs.Covering.{Grown, Recorded, recorded-none, grown, recorded-next, recorded-end, strays-bound, value-old, value-new}
 use Rattle.matching.proofs.Readings.{ids_more, ids-length}
@@ -155,43 +157,45 @@ module _ (most : ℕ) (ids : List ℤ) (s : List ℕ) where
     kept_next (Some w) v = length-set claimed w v ∙ h.kept
     kept_next None v = h.kept
 
-    -- the line at the place
-    pub numbers-end : {p : ℕ} → none p ≡ claim_line s place → {i : Option ℕ} → counted i ≡ end_line lines (length ids) k stray
-        → ReadOf most ids s size width claimed lines (Ok i)
-    numbers-end {p} e = ended (passed-end edge_form claim_file most no_test s h.passed p (sym e))
+    -- what was found at the place
+    module _ (x : Option (Result (ℤ × ℤ) Fault)) (c : Cursor) (e : edge_says c x ≡ claim_line s place) where
+      pub numbers-end : {x' : Option (ℤ × ℤ)} → Found x k (Ok x') → x' ≡ None → {i : Option ℕ}
+          → counted i ≡ end_line lines (length ids) k stray → ReadOf most ids s size width claimed lines (Ok i)
+      numbers-end f g = let n : x ≡ None = rw g at f in ended (passed-end edge_form claim_file most no_test s h.passed c.at (sym e ∙ ap (edge_says c) n))
 
-    module _ (l : k < most) where
-      pub numbers-fault : {n d p : ℕ} → fault n d p ≡ claim_line s place → {r : Refusal} → r ≡ at_column n claim_file (k + 1) d
-          → ReadOf most ids s size width claimed lines (Err r)
-      numbers-fault {n} {d} {p} e q =
-          record {
-            tells = passed-fault edge_form claim_file most no_test s h.passed l n d p (sym e) ∙ ap refuses (sym q);
-            kept = h.kept;
-            wide = h.recorded.wide;
-          }
+      module _ (l : k < most) where
+        pub numbers-fault : {r : Refusal} → Found x k (Err r) → {y : Result (Option ℕ) Refusal} → y ≡ Err r
+            → ReadOf most ids s size width claimed lines y
+        numbers-fault f q =
+            rw q record {
+              tells = passed-fault edge_form claim_file most no_test s h.passed l f.0.number f.0.column c.at
+                  (sym e ∙ ap (edge_says c) f.1) ∙ ap refuses (sym f.2);
+              kept = h.kept;
+              wide = h.recorded.wide;
+            }
 
-      pub numbers-next : (id v : ℤ) (next : ℕ) → line (id, v) next ≡ claim_line s place → length ids ≤ width
-          → {r : Option ℕ} → r ≡ new_in lines (bisected ids (to_z w64 (of_z w64 id))) → {record' : List ℕ} → record' ≡ set_at lines r (k + 1)
-          → {left : List ℤ} → left ≡ set_at claimed r (to_z w64 (of_z w64 v)) → {i : ℕ} → i ≡ stray_step r k stray
-          → Numbers most ids s size width left record' next (k + 1) i
-      numbers-next id v next e wide {r} p t t' y =
-          record {
-            done = h.done ++ ((id, v) ∷ []);
-            passed = passed-next edge_form claim_file most no_test s h.passed l (id, v) next here refl;
-            short =
-                let m = line-moves edge_form s place (line (id, v) next) e (id, v) next refl in
-                omega (arith, h.passed.forward, m.forward, m.inside);
-            recorded = rw (ids_more h.done (id, v)) (recorded-next (bisected ids) h.recorded id wide (found_within ids id) new t y);
-            kept = rw t' (kept_next r (to_z w64 (of_z w64 v)));
-            stored = rw (ids_more h.done (id, v), t', bits_back v (edge-range s place id v next here).1)
-                (stored_next id v r (rw new (grown (bisected ids) h.recorded id (found_within ids id))));
-          }
-        where
-          here : claim_line s place ≡ line (id, v) next
-          here = sym e
+        pub numbers-next : {x' : Option (ℤ × ℤ)} → Found x k (Ok x') → (id v : ℤ) → x' ≡ Some (id, v) → length ids ≤ width
+            → {r : Option ℕ} → r ≡ new_in lines (bisected ids (to_z w64 (of_z w64 id))) → {record' : List ℕ} → record' ≡ set_at lines r (k + 1)
+            → {left : List ℤ} → left ≡ set_at claimed r (to_z w64 (of_z w64 v)) → {i : ℕ} → i ≡ stray_step r k stray
+            → Numbers most ids s size width left record' c.at (k + 1) i
+        numbers-next f id v g wide {r} p t t' y =
+            record {
+              done = h.done ++ ((id, v) ∷ []);
+              passed = passed-next edge_form claim_file most no_test s h.passed l (id, v) c.at here refl;
+              short =
+                  let m = line-moves edge_form s place (line (id, v) c.at) (sym here) (id, v) c.at refl in
+                  omega (arith, h.passed.forward, m.forward, m.inside);
+              recorded = rw (ids_more h.done (id, v)) (recorded-next (bisected ids) h.recorded id wide (found_within ids id) new t y);
+              kept = rw t' (kept_next r (to_z w64 (of_z w64 v)));
+              stored = rw (ids_more h.done (id, v), t', bits_back v (edge-range s place id v c.at here).1)
+                  (stored_next id v r (rw new (grown (bisected ids) h.recorded id (found_within ids id))));
+            }
+          where
+            here : claim_line s place ≡ line (id, v) c.at
+            here = let n : x ≡ Some (Ok (id, v)) = rw g at f in sym e ∙ ap (edge_says c) n
 
-          new : r ≡ new_in lines (bisected ids id)
-          new = p ∙ ap (λ (z : ℤ). new_in lines (bisected ids z)) (bits_back id (edge-range s place id v next here).0)
+            new : r ≡ new_in lines (bisected ids id)
+            new = p ∙ ap (λ (z : ℤ). new_in lines (bisected ids z)) (bits_back id (edge-range s place id v c.at here).0)
 
     -- no line more is allowed, or none is left
     module _ (m : k ≤ most) (l : most ≤ k) where

@@ -1,10 +1,11 @@
 -- What private functions say of their work: the lines of a claim one by one.
 use Rattle.std.specs.Prelude.{ℕ, zero, suc, ◌+◌, ◌<◌, ◌≤◌, min, ◌≡◌, Bool, not, cond, List, ℤ, pos, length, get_or, take, set, eqb, ◌-◌, ◌^◌, ◌≢◌, Option, Some, None, Result, Ok, Err}
-use Rattle.basis.specs.Refusal.{Said, gives, refuses}
+use Rattle.basis.specs.Refusal.{Said, gives, refuses, at_column, claim_file}
 use Rattle.basis.specs.declared.refusal.Refusal.{Refusal}
 use Rattle.basis.specs.Scan.{every, or_else}
 use Rattle.graph.specs.Find.{bisected}
 use Rattle.matching.specs.declared.numbers.Rule.{Rule}
+use Rattle.text.specs.declared.line.Fault.{Fault}
 use Rattle.text.specs.declared.decimal.Decimal.{Decimal}
 use Rattle.matching.specs.Calls.{near_within, fraction_in, coefficients_judged}
 use Rattle.matching.specs.Claim.{number_lines, ids_of}
@@ -15,6 +16,12 @@ use Rattle.matching.specs.Verdict.{Verdict, mismatch_vertex, verdict_of}
 abbrev pub counted : Option ℕ → ℕ
 counted None = 0
 counted (Some i) = suc i
+
+-- what is found after k lines: what the reader has said, the end or a line, or a refusal at its fault
+abbrev pub Found : {A : Type 0} → Option (Result A Fault) → ℕ → Result (Option A) Refusal → Type 0
+Found said k (Ok None) = said ≡ None
+Found said k (Ok (Some x)) = said ≡ Some (Ok x)
+Found said k (Err r) = (f : Fault) × (said ≡ Some (Err f)) × (r ≡ at_column f.number claim_file (k + 1) f.column)
 
 -- what is found is a vertex that the record of claim lines has no line for, or is missing
 abbrev pub new_in : List ℕ → Option ℕ → Option ℕ

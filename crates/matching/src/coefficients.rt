@@ -8,7 +8,7 @@ ghost use Rattle.matching.specs.Steps.{counted, FoundBelow, far_step, JudgedOf};
 use crate::close::close;
 use crate::judged::Verdict;
 use crate::numbers::{has_room, verdict_of};
-use crate::reading::{ended, recorded, strayed};
+use crate::reading::{ended, found, recorded, strayed};
 use basis::Refusal;
 use basis::area::clear;
 use basis::refusal::{CLAIM_FILE, NO_ROOM, TOO_MANY};
@@ -46,6 +46,7 @@ fn measured(
 }
 
 // All lines are read, whatever is found in them, since a fault in a later one comes first. `lines` is zero before.
+// Stays: read_numbers is like it. What both do with a line is in found, recorded, strayed and ended; the rest is each one's own step.
 fn read_coefficients(
     most: usize,
     ids: &[i64],
@@ -64,17 +65,12 @@ fn read_coefficients(
     let mut stray = None;
     let mut far = None;
     for k in 0..most {
-        match cursor.coefficient_claim(claim) {
-            None => return Ok(verdict_of(ended(lines, n, k, stray), far, lines)),
-            Some(Err(fault)) => {
-                return Err(Refusal::at_column(fault.number, CLAIM_FILE, k + 1, fault.column));
-            }
-            Some(Ok((id, s))) => {
-                let vertex = recorded(ids, lines, k, id);
-                far = measured(numerators, denominators, vertex, s, far);
-                stray = strayed(vertex, k, stray);
-            }
-        }
+        let Some((id, s)) = found(cursor.coefficient_claim(claim), k)? else {
+            return Ok(verdict_of(ended(lines, n, k, stray), far, lines));
+        };
+        let vertex = recorded(ids, lines, k, id);
+        far = measured(numerators, denominators, vertex, s, far);
+        stray = strayed(vertex, k, stray);
     }
     if cursor.at < claim.len() {
         return Err(Refusal::at(TOO_MANY, CLAIM_FILE, most + 1));

@@ -79,7 +79,7 @@ fn judged_on(
 pub(crate) fn has_room(n: usize, first: usize, second: usize, third: usize) -> bool
     ensures { result ≡ room_in_three n first second third }
 {
-    n <= first.min(second.min(third))
+    n <= first && n <= second && n <= third
 }
 
 // A claim of at most so many lines, on vertices with these identifiers; `claimed` and `lines` are working areas.

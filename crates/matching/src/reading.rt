@@ -2,14 +2,28 @@
 ghost use Rattle.std.specs.Prelude.{◌≡◌, ◌+◌, ◌-◌, ◌^◌, ◌<◌, ◌≤◌, length};
 ghost use Rattle.basis.specs.Area.{cleared};
 ghost use Rattle.graph.specs.Find.{bisected};
-ghost use Rattle.matching.specs.Steps.{counted, new_in, set_at, FoundBelow, stray_step, end_line, ReadOf};
+ghost use Rattle.matching.specs.Steps.{counted, Found, new_in, set_at, FoundBelow, stray_step, end_line, ReadOf};
 
 use basis::Refusal;
 use basis::refusal::{CLAIM_FILE, TOO_MANY};
 use graph::find::find;
-use text::Cursor;
+use text::{Cursor, Fault};
+
+// What the reader has found after k lines: a line, or the end; or it refuses the line at its fault.
+pub(crate) fn found<T>(line: Option<Result<T, Fault>>, k: usize) -> Result<Option<T>, Refusal>
+    requires { k < 2 ^ 64 - 1 }
+    ensures { Found line k result }
+{
+    line.transpose().map_err(|fault| Refusal::at_column(
+        fault.number,
+        CLAIM_FILE,
+        k + 1,
+        fault.column,
+    ))
+}
 
 // The line after k others names id: its vertex, if it is one that no earlier line names, has this claim line from now on.
+// Stays: 0 stands for no line in the record, since `judge_numbers` promises of this lent area that it is zero before and after.
 pub(crate) fn recorded(ids: &[i64], lines: &mut [usize], k: usize, id: i64) -> Option<usize>
     requires { (length ids.now ≤ length lines.old) × (k < 2 ^ 64 - 1) }
     ensures value { result ≡ new_in lines.old (bisected ids.now id) }
@@ -72,17 +86,12 @@ pub(crate) fn read_numbers(
     let mut cursor = Cursor { at: 0 };
     let mut stray = None;
     for k in 0..most {
-        match cursor.claim(claim) {
-            None => return Ok(ended(lines, n, k, stray)),
-            Some(Err(fault)) => {
-                return Err(Refusal::at_column(fault.number, CLAIM_FILE, k + 1, fault.column));
-            }
-            Some(Ok((id, value))) => {
-                let vertex = recorded(ids, lines, k, id);
-                keep(claimed, vertex, value);
-                stray = strayed(vertex, k, stray);
-            }
-        }
+        let Some((id, value)) = found(cursor.claim(claim), k)? else {
+            return Ok(ended(lines, n, k, stray));
+        };
+        let vertex = recorded(ids, lines, k, id);
+        keep(claimed, vertex, value);
+        stray = strayed(vertex, k, stray);
     }
     if cursor.at < claim.len() {
         return Err(Refusal::at(TOO_MANY, CLAIM_FILE, most + 1));

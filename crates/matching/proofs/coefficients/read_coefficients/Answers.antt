@@ -1,4 +1,5 @@
-use mathlib.Core.Path.{refl}
+use Rattle.std.specs.Prelude.{Err}
+use mathlib.Core.Path.{◌≡◌, refl}
 use native.Mathlib.Omega.{arith}
 use borrow.Author.Rules.{rules}
 use Rattle.matching.proofs.NumberLines.{named-within}
@@ -13,18 +14,21 @@ pub verdict_of-requires : goal.verdict_of-requires
 verdict_of-requires c =
     decimals-reportable _ _ _ _ _ c.loop-k.invariant c.requires.ids_in_bounds_2.0 (omega arith) _ refl _ _ c.ended.ensures refl
 
-pub returns-in-None : goal.returns-in-None
-returns-in-None c = search (decimals-end, c.in-None.ensures)
+pub returns-in_err-id : goal.returns-in_err-id
+returns-in_err-id c =
+    let e : c.from_residual.result ≡ Err c.in_err-id.field-0.0 = search rules in
+    decimals-fault _ _ _ _ _ c.loop-k.invariant _ _ c.coefficient_claim.ensures c.loop-k-test.true c.in_err-id.ensures e
 
-pub returns-in-Some-Err : goal.returns-in-Some-Err
-returns-in-Some-Err c =
-    decimals-fault _ _ _ _ _ c.loop-k.invariant c.loop-k-test.true (rw c.in-Some-Err.field-0-is at c.in-Some-Err.ensures) _ c.at_column.ensures
+pub returns-in_default : goal.returns-in_default
+returns-in_default c =
+    decimals-end _ _ _ _ _ c.loop-k.invariant _ _ c.coefficient_claim.ensures c.in_ok-id.ensures c.in_default.is _ c.ended.ensures _
+    c.verdict_of.ensures
 
 pub measured-far-requires : goal.measured-far-requires
 measured-far-requires c = search (named-within, rules)
 
 pub loop-k-preserved : goal.loop-k-preserved
-loop-k-preserved c = search (decimals-next, rules, c.in-Some-Ok.ensures)
+loop-k-preserved c = search (decimals-next, rules, c.in_ok-id.ensures)
 
 pub returns-then-cursor-claim : goal.returns-then-cursor-claim
 returns-then-cursor-claim c = search decimals-over

@@ -1,3 +1,5 @@
+use Rattle.std.specs.Prelude.{Err}
+use mathlib.Core.Path.{◌≡◌}
 use native.Mathlib.Omega.{arith}
 use borrow.Author.Rules.{rules}
 use Rattle.matching.proofs.NumberLines.{numbers-none, numbers-next, numbers-end, numbers-fault, numbers-over}
@@ -7,12 +9,14 @@ use Rattle.matching.proofs.reading.read_numbers.Goals as goal
 pub loop-k-init : goal.loop-k-init
 loop-k-init c = search numbers-none
 
-pub returns-in-None : goal.returns-in-None
-returns-in-None c = search (numbers-end, c.in-None.ensures)
+pub returns-in_err-id : goal.returns-in_err-id
+returns-in_err-id c =
+    let e : c.from_residual.result ≡ Err c.in_err-id.field-0.0 = search rules in
+    numbers-fault _ _ _ c.loop-k.invariant c.requires.ids_in_bounds.0 _ _ c.claim.ensures c.loop-k-test.true c.in_err-id.ensures e
 
-pub returns-in-Some-Err : goal.returns-in-Some-Err
-returns-in-Some-Err c =
-    numbers-fault _ _ _ c.loop-k.invariant c.requires.ids_in_bounds.0 c.loop-k-test.true (rw c.in-Some-Err.field-0-is at c.in-Some-Err.ensures) c.at_column.ensures
+pub returns-in_default : goal.returns-in_default
+returns-in_default c =
+    numbers-end _ _ _ c.loop-k.invariant c.requires.ids_in_bounds.0 _ _ c.claim.ensures c.in_ok-id.ensures c.in_default.is c.ended.ensures
 
 pub keep-requires : goal.keep-requires
 keep-requires c =
@@ -24,7 +28,7 @@ keep-requires c =
     ))
 
 pub loop-k-preserved : goal.loop-k-preserved
-loop-k-preserved c = search (numbers-next, rules, c.in-Some-Ok.ensures)
+loop-k-preserved c = search (numbers-next, rules, c.in_ok-id.ensures)
 
 pub returns-then-cursor-claim : goal.returns-then-cursor-claim
 returns-then-cursor-claim c = search numbers-over
