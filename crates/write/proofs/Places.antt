@@ -1,11 +1,11 @@
 -- Laws of the digits behind a point, and of their writer. Assumes nothing.
-use Prim.Native.Nat.{ℕ, zero, suc, ◌+◌, ◌/◌, ◌%◌, ◌^◌, ◌≤◌, ◌<◌}
+use Prim.Native.Nat.{ℕ, zero, suc, ◌+◌, ◌-◌, ◌/◌, ◌%◌, ◌^◌, ◌≤◌, ◌<◌}
 use mathlib.Core.Path.{◌≡◌, refl, sym, ap, ap₂, ◌∙◌, subst}
 use mathlib.Core.List.{List, [], ◌∷◌, ◌++◌, append-nil}
 use native.Mathlib.Omega.{arith}
-use native.Mathlib.Nat.{pow-suc, one-le-pow, mul-div_cancel, mod-lt, div-lt_iff_lt-mul, mul_comm}
+use native.Mathlib.Nat.{pow-suc, one-le-pow, mod-lt, div-lt_iff_lt-mul, mul_comm}
 use borrow.Author.Tests.{ne_eqb}
-use lib.ListN.{length}
+use lib.ListN.{length, get_or}
 use Rattle.text.specs.Weight.{million}
 use Rattle.write.specs.Put.{Written, written, put_at}
 use Rattle.write.specs.Number.{count_text}
@@ -30,58 +30,62 @@ pub next-digit : (k r : ℕ) → r < 10 ^ suc k → r / 10 ^ k < 10
 next-digit k r h =
     (div-lt_iff_lt-mul {k = 10 ^ k} {x = r} {y = 10} (ten-some k)).1 (subst (λ (x : ℕ). r < x) (pow-suc 10 k ∙ mul_comm (10 ^ k) 10) h)
 
--- ---- what the loop keeps: the unit is a power of ten, and the digits of what is left make the whole
-pub record Placed (w : Written) (o : List ℕ) (p left unit : ℕ) : Type 0 where
-  pub places : ℕ
-  pub power : unit ≡ 10 ^ places
-  pub small : left < unit
+-- ---- what the loop keeps: what is left is below the power of ten of so many places, and its digits make the whole
+pub record Placed (w : Written) (o : List ℕ) (p left places : ℕ) : Type 0 where
+  pub small : left < 10 ^ places
   pub rest : put_at o p (places_text places left) ≡ w
 
-pub placed-start : (o : List ℕ) (at r : ℕ) → r < million → Placed (put_at o at (places_text 6 r)) o at r 1000000
-placed-start o at r h = record { places = 6; power = refl; small = h; rest = refl }
+pub placed-start : (o : List ℕ) (at r : ℕ) → r < million → Placed (put_at o at (places_text 6 r)) o at r 6
+placed-start o at r h = record { small = h; rest = refl }
 
-pub placed-length : (o₀ : List ℕ) (at : ℕ) (text o : List ℕ) (p left unit : ℕ) → Placed (put_at o₀ at text) o p left unit
+pub placed-length : (o₀ : List ℕ) (at : ℕ) (text o : List ℕ) (p left places : ℕ) → Placed (put_at o₀ at text) o p left places
     → length o ≡ length o₀
-placed-length o₀ at text o p left unit s = putting-length o₀ at text o p (places_text s.places left) s.rest
+placed-length o₀ at text o p left places s = putting-length o₀ at text o p (places_text places left) s.rest
 
-module _ (w : Written) (o : List ℕ) (p left unit : ℕ) (s : Placed w o p left unit) where
-  pub placed_end : left ≤ 0 → written o p ≡ w
-  placed_end h =
-      let e : left ≡ 0 = omega arith in
-      putting-end o p (places_text s.places left) s.rest (ap (places_text s.places) e ∙ places-none s.places)
+-- the unit at each place
+abbrev pub units : List ℕ
+units = 100000 ∷ 10000 ∷ 1000 ∷ 100 ∷ 10 ∷ 1 ∷ []
 
-  module _ (h : 0 < left) where
-    step : (k : ℕ) × (s.places ≡ suc k) × (unit / 10 ≡ 10 ^ k)
-    step = by s.places s.power
-      where
-        by : (j : ℕ) → unit ≡ 10 ^ j → (k : ℕ) × (j ≡ suc k) × (unit / 10 ≡ 10 ^ k)
-        by zero e = let g = s.small in absurd (omega arith)
-        by (suc k) e = (k, refl, ap (λ (x : ℕ). x / 10) (e ∙ pow-suc 10 k) ∙ mul-div_cancel (10 ^ k) (omega arith))
+unit-is : (k : ℕ) → k < 6 → (6 - k ≡ suc (6 - (k + 1))) × (get_or units k 0 ≡ 10 ^ (6 - (k + 1)))
+unit-is zero h = (refl, refl)
+unit-is (suc zero) h = (refl, refl)
+unit-is (suc (suc zero)) h = (refl, refl)
+unit-is (suc (suc (suc zero))) h = (refl, refl)
+unit-is (suc (suc (suc (suc zero)))) h = (refl, refl)
+unit-is (suc (suc (suc (suc (suc zero))))) h = (refl, refl)
+unit-is (suc (suc (suc (suc (suc (suc k)))))) h = absurd (omega arith)
 
-    small-there : left < 10 ^ suc step.0
-    small-there = subst (λ (x : ℕ). left < x) (s.power ∙ ap (λ (j : ℕ). 10 ^ j) step.1) s.small
+module _ (w : Written) (o : List ℕ) (p left i : ℕ) (s : Placed w o p left (6 - i)) where
+  pub placed_end : left ≡ 0 → written o p ≡ w
+  placed_end e = putting-end o p (places_text (6 - i) left) s.rest (ap (places_text (6 - i)) e ∙ places-none (6 - i))
 
-    pub placed-unit : 0 < unit / 10
-    placed-unit = rw step.2 (ten-some step.0)
+  pub placed-out : 6 ≤ i → written o p ≡ w
+  placed-out h = let q : 6 - i ≡ 0 = omega arith in placed_end (let l : left < 1 = rw q at s.small in omega arith)
 
-    pub placed_less : unit / 10 < unit
-    placed_less = let g = s.small in omega arith
+  module _ (h : i < 6) where
+    unit : ℕ
+    unit = get_or units i 0
 
-    pub placed-digit : left / (unit / 10) < 10
-    placed-digit = rw step.2 (next-digit step.0 left small-there)
+    small-there : left < 10 ^ suc (6 - (i + 1))
+    small-there = rw (unit-is i h).0 at s.small
 
-    pub placed-more : (d : ℕ) → d ≡ 48 + left / (unit / 10) → (o' : List ℕ) (p' : ℕ) → written o' p' ≡ put_at o p (d ∷ [])
-        → Placed w o' p' (left % (unit / 10)) (unit / 10)
-    placed-more d e o' p' put =
-        let k = step.0 in
+    pub placed-unit : 0 < get_or units i 0
+    placed-unit = rw (unit-is i h).1 (ten-some (6 - (i + 1)))
+
+    pub placed-digit : left / get_or units i 0 < 10
+    placed-digit = rw (unit-is i h).1 (next-digit (6 - (i + 1)) left small-there)
+
+    pub placed-more : (left ≡ 0 → ⊥) → (d : ℕ) → d ≡ 48 + left / get_or units i 0 → (o' : List ℕ) (p' : ℕ)
+        → written o' p' ≡ put_at o p (d ∷ []) → Placed w o' p' (left % get_or units i 0) (6 - (i + 1))
+    placed-more n d e o' p' put =
+        let k : ℕ = 6 - (i + 1) in
+        let u : get_or units i 0 ≡ 10 ^ k = (unit-is i h).1 in
         let q : put_at o p ((d ∷ []) ++ places_text k (left % 10 ^ k)) ≡ w =
-        ap (put_at o p) (ap₂ (λ (x : ℕ) (l : List ℕ). x ∷ l) (e ∙ ap (λ (x : ℕ). 48 + left / x) step.2) refl
-        ∙ sym (places-more k left h) ∙ ap (λ (j : ℕ). places_text j left) (sym step.1)) ∙ s.rest in
+        ap (put_at o p) (ap₂ (λ (x : ℕ) (l : List ℕ). x ∷ l) (e ∙ ap (λ (x : ℕ). 48 + left / x) u) refl
+        ∙ sym (places-more k left (omega arith)) ∙ ap (λ (j : ℕ). places_text j left) (sym (unit-is i h).0)) ∙ s.rest in
         record {
-          places = k;
-          power = step.2;
-          small = mod-lt left placed-unit;
-          rest = ap (λ (x : ℕ). put_at o' p' (places_text k (left % x))) step.2
+          small = rw u (mod-lt left (ten-some k));
+          rest = ap (λ (x : ℕ). put_at o' p' (places_text k (left % x))) u
               ∙ putting-more o p (d ∷ []) (places_text k (left % 10 ^ k)) q put;
         }
 

@@ -18,10 +18,8 @@ pub fn put_bytes(out: &mut [u8], at: usize, text: &[u8]) -> usize
     ensures { written out.new result ≡ put_at out.old at text.now }
 {
     let mut next = at;
-    let mut i = 0;
-    while i < text.len() {
-        next = put(out, next, text[i]);
-        i += 1;
+    for byte in text {
+        next = put(out, next, *byte);
     }
     next
 }

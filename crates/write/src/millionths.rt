@@ -10,6 +10,9 @@ use crate::numbers::{digit, put_number};
 // `Weight.million`: how many one whole has.
 const MILLION: usize = 1000000;
 
+// What a digit is worth at each place behind the point, in millionths.
+const UNITS: [usize; 6] = [100000, 10000, 1000, 100, 10, 1];
+
 // `Bytes.point_mark`.
 const POINT: u8 = 46;
 
@@ -20,9 +23,10 @@ fn put_places(out: &mut [u8], at: usize, rest: usize) -> usize
 {
     let mut next = at;
     let mut left = rest;
-    let mut unit = MILLION;
-    while left > 0 {
-        unit = unit / 10;
+    for unit in UNITS {
+        if left == 0 {
+            return next;
+        }
         next = put(out, next, digit(left / unit));
         left = left % unit;
     }

@@ -1,5 +1,5 @@
 // Numbers in decimal.
-ghost use Rattle.std.specs.Prelude.{◌≡◌, ◌+◌, ◌<◌, nat_abs};
+ghost use Rattle.std.specs.Prelude.{◌≡◌, ◌+◌, ◌<◌};
 ghost use Rattle.text.specs.Bytes.{zero_digit};
 ghost use Rattle.write.specs.Put.{written, put_at};
 ghost use Rattle.write.specs.Number.{count_text, signed_text};
@@ -26,23 +26,14 @@ pub fn put_number(out: &mut [u8], at: usize, n: usize) -> usize
     put(out, next, digit(n % 10))
 }
 
-// A number without its sign. The least of all has no opposite, but -1 - z is always in range.
-fn magnitude(z: i64) -> usize
-    ensures { result ≡ nat_abs z }
-{
-    if z < 0 {
-        return ((-1 - z) as usize) + 1;
-    }
-    z as usize
-}
-
 // An identifier.
 pub fn put_signed(out: &mut [u8], at: usize, z: i64) -> usize
     ensures { written out.new result ≡ put_at out.old at (signed_text z) }
 {
+    let size = z.unsigned_abs() as usize;
     if z < 0 {
         let next = put(out, at, MINUS);
-        return put_number(out, next, magnitude(z));
+        return put_number(out, next, size);
     }
-    put_number(out, at, magnitude(z))
+    put_number(out, at, size)
 }

@@ -1,11 +1,7 @@
-use Prim.Native.Nat.{◌-◌}
 use mathlib.Core.Path.{◌≡◌}
-use lib.ListN.{length, drop}
+use lib.ListN.{drop}
 use Rattle.write.specs.Put.{put_at}
 use Rattle.write.proofs.bytes.put_bytes.Given as goal
 
-abbrev pub invariant-loop-i : goal.invariant-loop-i
-invariant-loop-i l = put_at l.out l.next (drop l.i l.text) ≡ put_at l.initial.out l.at l.text
-
-abbrev pub decreases-loop-i : goal.decreases-loop-i
-decreases-loop-i l = length l.text - l.i
+abbrev pub invariant-loop-byte : goal.invariant-loop-byte
+invariant-loop-byte l = put_at l.out l.next (drop l.byte-index l.text) ≡ put_at l.initial.out l.at l.text
