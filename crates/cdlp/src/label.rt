@@ -16,7 +16,11 @@ struct Best {
 fn lead(b: Best, label: usize, count: usize) -> Best
     ensures { result ≡ best_with b label count }
 {
-    if count > b.count || (count == b.count && label < b.label) {
+    if count > b.count {
+        Best { label, count }
+    } else if count < b.count {
+        b
+    } else if label < b.label {
         Best { label, count }
     } else {
         b
