@@ -17,16 +17,14 @@ module _ (n : ℕ) (to cost : ℕ → List ℕ) (root : ℕ) where
   abbrev arcs : ℕ → List Leg
   arcs v = legs (to v) (cost v)
 
-  -- the search goes on, and u is at the top of the tree
-  pub record Turn (dist key tree : List ℕ) (u : ℕ) : Type 0 where
+  -- the search goes on
+  pub record Turn (dist key tree : List ℕ) : Type 0 where
     pub serving : Serving n arcs root dist key
     pub played : Played None key tree
-    pub top : u ≡ won tree 1
 
-  pub turn-begin : (dist₀ key₀ tree₀ dist key tree : List ℕ) (u : ℕ) → length dist₀ ≡ n → WeighedAll n to cost → Lent root dist₀ key₀ tree₀
-      → dist ≡ replicate (length dist₀) infinity → Replayed (set (replicate (length key₀) infinity) root 0) key tree → u ≡ won tree 1
-      → Turn dist key tree u
-  turn-begin dist₀ key₀ tree₀ dist key tree u q inside lent e r t =
+  pub turn-begin : (dist₀ key₀ tree₀ dist key tree : List ℕ) → length dist₀ ≡ n → WeighedAll n to cost → Lent root dist₀ key₀ tree₀
+      → dist ≡ replicate (length dist₀) infinity → Replayed (set (replicate (length key₀) infinity) root 0) key tree → Turn dist key tree
+  turn-begin dist₀ key₀ tree₀ dist key tree q inside lent e r =
       let b : Base n arcs root = record {
         inside = λ v h. weighed-good n (to v) (cost v) (inside v h);
         there = omega
@@ -35,33 +33,38 @@ module _ (n : ℕ) (to cost : ℕ → List ℕ) (root : ℕ) where
       } in
       let f : dist ≡ replicate n infinity = e ∙ ap (λ (m : ℕ). replicate m infinity) q in
       let g : key ≡ set (replicate n infinity) root 0 = r.same ∙ ap (λ (m : ℕ). set (replicate m infinity) root 0) (lent.keys ∙ q) in
-      record { serving = rw (f, g) (serving-begin n arcs root b); played = r.played; top = t }
+      record { serving = rw (f, g) (serving-begin n arcs root b); played = r.played }
 
-  module _ {dist key tree : List ℕ} {u : ℕ} (k : Turn dist key tree u) where
-    pub turn_low : u < n
-    turn_low = let a = top-low key tree k.played (omega (arith, k.serving.key_long, k.serving.base.there)) in omega
-        (arith, k.top, k.serving.key_long)
+  module _ {dist key tree : List ℕ} (k : Turn dist key tree) where
+    pub turn-some : 0 < length key
+    turn-some = omega (arith, k.serving.key_long, k.serving.base.there)
 
-    pub turn-weighed : WeighedAll n to cost → {ws cs : List ℕ} → ws ≡ to u → cs ≡ cost u → WeighedPart (length key) ws cs
-    turn-weighed inside a b = rw (a, b, k.serving.key_long) (inside u turn_low)
+    top : won tree 1 < n
+    top = omega (arith, top-low key tree k.played turn-some, k.serving.key_long)
 
-    turn-least : (v : ℕ) → v < n → get_or key u 0 ≤ get_or key v 0
-    turn-least v h = rw k.top (top_least key tree k.played v (omega (arith, k.serving.key_long)))
+    least : (v : ℕ) → v < n → get_or key (won tree 1) 0 ≤ get_or key v 0
+    least v h = top_least key tree k.played v (omega (arith, k.serving.key_long))
 
-    module _ (reached : get_or key u 0 < infinity) {dist' : List ℕ} (e : dist' ≡ settled u dist key) where
-      pub turn-less : n - seen dist' < n - seen dist
-      turn-less = rw e (serving-less n arcs root k.serving u turn_low turn-least reached)
+    pub turn_end : infinity ≤ get_or key (won tree 1) 0 → dist ≡ distances n arcs root
+    turn_end o = serving-end n arcs root k.serving (λ v h. let a = least v h in omega arith)
 
-      pub turn_more : {ws cs key' tree' : List ℕ} {u' : ℕ} → ws ≡ to u → cs ≡ cost u → Replayed (served (legs ws cs) u dist key) key' tree'
-          → u' ≡ won tree' 1
-          → Turn dist' key' tree' u'
-      turn_more {ws} {cs} a b r t =
-          let f : legs ws cs ≡ arcs u = ap₂ legs a b in
-          record {
-            serving = rw (e, r.same, f) (serving-more n arcs root k.serving u turn_low turn-least reached);
-            played = r.played;
-            top = t;
-          }
+    -- u is the nearest of the vertices that wait
+    module _ {u : ℕ} (near : (u ≡ won tree 1) × (get_or key u 0 < infinity)) where
+      pub turn_low : u < n
+      turn_low = omega (arith, top, near.0)
 
-    pub turn_end : infinity ≤ get_or key u 0 → dist ≡ distances n arcs root
-    turn_end o = serving-end n arcs root k.serving (λ v h. let a = turn-least v h in omega arith)
+      pub turn-weighed : WeighedAll n to cost → {ws cs : List ℕ} → ws ≡ to u → cs ≡ cost u → WeighedPart (length key) ws cs
+      turn-weighed inside a b = rw (a, b, k.serving.key_long) (inside u turn_low)
+
+      turn-least : (v : ℕ) → v < n → get_or key u 0 ≤ get_or key v 0
+      turn-least v h = rw near.0 (least v h)
+
+      module _ {dist' : List ℕ} (e : dist' ≡ settled u dist key) where
+        pub turn-less : n - seen dist' < n - seen dist
+        turn-less = rw e (serving-less n arcs root k.serving u turn_low turn-least near.1)
+
+        pub turn_more : {ws cs key' tree' : List ℕ} → ws ≡ to u → cs ≡ cost u → Replayed (served (legs ws cs) u dist key) key' tree'
+            → Turn dist' key' tree'
+        turn_more {ws} {cs} a b r =
+            let f : legs ws cs ≡ arcs u = ap₂ legs a b in
+            record { serving = rw (e, r.same, f) (serving-more n arcs root k.serving u turn_low turn-least near.1); played = r.played }

@@ -1,10 +1,11 @@
 -- What the kernel's private functions do and need: what is settled stands in `dist`, what waits in `key`.
-use Rattle.std.specs.Prelude.{ℕ, ◌+◌, ◌≤◌, ◌<◌, min, ◌≡◌, true, cond, List, [], ◌∷◌, ℤ, length, get_or, set, ltb, leb}
+use Rattle.std.specs.Prelude.{ℕ, ◌+◌, ◌≤◌, ◌<◌, min, ◌≡◌, true, cond, Option, MatchOption, List, [], ◌∷◌, ℤ, length, get_or, set, ltb, leb}
 use Rattle.basis.specs.Scan.{each, all_below}
 use Rattle.basis.specs.Area.{infinity}
 use Rattle.basis.specs.Limits.{most_vertices, most_weight}
 use Rattle.graph.specs.Weights.{Weighted, is_weighted, Leg, sound_weighted}
 use Rattle.sssp.specs.Call.{room_for}
+use Rattle.sssp.specs.Tree.{won}
 
 -- the areas can be filled: the graph is weighted and sound, the root is one of its vertices, and each area has room for them
 pub record Ready (g : Weighted) (root : ℕ) (distance : List ℤ) (settled waiting tree : List ℕ) : Type 0 where
@@ -33,6 +34,11 @@ settled u dist key = set dist u (get_or key u 0)
 -- and the keys, once its arcs are walked
 abbrev pub served : List Leg → ℕ → List ℕ → List ℕ → List ℕ
 served l u dist key = walked (settled u dist key) (get_or key u 0) l (set key u infinity)
+
+-- the vertex that wins the tree is the nearest of those that wait; where its key is infinity, none waits
+abbrev pub Nearest : List ℕ → List ℕ → Option ℕ → Type 0
+Nearest key tree r =
+    MatchOption r (infinity ≤ get_or key (won tree 1) 0) (λ u. (u ≡ won tree 1) × (get_or key u 0 < infinity))
 
 -- targets of the first n vertices with a weight beside each
 pub record WeighedPart (n : ℕ) (ws cs : List ℕ) : Type 0 where

@@ -6,7 +6,7 @@ ghost use Rattle.graph.specs.Part.{part_of};
 ghost use Rattle.graph.specs.Weights.{legs, legs_of};
 ghost use Rattle.sssp.specs.Distance.{distances, as_signed};
 ghost use Rattle.sssp.specs.Tree.{Played, None, Replayed};
-ghost use Rattle.sssp.specs.Steps.{lowered, walked, settled, served, WeighedPart, WeighedAll, Lent, AllSigned};
+ghost use Rattle.sssp.specs.Steps.{lowered, walked, settled, served, Nearest, WeighedPart, WeighedAll, Lent, AllSigned};
 
 use crate::tree::{build, rekey, winner};
 use basis::area::clear;
@@ -82,6 +82,16 @@ fn start(root: usize, dist: &mut [usize], key: &mut [usize], tree: &mut [usize])
     build(key, tree);
 }
 
+// The nearest of the vertices that wait, where one waits.
+fn nearest(key: &[usize], tree: &[usize]) -> Option<usize>
+    requires played { Played None key.now tree.now }
+    requires key_len { 0 < length key.now }
+    ensures { Nearest key.now tree.now result }
+{
+    let u = winner(tree, 1);
+    if key[u] < FAR { Some(u) } else { None }
+}
+
 // The whole search: while a vertex waits that is reached, the nearest one is served.
 fn search(
     out: Way,
@@ -100,13 +110,11 @@ fn search(
 {
     let n = dist.len();
     start(root, dist, key, tree);
-    let mut u = winner(tree, 1);
     // Stays: which vertices wait, and so whether one is left, changes at each turn.
-    while key[u] < FAR {
+    while let Some(u) = nearest(key, tree) {
         let next = neighbours(out.targets, out.offsets, n, u);
         let cost = neighbours(weights, out.offsets, n, u);
         serve(next, cost, u, dist, key, tree);
-        u = winner(tree, 1);
     }
 }
 

@@ -4,9 +4,9 @@ use Rattle.sssp.proofs.Serving.{seen}
 use Rattle.sssp.proofs.Turns.{Turn}
 use Rattle.sssp.proofs.search.search.Given as goal
 
-abbrev pub invariant-loop-key : goal.invariant-loop-key
-invariant-loop-key l =
-    Turn l.n (part_of l.n l.out.offsets.now l.out.targets.now) (part_of l.n l.out.offsets.now l.weights) l.root l.dist l.key l.tree l.u
+abbrev pub invariant-loop-u : goal.invariant-loop-u
+invariant-loop-u l =
+    Turn l.n (part_of l.n l.out.offsets.now l.out.targets.now) (part_of l.n l.out.offsets.now l.weights) l.root l.dist l.key l.tree
 
-abbrev pub decreases-loop-key : goal.decreases-loop-key
-decreases-loop-key l = l.n - seen l.dist
+abbrev pub decreases-loop-u : goal.decreases-loop-u
+decreases-loop-u l = l.n - seen l.dist
