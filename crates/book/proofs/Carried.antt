@@ -2,21 +2,19 @@
 -- It holds on every content. Assumes nothing.
 use mathlib.Core.Path.{◌≡◌, refl, sym, ap, ◌∙◌, subst}
 use mathlib.Core.List.{List}
-use Prim.Native.Nat.{ℕ, zero, suc, ◌+◌, ◌*◌, ◌/◌, ◌%◌, ◌≤◌, ◌<◌}
+use Prim.Native.Nat.{ℕ, zero, suc, ◌+◌, ◌≤◌, ◌<◌}
 use native.Mathlib.Omega.{arith}
 use native.Mathlib.Decide.{dec_lt}
 use lib.IntN.{ℤ}
 use lib.ListN.{length}
 use lib.Dec.{leb}
 use borrow.Author.Tests.{le-leb, lt-leb}
-use Rattle.basis.specs.Limits.{most_vertices}
 use Rattle.basis.specs.Refusal.{gives, refuses, plain, unsound, check}
 use Rattle.book.specs.Rules.{most_moves, Next, stop, to, WalkEnd, walk_end, walk, walk_from}
 use Rattle.book.specs.One.{next_here, one, one_book}
-use Rattle.book.specs.Steps.{says_walked, Walking}
+use Rattle.book.specs.Steps.{one_more}
 use Rattle.basis.proofs.Saids.{refused-given, given-one, check-on, check-off}
 use Rattle.book.proofs.Walks.{walk-head, walk-move, walk-late, walk-out}
-use Rattle.book.proofs.Walked.{walked-ends, walked-of}
 use Rattle.book.proofs.Forest.{Reach, reach-in, reach-walk, reach-other, reach-under}
 use Rattle.book.proofs.Faithful.{Mergeable}
 use Rattle.book.proofs.OneBook.{faithful-one}
@@ -92,34 +90,28 @@ module _ (next next' : ℕ → Next) (n top under : ℕ) (top_in : top < n) (top
           reach-late next' n (k + 1) most_moves 0 v top on (omega arith)
           ∙ sym (check-off (leb (k + 1) most_moves) unsound _ (lt-leb (k + 1) most_moves (omega arith)))
 
--- ---- the same of one area, of a walk in one number
-module _ (xs : List ℤ) (u at : ℕ) (x : Walking xs u at) (m : at / most_vertices ≤ most_moves) (t d s : ℕ)
-    (k : Mergeable (one xs) t d s) where
+-- ---- the same of one area
+module _ (xs : List ℤ) (u g k : ℕ) (inside : u < length xs) (ended : gives (walk_end g k) ≡ walk_from (next_here xs) (length xs) u)
+    (t d s : ℕ) (m : Mergeable (one xs) t d s) where
   abbrev after : List ℤ
   after = one_book.merged t d s xs
-
-  ended : walk_from (next_here xs) (length xs) u ≡ gives (walk_end (at % most_vertices) (at / most_vertices))
-  ended = sym x.walk ∙ walked-ends at m
 
   pub carried-length : length after ≡ length xs
   unfolding one
   carried-length = faithful-one.merged-count xs t d s
 
-  pub carried_other : (at % most_vertices ≡ d → ⊥) → says_walked at ≡ walk_from (next_here after) (length after) u
+  pub carried_other : (g ≡ d → ⊥) → gives (walk_end g k) ≡ walk_from (next_here after) (length after) u
   unfolding one
   carried_other q =
-      walked-ends at m
-      ∙ sym (ap (λ (n : ℕ). walk_from (next_here after) n u) carried-length
-      ∙ walk-other (next_here xs) (next_here after) (length xs) t d k.top_in k.top_head k.under-head k.apart
-      (faithful-one.merged-under xs t d s k)
-      (faithful-one.merged-next xs t d s k) u (at % most_vertices) (at / most_vertices) x.inside ended q)
+      sym (ap (λ (n : ℕ). walk_from (next_here after) n u) carried-length
+      ∙ walk-other (next_here xs) (next_here after) (length xs) t d m.top_in m.top_head m.under-head m.apart
+      (faithful-one.merged-under xs t d s m)
+      (faithful-one.merged-next xs t d s m) u g k inside (sym ended) q)
 
-  pub carried_under : at % most_vertices ≡ d → says_walked ((at / most_vertices + 1) * most_vertices + t)
-      ≡ walk_from (next_here after) (length after) u
+  pub carried_under : g ≡ d → one_more k t ≡ walk_from (next_here after) (length after) u
   unfolding one
   carried_under q =
-      walked-of t (at / most_vertices + 1) (omega (arith, k.top_in, x.lent))
-      ∙ sym (ap (λ (n : ℕ). walk_from (next_here after) n u) carried-length
-      ∙ walk-under (next_here xs) (next_here after) (length xs) t d k.top_in k.top_head k.under-head k.apart
-      (faithful-one.merged-under xs t d s k)
-      (faithful-one.merged-next xs t d s k) u (at % most_vertices) (at / most_vertices) x.inside ended q)
+      sym (ap (λ (n : ℕ). walk_from (next_here after) n u) carried-length
+      ∙ walk-under (next_here xs) (next_here after) (length xs) t d m.top_in m.top_head m.under-head m.apart
+      (faithful-one.merged-under xs t d s m)
+      (faithful-one.merged-next xs t d s m) u g k inside (sym ended) q)

@@ -3,7 +3,7 @@ use mathlib.Core.Path.{◌≡◌, refl, sym, ap, ap₂, ◌∙◌, subst}
 use mathlib.Core.List.{List, [], ◌∷◌}
 use mathlib.Core.Bool.{Bool, true, false}
 use mathlib.Core.Logic.{inl, inr}
-use Prim.Native.Nat.{ℕ, suc, ◌+◌, ◌*◌, ◌/◌, ◌%◌, ◌≤◌, ◌<◌}
+use Prim.Native.Nat.{ℕ, suc, ◌+◌, ◌≤◌, ◌<◌}
 use native.Mathlib.Omega.{arith}
 use native.Mathlib.Numerals.{add-one}
 use lib.IntN.{ℤ}
@@ -11,23 +11,25 @@ use lib.ListN.{length, get_or, drop, drop_of_length-le}
 use lib.Dec.{leb}
 use lib.Seq.{drop-cons}
 use borrow.Author.Tests.{le-leb, eq-eqb, ne_eqb}
-use Rattle.std.specs.Prelude.{◌==◌, Result, Ok, Option, Some, None}
+use Rattle.std.specs.Prelude.{◌==◌, Result, Ok, Err}
 use Rattle.basis.specs.Limits.{most_vertices}
 use Rattle.basis.specs.declared.refusal.Refusal.{Refusal}
-use Rattle.basis.specs.Refusal.{Said, gives, refuses, plain, no_room, not_there, unsound, onward}
+use Rattle.basis.specs.Refusal.{Said, gives, refuses, plain, no_room, not_there, onward}
 use Rattle.basis.proofs.Tests.{clash, no-case}
-use Rattle.book.specs.Rules.{most_moves, Next, stop, is_stop, heads, Step, already, merge, Joining, merged, same, Machine, Outcome}
+use Rattle.book.specs.Rules.{walk_end, Next, stop, is_stop, heads, Step, already, merge, Joining, merged, same, Machine, Outcome}
 use Rattle.book.specs.Rules.{outcome, walk_from, heads_of, link_heads, decide, write_book}
 use Rattle.book.specs.Rules.{join_book, Each, all, stopped, EachOutcome, each_outcome, counted, behind, and_on, join_each}
 use Rattle.book.specs.One.{next_here, one, one_book}
-use Rattle.book.specs.Steps.{says_walked, AtHead, link_one, Walking, says_carried, carried_on}
+use Rattle.book.specs.Steps.{AtHead, link_one, one_more, Walking}
+use Rattle.book.specs.Says.{says_headed}
+use Rattle.book.specs.declared.Head.{Head}
 use Rattle.basis.proofs.Saids.{refused-given, given-one}
-use Rattle.book.proofs.Calls.{heads-unlent, heads-missing, heads-missing2}
+use Rattle.book.proofs.Calls.{heads-unlent, heads-missing, heads-missing2, heads-walked}
 use Rattle.book.proofs.Faithful.{Mergeable}
 use Rattle.book.proofs.Forest.{Whose}
 use Rattle.book.proofs.OneBook.{faithful-one}
 use Rattle.book.proofs.Carried.{carried-length, carried_other, carried_under}
-use Rattle.book.proofs.Walked.{lent-within, heads-late, heads-late2, heads-end}
+use Rattle.book.proofs.Walked.{lent-within}
 use Rattle.book.proofs.Joins.{link-merged, one-linked, one-first, one-second}
 
 -- ---- a join whose heads are not found is refused
@@ -54,7 +56,7 @@ module _ (xs : List ℤ) (u : ℕ) (t : Bool) (e : t ≡ leb (length xs) most_ve
     unfolding one
     each-missing f l p = each-lost one_book xs u x (λ w. join-lost one_book xs u w x (heads-missing (one xs) u w t e x f l p)) ws k
 
-  pub walking_start : (at : ℕ) → t ≡ true → u < length xs → says_walked at ≡ walk_from (next_here xs) (length xs) u → Walking xs u at
+  pub walking_start : (at : Result Head Refusal) → t ≡ true → u < length xs → says_headed at ≡ walk_from (next_here xs) (length xs) u → Walking xs u at
   walking_start at f l p = record { lent = lent-within (length xs) t e f; inside = l; walk = p }
 
 -- a list that is not empty, by the test for it
@@ -107,22 +109,18 @@ module _ (a : EachOutcome (List ℤ)) (b : List ℤ) (u : ℕ) (ws : List ℕ) (
         rw add-one (ap (λ (d : Outcome Joining (List ℤ)). behind i m (and_on d.said d.area (join_each one_book d.area u (drop (suc i) ws)))) e
         ∙ ap (λ (x : List ℕ). behind i m (join_each one_book b u x)) (sym (drop-cons ws i 0 l)) ∙ f)
 
-    pub each-merged : (r : Result (Option ℕ) Refusal) (on : ℕ) → r ≡ Ok (Some on)
-        → outcome (says_carried r) c ≡ join_book one_book b u (get_or ws i 0)
+    pub each-merged : outcome (gives merged) c ≡ join_book one_book b u (get_or ws i 0)
         → behind (i + 1) (m + 1) (join_each one_book c u (drop (i + 1) ws)) ≡ a
     unfolding and_on
-    each-merged r on q e =
-        sym (behind_more i m 1 1 _)
-        ∙ turned (gives merged) (ap (λ (y : Result (Option ℕ) Refusal). outcome (says_carried y) c) (sym q) ∙ e)
+    each-merged e = sym (behind_more i m 1 1 _) ∙ turned (gives merged) e
 
-    pub each-already : (r : Result (Option ℕ) Refusal) → r ≡ Ok None
-        → outcome (says_carried r) c ≡ join_book one_book b u (get_or ws i 0)
+    pub each-already : outcome (gives same) c ≡ join_book one_book b u (get_or ws i 0)
         → behind (i + 1) m (join_each one_book c u (drop (i + 1) ws)) ≡ a
     unfolding and_on
-    each-already r q e =
+    each-already e =
         let z : m ≡ m + 0 = omega arith in
         ap (λ (k : ℕ). behind (i + 1) k (join_each one_book c u (drop (i + 1) ws))) z ∙ sym (behind_more i m 1 0 _)
-        ∙ turned (gives same) (ap (λ (y : Result (Option ℕ) Refusal). outcome (says_carried y) c) (sym q) ∙ e)
+        ∙ turned (gives same) e
 
     pub each-refused : (x : Refusal) → outcome (refuses x) c ≡ join_book one_book b u (get_or ws i 0) → each_outcome (stopped i m x) c ≡ a
     unfolding and_on behind
@@ -130,14 +128,6 @@ module _ (a : EachOutcome (List ℤ)) (b : List ℤ) (u : ℕ) (ws : List ℕ) (
         let k : i ≡ 0 + i = omega arith in
         let n : m ≡ 0 + m = omega arith in
         ap₂ (λ (y z : ℕ). each_outcome (stopped y z x) c) k n ∙ turned (refuses x) e
-
--- what a turn that was accepted leaves: the walk, and the series
-module _ (r : Result (Option ℕ) Refusal) (xs : List ℤ) (u at : ℕ) where
-  pub walking_on : (on : ℕ) → r ≡ Ok (Some on) → Walking xs u (carried_on at r) → Walking xs u on
-  walking_on on e x = subst (λ (y : Result (Option ℕ) Refusal). Walking xs u (carried_on at y)) e x
-
-  pub walking-stays : r ≡ Ok None → Walking xs u (carried_on at r) → Walking xs u at
-  walking-stays e x = subst (λ (y : Result (Option ℕ) Refusal). Walking xs u (carried_on at y)) e x
 
 -- ---- a link
 module _ (xs : List ℤ) (g h : ℕ) (ys : List ℤ) where
@@ -158,29 +148,25 @@ module _ (xs : List ℤ) (g h : ℕ) (ys : List ℤ) where
       go (refuses r) q = refused-given (sym (ap said_of (e ∙ ap (λ d. write_book one_book d xs) q)))
 
 -- ---- the code's `join_next`
-module _ (xs : List ℤ) (u at : ℕ) (x : Walking xs u at) where
+module _ (xs : List ℤ) (u : ℕ) (at : Result Head Refusal) (x : Walking xs u at) where
   pub walking-within : length xs ≤ most_vertices
   walking-within = x.lent
 
-  module _ (ys : List ℤ) where
-    kept : ys ≡ xs → Walking ys u at
-    kept e = subst (λ (b : List ℤ). Walking b u at) (sym e) x
+  -- a join that does not merge leaves the area, and so the walk
+  link-leaves : (ys : List ℤ) (g h : ℕ) (s : Said Joining) → outcome s ys ≡ link_one xs g h → (s ≡ gives merged → ⊥) → ys ≡ xs
+  unfolding link_one write_book
+  link-leaves ys g h s e n = go (link_heads (one xs) (heads g h)) e
+    where
+      go : (d : Said Step) → outcome s ys ≡ write_book one_book d xs → ys ≡ xs
+      go (gives already) q = ap (λ (b : Outcome Joining (List ℤ)). b.area) q
+      go (gives (merge top under total)) q = absurd (n (ap (λ (b : Outcome Joining (List ℤ)). b.said) q))
+      go (refuses r) q = ap (λ (b : Outcome Joining (List ℤ)). b.area) q
 
-    -- a join that does not merge leaves the area, and so the walk
-    walking-kept : (s : Said Joining) (d : Said Step) → outcome s ys ≡ write_book one_book d xs → (s ≡ gives merged → ⊥) → Walking ys u at
-    unfolding write_book
-    walking-kept s (gives already) e h = kept (ap (λ (b : Outcome Joining (List ℤ)). b.area) e)
-    walking-kept s (gives (merge top under total)) e h = absurd (h (ap (λ (b : Outcome Joining (List ℤ)). b.said) e))
-    walking-kept s (refuses r) e h = kept (ap (λ (b : Outcome Joining (List ℤ)). b.area) e)
+  kept : (ys : List ℤ) → ys ≡ xs → Walking ys u at
+  kept ys e = subst (λ (b : List ℤ). Walking b u at) (sym e) x
 
-    module _ (g h : ℕ) where
-      pub walking-already : outcome (gives same) ys ≡ link_one xs g h → Walking ys u at
-      unfolding link_one
-      walking-already e = walking-kept (gives same) _ e (λ q. no-case cc)
-
-      pub walking-refused : (y : Refusal) → outcome (refuses y) ys ≡ link_one xs g h → Walking ys u at
-      unfolding link_one
-      walking-refused y e = walking-kept (refuses y) _ e (λ q. refused-given q)
+  pub walking-refused : (ys : List ℤ) (g h : ℕ) (y : Refusal) → outcome (refuses y) ys ≡ link_one xs g h → Walking ys u at
+  walking-refused ys g h y e = kept ys (link-leaves ys g h (refuses y) e (λ q. refused-given q))
 
   lent : true ≡ (one xs).fit
   unfolding one
@@ -192,82 +178,101 @@ module _ (xs : List ℤ) (u at : ℕ) (x : Walking xs u at) where
     next-missing r l p = join-lost one_book xs u w r (heads-missing2 (one xs) u w true lent r refl x.inside l p)
 
     module _ (l : w < length xs) where
-      pub next-late : (r : Refusal) → most_moves < at / most_vertices → r ≡ plain unsound → outcome (refuses r) xs ≡ join_book one_book xs u w
+      pub next-lost : (r : Refusal) → at ≡ Err r → outcome (refuses r) xs ≡ join_book one_book xs u w
       unfolding one
-      next-late r m p = join-lost one_book xs u w r (heads-late (one xs) true lent refl u w x.inside l at x.walk r m p)
+      next-lost r e =
+          join-lost one_book xs u w r
+          (heads-walked (one xs) u w true lent (refuses r) _ refl x.inside l (sym (ap says_headed e) ∙ x.walk) refl)
 
-      module _ (m : at / most_vertices ≤ most_moves) (to : ℕ) (q : says_walked to ≡ walk_from (next_here xs) (length xs) w) where
-        pub next-late2 : (r : Refusal) → most_moves < to / most_vertices → r ≡ plain unsound
-            → outcome (refuses r) xs ≡ join_book one_book xs u w
+      -- u's walk, of k moves, ends at g
+      module _ (g k : ℕ) (p : at ≡ Ok (record { head = g; moves = k })) where
+        ended : gives (walk_end g k) ≡ walk_from (next_here xs) (length xs) u
+        ended = sym (ap says_headed p) ∙ x.walk
+
+        pub next-lost2 : (r : Refusal) → refuses r ≡ walk_from (next_here xs) (length xs) w → outcome (refuses r) xs ≡ join_book one_book xs u w
         unfolding one
-        next-late2 r n p = join-lost one_book xs u w r (heads-late2 (one xs) true lent refl u w x.inside l at x.walk m to q r n p)
+        next-lost2 r q =
+            join-lost one_book xs u w r (heads-walked (one xs) u w true lent (gives (walk_end g k)) (refuses r) refl x.inside l ended q)
 
-        module _ (n : to / most_vertices ≤ most_moves) where
-          both : gives (heads (at % most_vertices) (to % most_vertices)) ≡ heads_of (one xs) u w
+        -- w's walk, of j moves, ends at h
+        module _ (h j : ℕ) (q : gives (walk_end h j) ≡ walk_from (next_here xs) (length xs) w) where
+          both : gives (heads g h) ≡ heads_of (one xs) u w
           unfolding one
-          both = heads-end (one xs) true lent refl u w x.inside l at x.walk m to q n
+          both = heads-walked (one xs) u w true lent (gives (walk_end g k)) (gives (walk_end h j)) refl x.inside l ended q
 
-          pub next-first : AtHead xs (at % most_vertices)
+          pub next-first : AtHead xs g
           next-first = one-first xs u w _ _ both
 
-          pub next-second : AtHead xs (to % most_vertices)
+          pub next-second : AtHead xs h
           next-second = one-second xs u w _ _ both
 
-          pub next-first-in : (ys : List ℤ) → length ys ≡ length xs → at % most_vertices < length ys
+          pub next-first-in : (ys : List ℤ) → length ys ≡ length xs → g < length ys
           next-first-in ys e = omega (arith, next-first.inside)
 
           -- what the link says is what the join says
           module _ (ys : List ℤ) where
-            pub next-joined : (s : Said Joining) → outcome s ys ≡ link_one xs (at % most_vertices) (to % most_vertices)
-                → outcome s ys ≡ join_book one_book xs u w
+            pub next-joined : (s : Said Joining) → outcome s ys ≡ link_one xs g h → outcome s ys ≡ join_book one_book xs u w
             next-joined s e = one-linked xs u w _ _ both _ e
 
-            -- where they merge, u's head stays or goes under the other: t says whether it is a head still
-            module _ (f : outcome (gives merged) ys ≡ link_one xs (at % most_vertices) (to % most_vertices)) (t : Bool)
-                (p : t ≡ is_stop (next_here ys (at % most_vertices))) where
+            -- where they merge, u's head stays or goes under the other
+            module _ (f : outcome (gives merged) ys ≡ link_one xs g h) where
               shape : (top under s : ℕ) × (ys ≡ one_book.merged top under s xs) × Mergeable (one xs) top under s
-                  × Whose (λ v. v) (at % most_vertices) (to % most_vertices) top under
+                  × Whose (λ v. v) g h top under
               shape =
-                  let o = link-writes xs (at % most_vertices) (to % most_vertices) ys f in
-                  let k = link-merged (one xs) u w (at % most_vertices) (to % most_vertices) (sym both) o.0 o.1 o.2 o.3 in
-                  (o.0, o.1, o.2, o.4, k.0, k.1)
+                  let o = link-writes xs g h ys f in
+                  let m = link-merged (one xs) u w g h (sym both) o.0 o.1 o.2 o.3 in
+                  (o.0, o.1, o.2, o.4, m.0, m.1)
 
-              stays : at % most_vertices ≡ shape.0 → next_here ys (at % most_vertices) ≡ stop
+              stays : g ≡ shape.0 → next_here ys g ≡ stop
               unfolding one
               stays e =
-                  let k = shape.4 in
-                  ap₂ next_here shape.3 e ∙ faithful-one.merged-next xs shape.0 shape.1 shape.2 k shape.0 k.apart
-                  ∙ k.top_head
+                  let m = shape.4 in
+                  ap₂ next_here shape.3 e ∙ faithful-one.merged-next xs shape.0 shape.1 shape.2 m shape.0 m.apart
+                  ∙ m.top_head
 
-              goes : at % most_vertices ≡ shape.1 → next_here ys (at % most_vertices) ≡ Next.to shape.0
+              goes : g ≡ shape.1 → next_here ys g ≡ Next.to shape.0
               unfolding one
               goes e = ap₂ next_here shape.3 e ∙ faithful-one.merged-under xs shape.0 shape.1 shape.2 shape.4
 
               -- the walk anew, in the area that the merge leaves
-              again : (k : ℕ)
-                  → says_walked k ≡ walk_from (next_here (one_book.merged shape.0 shape.1 shape.2 xs))
+              again : (r : Result Head Refusal)
+                  → says_headed r ≡ walk_from (next_here (one_book.merged shape.0 shape.1 shape.2 xs))
                   (length (one_book.merged shape.0 shape.1 shape.2 xs)) u
-                  → Walking ys u k
-              again k d =
-                  let c = carried-length xs u at x m shape.0 shape.1 shape.2 shape.4 in
-                  subst (λ (b : List ℤ). Walking b u k) (sym shape.3)
+                  → Walking ys u r
+              again r d =
+                  let c = carried-length xs u g k x.inside ended shape.0 shape.1 shape.2 shape.4 in
+                  subst (λ (b : List ℤ). Walking b u r) (sym shape.3)
                   (record { lent = omega (arith, c, x.lent); inside = omega (arith, c, x.inside); walk = d })
 
-              pub next-top : t ≡ true → Walking ys u at
-              next-top h = go shape.5
+              on-top : is_stop (next_here ys g) ≡ true → Walking ys u at
+              on-top y = go shape.5
                 where
-                  go : Whose (λ v. v) (at % most_vertices) (to % most_vertices) shape.0 shape.1 → Walking ys u at
+                  go : Whose (λ v. v) g h shape.0 shape.1 → Walking ys u at
                   go (inl e) =
-                      again at (carried_other xs u at x m shape.0 shape.1 shape.2 shape.4
+                      again at (ap says_headed p ∙ carried_other xs u g k x.inside ended shape.0 shape.1 shape.2 shape.4
                       (λ z. shape.4.apart (sym e.0 ∙ z)))
-                  go (inr e) = clash h (p ∙ ap is_stop (goes e.0))
+                  go (inr e) = clash y (ap is_stop (goes e.0))
 
-              pub next_under : t ≡ false → Walking ys u ((at / most_vertices + 1) * most_vertices + to % most_vertices)
-              next_under h = go shape.5
+              went-under : is_stop (next_here ys g) ≡ false → (r : Result Head Refusal) → says_headed r ≡ one_more k h → Walking ys u r
+              went-under y r o = go shape.5
                 where
-                  go : Whose (λ v. v) (at % most_vertices) (to % most_vertices) shape.0 shape.1
-                      → Walking ys u ((at / most_vertices + 1) * most_vertices + to % most_vertices)
-                  go (inl e) = clash (p ∙ ap is_stop (stays e.0)) h
+                  go : Whose (λ v. v) g h shape.0 shape.1 → Walking ys u r
+                  go (inl e) = clash (ap is_stop (stays e.0)) y
                   go (inr e) =
-                      again _ (ap (λ (z : ℕ). says_walked ((at / most_vertices + 1) * most_vertices + z)) e.1
-                      ∙ carried_under xs u at x m shape.0 shape.1 shape.2 shape.4 e.0)
+                      again r (o ∙ ap (one_more k) e.1 ∙ carried_under xs u g k x.inside ended shape.0 shape.1 shape.2 shape.4 e.0)
+
+            -- t says whether u's head is a head still
+            module _ (t : Bool) (y : t ≡ is_stop (next_here ys g)) where
+              same-area : outcome (gives same) ys ≡ link_one xs g h → ys ≡ xs
+              same-area e = link-leaves ys g h (gives same) e (λ z. no-case cc)
+
+              pub next-top : (d : Joining) → outcome (gives d) ys ≡ link_one xs g h → t ≡ true → Walking ys u at
+              next-top merged e i = on-top e (sym y ∙ i)
+              next-top same e i = kept ys (same-area e)
+
+              pub next-under : (d : Joining) → outcome (gives d) ys ≡ link_one xs g h → t ≡ false → (r : Result Head Refusal)
+                  → says_headed r ≡ one_more k h
+                  → Walking ys u r
+              next-under merged e i = went-under e (sym y ∙ i)
+              next-under same e i =
+                  clash (ap is_stop (ap (λ (b : List ℤ). next_here b g) (same-area e) ∙ next-first.head)) (sym y ∙ i)

@@ -4,13 +4,12 @@ ghost use Rattle.basis.specs.Limits.{most_vertices};
 ghost use Rattle.book.specs.Rules.{outcome, each_outcome, join_book, join_each, above};
 ghost use Rattle.book.specs.One.{one_book};
 ghost use Rattle.basis.specs.Refusal.{gives, plain};
-ghost use Rattle.book.specs.Says.{as_joining, says_joined, says_joined_each};
-ghost use Rattle.book.specs.Steps.{AtHead, link_one, hang_one, Walking, says_carried, carried_on};
+ghost use Rattle.book.specs.Says.{as_joining, says_joined, says_joined_each, says_headed};
+ghost use Rattle.book.specs.Steps.{AtHead, link_one, hang_one, one_more, Walking};
 
 use super::entry::{is_head, size_at};
-use super::{MOST_MOVES, heads, walk, well_lent};
+use super::{Head, MOST_MOVES, heads, walk, well_lent};
 use basis::Refusal;
-use basis::limits::MOST_VERTICES;
 use basis::refusal::{NO_ROOM, NOT_THERE, UNSOUND};
 use std::fmt;
 
@@ -97,35 +96,39 @@ pub fn join(entries: &mut [i64], u: usize, v: usize) -> Result<Joining, Refusal>
     link(entries, g, h)
 }
 
-// Joins u, whose walk is `at`, with w. Answers the walk of u then, where the join merged two groups: it is one move longer where u's head
-// went under the other; or None, where it found one group. It takes u for the contract alone.
-fn join_next(entries: &mut [i64], u: usize, at: usize, w: usize) -> Result<Option<usize>, Refusal>
-    requires { Walking entries.old u at }
-    ensures { (outcome (says_carried result) entries.new ≡ join_book one_book entries.old u w)
-        × Walking entries.new u (carried_on at result) }
+// The walk `at`, made one move longer by its head's going under `top`.
+fn longer(at: Head, top: usize) -> Result<Head, Refusal>
+    ensures { says_headed result ≡ one_more at.moves top }
+{
+    if MOST_MOVES <= at.moves {
+        return Err(Refusal::plain(UNSOUND));
+    }
+    Ok(Head {
+        head: top,
+        moves: at.moves + 1,
+    })
+}
+
+// Joins u, whose walk is `at`, with w, and carries the walk on. It takes u for the contract alone.
+fn join_next(
+    entries: &mut [i64],
+    u: usize,
+    at: &mut Result<Head, Refusal>,
+    w: usize,
+) -> Result<Joining, Refusal>
+    requires { Walking entries.old u at.old }
+    ensures { (outcome (says_joined result) entries.new ≡ join_book one_book entries.old u w) × Walking entries.new u at.new }
 {
     if entries.len() <= w {
         return Err(Refusal::plain(NOT_THERE));
     }
-    if MOST_MOVES < at / MOST_VERTICES {
-        return Err(Refusal::plain(UNSOUND));
+    let first = (*at)?;
+    let second = walk(entries, w)?;
+    let joining = link(entries, first.head, second.head)?;
+    if !is_head(entries, first.head) {
+        *at = longer(first, second.head);
     }
-    let to = walk(entries, w);
-    if MOST_MOVES < to / MOST_VERTICES {
-        return Err(Refusal::plain(UNSOUND));
-    }
-    let g = at % MOST_VERTICES;
-    let h = to % MOST_VERTICES;
-    match link(entries, g, h)? {
-        Joining::Merged => {
-            if is_head(entries, g) {
-                return Ok(Some(at));
-            }
-            let longer = (at / MOST_VERTICES + 1) * MOST_VERTICES + h;
-            Ok(Some(longer))
-        }
-        Joining::Already => Ok(None),
-    }
+    Ok(joining)
 }
 
 // Joins u with each of the others, one after the other, up to the first join that is refused: those before it stand, and it changes
@@ -146,8 +149,8 @@ pub fn join_each(entries: &mut [i64], u: usize, others: &[usize]) -> Result<usiz
     let mut at = walk(entries, u);
     let mut merges: usize = 0;
     for (i, w) in others.iter().enumerate() {
-        let carried = match join_next(entries, u, at, *w) {
-            Ok(carried) => carried,
+        let joining = match join_next(entries, u, &mut at, *w) {
+            Ok(joining) => joining,
             Err(refusal) => {
                 return Err(Stopped {
                     joined: i,
@@ -156,9 +159,9 @@ pub fn join_each(entries: &mut [i64], u: usize, others: &[usize]) -> Result<usiz
                 });
             }
         };
-        if let Some(on) = carried {
-            at = on;
-            merges += 1;
+        match joining {
+            Joining::Merged => merges += 1,
+            Joining::Already => {}
         }
     }
     Ok(merges)

@@ -6,7 +6,8 @@ ghost use Rattle.std.specs.Prelude.{◌≡◌, ◌≤◌, ◌<◌, length, leb};
 ghost use Rattle.basis.specs.Limits.{most_vertices};
 ghost use Rattle.book.specs.Rules.{walk_from, heads_of};
 ghost use Rattle.book.specs.One.{next_here, one};
-ghost use Rattle.book.specs.Steps.{says_walked, says_pair};
+ghost use Rattle.book.specs.Says.{says_headed};
+ghost use Rattle.book.specs.Steps.{says_pair};
 
 use basis::Refusal;
 use basis::limits::MOST_VERTICES;
@@ -30,9 +31,6 @@ pub struct Head {
 // How many moves a walk may take.
 const MOST_MOVES: usize = 16;
 
-// The number of a walk that does not end: one move too many.
-const NO_END: usize = 1114112;
-
 // Whether the area has at most 65,536 places.
 fn well_lent(entries: &[i64]) -> bool
     ensures { result ≡ leb (length entries.now) most_vertices }
@@ -40,28 +38,24 @@ fn well_lent(entries: &[i64]) -> bool
     entries.len() <= MOST_VERTICES
 }
 
-// The walk from `v` to its head, in one number, since an answer of several goes through memory: its moves times `MOST_VERTICES`, and the
-// head.
-fn walk(entries: &[i64], v: usize) -> usize
+// The walk from `v` to its head, refused where it leaves the area or takes too many moves. It is inlined, since its answer of several values
+// would else go through memory.
+#[inline(always)]
+fn walk(entries: &[i64], v: usize) -> Result<Head, Refusal>
     requires { (v < length entries.now) × (length entries.now ≤ most_vertices) }
-    ensures { says_walked result ≡ walk_from (next_here entries.now) (length entries.now) v }
+    ensures { says_headed result ≡ walk_from (next_here entries.now) (length entries.now) v }
 {
     let mut at = v;
-    let mut moves: usize = 0;
-    loop {
+    for moves in 0..=MOST_MOVES {
         if is_head(entries, at) {
-            return moves * MOST_VERTICES + at;
+            return Ok(Head { head: at, moves });
         }
-        if MOST_MOVES <= moves {
-            return NO_END;
+        at = parent(entries, at);
+        if entries.len() <= at {
+            break;
         }
-        let p = parent(entries, at);
-        if entries.len() <= p {
-            return NO_END;
-        }
-        at = p;
-        moves += 1;
     }
+    Err(Refusal::plain(UNSOUND))
 }
 
 // The heads of two vertices, with the checks of a call that names both: both are checked before any walk.
@@ -71,19 +65,10 @@ fn heads(entries: &[i64], u: usize, v: usize) -> Result<(usize, usize), Refusal>
     if !well_lent(entries) {
         return Err(Refusal::plain(NO_ROOM));
     }
-    if entries.len() <= u {
+    if entries.len() <= u || entries.len() <= v {
         return Err(Refusal::plain(NOT_THERE));
     }
-    if entries.len() <= v {
-        return Err(Refusal::plain(NOT_THERE));
-    }
-    let a = walk(entries, u);
-    if MOST_MOVES < a / MOST_VERTICES {
-        return Err(Refusal::plain(UNSOUND));
-    }
-    let b = walk(entries, v);
-    if MOST_MOVES < b / MOST_VERTICES {
-        return Err(Refusal::plain(UNSOUND));
-    }
-    Ok((a % MOST_VERTICES, b % MOST_VERTICES))
+    let first = walk(entries, u)?;
+    let second = walk(entries, v)?;
+    Ok((first.head, second.head))
 }

@@ -6,9 +6,8 @@ ghost use Rattle.book.specs.One.{one};
 ghost use Rattle.book.specs.Says.{says_headed, says_compared, says_reading};
 
 use super::entry::size_at;
-use super::{Head, MOST_MOVES, heads, walk, well_lent};
+use super::{Head, heads, walk, well_lent};
 use basis::Refusal;
-use basis::limits::MOST_VERTICES;
 use basis::refusal::{NO_ROOM, NOT_THERE, UNSOUND};
 
 // The head of `v`, with the number of moves from parent to parent that reach it.
@@ -21,14 +20,7 @@ pub fn head(entries: &[i64], v: usize) -> Result<Head, Refusal>
     if entries.len() <= v {
         return Err(Refusal::plain(NOT_THERE));
     }
-    let a = walk(entries, v);
-    if MOST_MOVES < a / MOST_VERTICES {
-        return Err(Refusal::plain(UNSOUND));
-    }
-    Ok(Head {
-        head: a % MOST_VERTICES,
-        moves: a / MOST_VERTICES,
-    })
+    walk(entries, v)
 }
 
 pub fn same_group(entries: &[i64], u: usize, v: usize) -> Result<bool, Refusal>

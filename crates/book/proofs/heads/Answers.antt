@@ -1,8 +1,9 @@
+use mathlib.Core.Path.{refl}
+use Rattle.std.proofs.lemmas.Result.{err_from_is_err_and}
 use Rattle.book.specs.One.{one}
-use Rattle.book.proofs.Calls.{heads-unlent, heads-missing, heads-missing2}
-use Rattle.book.proofs.Walked.{lent-within, heads-late, heads-late2, heads-end}
-use borrow.Author.Rules.{rules}
+use Rattle.book.proofs.Calls.{heads-unlent, heads-missing, heads-missing2, heads-walked}
 use Rattle.book.proofs.heads.Goals as goal
+use Rattle.book.proofs.heads.Goals.{then-entries-u-via-then-entries-u, then-entries-u-via-else-entries-u+then-entries-v}
 
 pub returns-then-not-well_lent : goal.returns-then-not-well_lent
 unfolding one
@@ -10,26 +11,36 @@ returns-then-not-well_lent c = search heads-unlent
 
 pub returns-then-entries-u : goal.returns-then-entries-u
 unfolding one
-returns-then-entries-u c = search heads-missing
+returns-then-entries-u c =
+    let w = c.well_lent in
+    let t = c.if-not-well_lent.false in
+    elim c.then-entries-u.branch [
+      | then-entries-u-via-then-entries-u o ↦
+          heads-missing _ _ _ w.result w.ensures _ t o.if-entries-u.true c.plain-then-entries-u.ensures
+      | then-entries-u-via-else-entries-u+then-entries-v o ↦
+          heads-missing2 _ _ _ w.result w.ensures _ t o.if-entries-u.false o.if-entries-v.true c.plain-then-entries-u.ensures
+    ]
 
-pub returns-then-entries-v : goal.returns-then-entries-v
+pub returns-in_err-first : goal.returns-in_err-first
 unfolding one
-returns-then-entries-v c = search heads-missing2
+returns-in_err-first c =
+    let p = err_from_is_err_and c.from_residual.result c.from_residual.ensures.1 in
+    let w = c.well_lent in
+    rw (p.1, p.2)
+    (heads-walked _ _ _ w.result w.ensures _ _ c.if-not-well_lent.false c.if-entries-u.false c.if-entries-v.false c.in_err-first.ensures refl)
 
-pub walk-a-requires : goal.walk-a-requires
-walk-a-requires c = search (rules, lent-within)
-
-pub returns-then-a-gt-MOST_MOVES : goal.returns-then-a-gt-MOST_MOVES
+pub returns-in_err-second : goal.returns-in_err-second
 unfolding one
-returns-then-a-gt-MOST_MOVES c = search heads-late
-
-pub walk-b-requires : goal.walk-b-requires
-walk-b-requires c = search (rules, lent-within)
-
-pub returns-then-b-gt-MOST_MOVES : goal.returns-then-b-gt-MOST_MOVES
-unfolding one
-returns-then-b-gt-MOST_MOVES c = search heads-late2
+returns-in_err-second c =
+    let p = err_from_is_err_and c.from_residual-in_err-second.result c.from_residual-in_err-second.ensures.1 in
+    let w = c.well_lent in
+    rw (p.1, p.2)
+    (heads-walked _ _ _ w.result w.ensures _ _ c.if-not-well_lent.false c.if-entries-u.false c.if-entries-v.false c.in_ok-first.ensures
+    c.in_err-second.ensures)
 
 pub returns : goal.returns
 unfolding one
-returns c = search heads-end
+returns c =
+    let w = c.well_lent in
+    heads-walked _ _ _ w.result w.ensures _ _ c.if-not-well_lent.false c.if-entries-u.false c.if-entries-v.false c.in_ok-first.ensures
+    c.in_ok-second.ensures

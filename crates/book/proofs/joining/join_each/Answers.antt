@@ -1,12 +1,11 @@
 use borrow.Author.Rules.{rules}
-use mathlib.Core.Path.{refl, ap, ◌∙◌}
-use Rattle.std.specs.Prelude.{Ok}
+use mathlib.Core.Path.{refl}
 use native.Mathlib.Omega.{arith}
 use Rattle.book.proofs.Walked.{lent-within}
-use Rattle.book.proofs.Each.{each_none, not-empty, each-unlent, each-missing, walking_start, walking_on, walking-stays}
+use Rattle.book.proofs.Each.{each_none, not-empty, each-unlent, each-missing, walking_start}
 use Rattle.book.proofs.Each.{behind-none, each-merged, each-already, each-refused, each-end}
 use Rattle.book.proofs.joining.join_each.Goals as goal
-use Rattle.book.proofs.joining.join_each.Goals.{in-Some, in_default}
+use Rattle.book.proofs.joining.join_each.Goals.{in-Merged, in-Already}
 
 pub returns-then-is_empty : goal.returns-then-is_empty
 returns-then-is_empty c = each_none _ _ _ c.if-is_empty.ensures
@@ -40,12 +39,25 @@ loop-i-init c =
 
 pub loop-i-preserved : goal.loop-i-preserved
 loop-i-preserved c =
-    let e = c.join_next.ensures in
-    elim c.match-carried.branch [
-      | in-Some w ↦ let r = c.in-Ok.is ∙ ap Ok w.in-Some.is in
-          (omega arith, omega arith, search rules, rw w.at-is (walking_on _ _ _ _ _ r e.1), rw w.merges-is (search (each-merged, r, e.0)))
-      | in_default w ↦ let r = c.in-Ok.is ∙ ap Ok w.in_default.is in
-          (omega arith, omega arith, search rules, rw w.at-is (walking-stays _ _ _ _ r e.1), rw w.merges-is (search (each-already, r, e.0)))
+    let l = c.loop-i in
+    let walking = c.join_next.ensures.1 in
+    elim c.match-joining.branch [
+      | in-Merged w ↦
+          let e = rw w.in-Merged.is at c.in-Ok.ensures.0 in (
+            omega arith,
+            omega arith,
+            search rules,
+            walking,
+            rw w.merges-is (each-merged _ _ _ _ l.i l.merges l.invariant.4 c.loop-i-test.true _ e),
+          )
+      | in-Already w ↦
+          let e = rw w.in-Already.is at c.in-Ok.ensures.0 in (
+            omega arith,
+            omega arith,
+            search rules,
+            walking,
+            rw w.merges-is (each-already _ _ _ _ l.i l.merges l.invariant.4 c.loop-i-test.true _ e),
+          )
     ]
 
 pub returns-in-Err : goal.returns-in-Err

@@ -1,7 +1,6 @@
 use Rattle.book.specs.One.{one}
-use Rattle.book.proofs.Calls.{head-unlent, head-missing}
-use Rattle.book.proofs.Walked.{lent-within, head-late, head-ends}
-use borrow.Author.Rules.{rules}
+use Rattle.book.proofs.Calls.{head-unlent, head-missing, head-walked}
+use Rattle.book.proofs.Walked.{lent-within}
 use Rattle.book.proofs.readings.head.Goals as goal
 
 pub returns-then-not-well_lent : goal.returns-then-not-well_lent
@@ -12,13 +11,13 @@ pub returns-then-entries-v : goal.returns-then-entries-v
 unfolding one
 returns-then-entries-v c = search head-missing
 
-pub walk-a-requires : goal.walk-a-requires
-walk-a-requires c = search (rules, lent-within)
-
-pub returns-then-a-gt-MOST_MOVES : goal.returns-then-a-gt-MOST_MOVES
-unfolding one
-returns-then-a-gt-MOST_MOVES c = search head-late
+pub walk-requires : goal.walk-requires
+walk-requires c =
+    let w = c.well_lent in
+    (c.if-entries-v.false, lent-within _ w.result w.ensures c.if-not-well_lent.false)
 
 pub returns : goal.returns
 unfolding one
-returns c = search head-ends
+returns c =
+    let w = c.well_lent in
+    head-walked _ _ w.result w.ensures _ c.if-not-well_lent.false c.if-entries-v.false c.walk.ensures
