@@ -18,8 +18,7 @@ use Rattle.basis.specs.Area.{between}
 use Rattle.basis.proofs.Alls.{All, all_take, all-at, all-column, all_left}
 use Rattle.graph.specs.Sound.{Graph, outward, inward, names, sound_graph}
 use Rattle.graph.specs.Find.{place_in, is_there}
-use Rattle.graph.specs.declared.find.Found.{Found}
-use Rattle.graph.specs.declared.find.Found.TheVariants.{At, Missing}
+use Rattle.std.proofs.Common.{Option, Some, None}
 use Rattle.kernels.specs.Answer.{kernel_says}
 use Rattle.bfs.specs.Depth.{ring_depth, depth_of}
 use Rattle.bfs.specs.Call as B
@@ -157,10 +156,10 @@ module _ (n : ℕ) (line listing : List ℕ) (few : n ≤ desk_vertices) (long :
 depth_small : (n k : ℕ) → n ≤ desk_vertices → Small (ring_depth n k)
 depth_small n k h = depth-cases Small n k (λ l. omega arith) (omega arith)
 
-depths-small : (g : Graph) (x : Found) → g.vertices ≤ desk_vertices → All Small (B.depths_from g x)
+depths-small : (g : Graph) (x : Option ℕ) → g.vertices ≤ desk_vertices → All Small (B.depths_from g x)
 unfolding depth_of
-depths-small g Missing h = tt
-depths-small g (At root) h = all-column Small _ (λ v. depth_small g.vertices _ h) 0 g.vertices
+depths-small g None h = tt
+depths-small g (Some root) h = all-column Small _ (λ v. depth_small g.vertices _ h) 0 g.vertices
 
 labels-small : (g : Graph) → All Small g.ids → All Small (wcc_of g)
 unfolding label_of

@@ -18,7 +18,7 @@ use Rattle.basis.proofs.Areas.{column-length}
 use Rattle.basis.proofs.Tests.{and_first, and_second, and_both}
 use Rattle.graph.specs.Sound.{Graph, outward, names, sound_ids, sound_sides, sound_graph, lent}
 use Rattle.graph.specs.Find.{place_in}
-use Rattle.graph.specs.declared.find.Found.TheVariants.{At, Missing}
+use Rattle.std.proofs.Common.{Some, None}
 use Rattle.kernels.specs.Answer.{kernel_says}
 use Rattle.bfs.specs.Depth.{depths}
 use Rattle.bfs.specs.Call as B
@@ -71,7 +71,7 @@ module _ (g : Graph) (sound : sound_graph g ≡ true) (count : length g.ids ≡ 
       (ratios-pad g.ids (numerators g) (denominators g) _ _ (column-length _ 0 g.vertices ∙ sym count)
       (column-length _ 0 g.vertices ∙ sym count)))
 
-  pub bfs-runs : (root : ℤ) (v : ℕ) → place_in (names g) root ≡ At v
+  pub bfs-runs : (root : ℤ) (v : ℕ) → place_in (names g) root ≡ Some v
       → bfs_text g root line ≡ head_text line g.vertices ++ pair_lines g.ids (depths g.vertices (outward g) v)
   unfolding bfs_text B.bfs_call B.left_by B.room_for kernel_says
   bfs-runs root v e =
@@ -79,7 +79,7 @@ module _ (g : Graph) (sound : sound_graph g ≡ true) (count : length g.ids ≡ 
       (ap (λ l. head_text line g.vertices ++ l) (pairs-pad g.ids (depths g.vertices (outward g) v) _
       (column-length _ 0 g.vertices ∙ sym count)))
 
-  pub bfs-stops : (root : ℤ) → place_in (names g) root ≡ Missing → bfs_text g root line ≡ refused_text (plain not_there)
+  pub bfs-stops : (root : ℤ) → place_in (names g) root ≡ None → bfs_text g root line ≡ refused_text (plain not_there)
   unfolding bfs_text B.bfs_call B.left_by kernel_says
   bfs-stops root e = rw (e, sound)
 

@@ -1,5 +1,6 @@
 -- Laws of what a job prints, one for each answer of its kernel. Assumes nothing.
-use Prim.Native.Nat.{ℕ, zero, suc, ◌-◌, ◌≤◌, ◌<◌}
+use Rattle.std.proofs.Common.{Result, Ok, Err}
+use Prim.Native.Nat.{ℕ, suc, ◌+◌, ◌-◌, ◌≤◌, ◌<◌}
 use mathlib.Core.Path.{◌≡◌, refl, sym, ap, ◌∙◌}
 use mathlib.Core.List.{List, [], ◌++◌}
 use native.Mathlib.Omega.{arith}
@@ -9,8 +10,6 @@ use Rattle.basis.specs.declared.refusal.Refusal.{Refusal}
 use Rattle.basis.specs.Area.{between}
 use Rattle.graph.specs.Sound.{Graph}
 use Rattle.kernels.specs.Answer.{says}
-use Rattle.kernels.specs.declared.Answer.{Answer}
-use Rattle.kernels.specs.declared.Answer.TheVariants.{Done, Refused}
 use Rattle.bfs.specs.Call as B
 use Rattle.wcc.specs.Call as W
 use Rattle.cdlp.specs.Call as C
@@ -18,29 +17,27 @@ use Rattle.lcc.specs.Call as L
 use Rattle.write.specs.Put.{Written, written, put_at}
 use Rattle.write.proofs.Puts.{put_then, put_as, putting-more, putting-end}
 use Rattle.text.proofs.Places.{Moved}
-use Rattle.plan.specs.Jobs.{job_of, job_line, job_says}
+use Rattle.plan.specs.Jobs.{job_of, job_line}
 use Rattle.plan.specs.declared.job.Job.{Job}
 use Rattle.plan.specs.declared.job.Job.TheVariants as J
-use Rattle.plan.specs.declared.job.JobLine.{JobLine}
-use Rattle.plan.specs.declared.job.JobLine.TheVariants as JL
 use Rattle.plan.proofs.Places.{line-moved}
 use Rattle.listing.specs.Listing.{refused_text, head_text, pair_lines, ratio_lines}
 use Rattle.sheet.specs.Jobs.{desk_area, desk_area_z, answer_text, bfs_text, wcc_text, cdlp_text, lcc_text, job_text, jobs_text}
 
 -- ---- by a kernel's answer
-module _ (n : ℕ) (line listing : List ℕ) (x : Answer) (o : List ℕ) (at : ℕ) {o' : List ℕ} {p : ℕ} where
-  pub ran-refused : (r : Refusal) → x ≡ Refused r → written o' p ≡ put_at o at (refused_text r)
+module _ (n : ℕ) (line listing : List ℕ) (x : Result (Unit {0}) Refusal) (o : List ℕ) (at : ℕ) {o' : List ℕ} {p : ℕ} where
+  pub ran-refused : (r : Refusal) → x ≡ Err r → written o' p ≡ put_at o at (refused_text r)
       → written o' p ≡ put_at o at (answer_text n line (says x) listing)
   ran-refused r e w = put_as o at (refused_text r) w _ (ap (λ y. answer_text n line (says y) listing) (sym e))
 
-  pub ran-done : {o'' : List ℕ} {q : ℕ} → x ≡ Done → written o' p ≡ put_at o at (head_text line n) → written o'' q ≡ put_at o' p listing
+  pub ran-done : (u : Unit {0}) {o'' : List ℕ} {q : ℕ} → x ≡ Ok u → written o' p ≡ put_at o at (head_text line n) → written o'' q ≡ put_at o' p listing
       → written o'' q ≡ put_at o at (answer_text n line (says x) listing)
-  ran-done e w v =
+  ran-done u e w v =
       put_as o at (head_text line n ++ listing) (put_then o at (head_text line n) w listing v) _
       (ap (λ y. answer_text n line (says y) listing) (sym e))
 
 -- ---- a job's text, by what its kernel left in the areas
-module _ (g : Graph) (line : List ℕ) (x : Answer) (o : List ℕ) (at : ℕ) {o' : List ℕ} {p : ℕ} where
+module _ (g : Graph) (line : List ℕ) (x : Result (Unit {0}) Refusal) (o : List ℕ) (at : ℕ) {o' : List ℕ} {p : ℕ} where
   pub bfs-put : (root z : ℤ) (d : List ℤ) (q : List ℕ) → z ≡ root → B.outcome (says x) d q ≡ B.bfs_call g z desk_area_z desk_area
       → written o' p ≡ put_at o at (answer_text g.vertices line (says x) (pair_lines g.ids d))
       → written o' p ≡ put_at o at (bfs_text g root line)
@@ -93,31 +90,26 @@ module _ (g : Graph) (line : List ℕ) (j : Job) (o : List ℕ) (at : ℕ) {o' :
   job-lcc e w = put_as o at _ w _ (ap (job_text g line) (sym e))
 
 -- ---- the jobs one after another: what is left of them, printed from here on, makes the whole
-pub job_moved : (s : List ℕ) (place : ℕ) (x : JobLine) (j : Job) (end : ℕ) → job_says x ≡ job_line s place → x ≡ JL.Line j end
-    → Moved s place end
-job_moved s place x j end u e = line-moved job_of s place j end (sym u ∙ ap job_says e)
+pub job_moved : (s : List ℕ) (place : ℕ) (j : Job) (end : ℕ) → gives (j, end) ≡ job_line s place → Moved s place end
+job_moved s place j end u = line-moved job_of s place j end (sym u)
 
-module _ {w : Written} (g : Graph) (s : List ℕ) where
-  pub jobs-end : (left place : ℕ) (o : List ℕ) (at : ℕ) → left ≤ 0 → put_at o at (jobs_text g s left place) ≡ w → written o at ≡ w
+module _ {w : Written} (g : Graph) (s : List ℕ) (count i place : ℕ) (o : List ℕ) (at : ℕ)
+    (e : put_at o at (jobs_text g s (count - i) place) ≡ w) where
+  pub jobs-end : count ≤ i → written o at ≡ w
   unfolding jobs_text
-  jobs-end zero place o at h e = putting-end o at [] e refl
-  jobs-end (suc k) place o at h e = absurd (omega arith)
+  jobs-end h = let z : count - i ≡ 0 = omega arith in putting-end o at [] (rw z at e) refl
 
-  pub jobs-fault : (left place : ℕ) (x : JobLine) (r : Refusal) (o : List ℕ) (at : ℕ) → 0 < left → job_says x ≡ job_line s place
-      → x ≡ JL.Refused r
-      → put_at o at (jobs_text g s left place) ≡ w → written o at ≡ w
-  unfolding jobs_text
-  jobs-fault zero place x r o at h u f e = absurd (omega arith)
-  jobs-fault (suc k) place x r o at h u f e =
-      let q : job_line s place ≡ refuses r = sym u ∙ ap job_says f in putting-end o at [] (rw (jobs_text, q) at e) refl
+  jobs_at : i < count → put_at o at (jobs_text g s (suc (count - (i + 1))) place) ≡ w
+  jobs_at h = let z : count - i ≡ suc (count - (i + 1)) = omega arith in rw z at e
 
-  pub jobs-more : (left place end : ℕ) (x : JobLine) (j : Job) (o : List ℕ) (at : ℕ) {o' : List ℕ} {at' : ℕ} → 0 < left
-      → job_says x ≡ job_line s place → x ≡ JL.Line j end
-      → put_at o at (jobs_text g s left place) ≡ w → written o' at' ≡ put_at o at (job_text g (between place end s) j)
-      → put_at o' at' (jobs_text g s (left - 1) end) ≡ w
+  pub jobs-fault : i < count → (r : Refusal) → refuses r ≡ job_line s place → written o at ≡ w
   unfolding jobs_text
-  jobs-more zero place end x j o at h u f e step = absurd (omega arith)
-  jobs-more (suc k) place end x j o at h u f e step =
-      let q : job_line s place ≡ gives (j, end) = sym u ∙ ap job_says f in
-      let z : suc k - 1 ≡ k = omega arith in
-      rw z (putting-more o at (job_text g (between place end s) j) (jobs_text g s k end) (rw (jobs_text, q) at e) step)
+  jobs-fault h r u = putting-end o at [] (rw (jobs_text, sym u) at (jobs_at h)) refl
+
+  pub jobs-more : i < count → (j : Job) (end : ℕ) {o' : List ℕ} {at' : ℕ} → gives (j, end) ≡ job_line s place
+      → written o' at' ≡ put_at o at (job_text g (between place end s) j)
+      → put_at o' at' (jobs_text g s (count - (i + 1)) end) ≡ w
+  unfolding jobs_text
+  jobs-more h j end u step =
+      putting-more o at (job_text g (between place end s) j) (jobs_text g s (count - (i + 1)) end)
+      (rw (jobs_text, sym u) at (jobs_at h)) step

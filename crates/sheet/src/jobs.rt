@@ -1,343 +1,147 @@
-// A sheet's jobs: each runs its kernel on the loaded graph and prints its lines. `line` is the job's line with its LF, and `ids` has just
-// the graph's vertices. Each kernel's areas are zeros when it is called.
-ghost use Rattle.std.specs.Prelude.{◌≡◌};
+// A sheet's jobs: each runs its kernel on the loaded graph and prints its lines. `line` is the job's line with its LF, and the graph's
+// identifiers are just those of its vertices. Each kernel's areas are zeros when it is called.
+ghost use Rattle.std.specs.Prelude.{◌≡◌, ℕ, List};
 ghost use Rattle.write.specs.Put.{written, put_at};
-ghost use Rattle.graph.specs.Sound.{lent};
+ghost use Rattle.graph.specs.Sound.{standing};
 ghost use Rattle.kernels.specs.Answer.{says};
-ghost use Rattle.listing.specs.Listing.{pair_lines, ratio_lines};
 ghost use Rattle.sheet.specs.Jobs.{answer_text, bfs_text, wcc_text, cdlp_text, lcc_text, job_text, jobs_text};
 
+use basis::Refusal;
 use basis::limits::DESK_VERTICES;
 use bfs::bfs;
 use cdlp::cdlp;
-use graph::Size;
-use kernels::Answer;
+use graph::Lent;
 use lcc::lcc;
 use listing::{put_head, put_pairs, put_ratios, put_refused};
 use plan::Job;
-use plan::job::{JobLine, read_job};
+use plan::job::read_job;
 use wcc::wcc;
 
-// What a kernel of one result area prints by its answer.
-fn put_labels(
-    x: Answer,
+// What a kernel's answer prints: its refusal, or the job's line, the count line, and behind them what `lines` writes.
+fn put_answer<F: FnOnce(&mut [u8], usize) -> usize>(
+    x: Result<(), Refusal>,
     n: usize,
-    ids: &[i64],
-    labels: &[i64],
     line: &[u8],
+    lines: F,
     out: &mut [u8],
     at: usize,
 ) -> usize
-    ensures { written out.new result
-        ≡ put_at out.old at
-        (answer_text n line.now (says x) (pair_lines ids.now labels.now)) }
+    requires { F.IsAlwaysCallable lines }
+    ensures { (text : List ℕ)
+        → ((o : _) (place next : ℕ) (p : _) → F.post lines o place next p → written p.now next ≡ put_at o.now place text)
+        → written out.new result ≡ put_at out.old at (answer_text n line.now (says x) text) }
 {
     match x {
-        Answer::Refused(r) => put_refused(out, at, r),
-        Answer::Done => {
+        Err(r) => put_refused(out, at, r),
+        Ok(()) => {
             let next = put_head(out, at, line, n);
-            put_pairs(out, next, ids, labels)
-        }
-    }
-}
-
-// The same of LCC, which has two.
-fn put_coefficients(
-    x: Answer,
-    n: usize,
-    ids: &[i64],
-    numerators: &[usize],
-    denominators: &[usize],
-    line: &[u8],
-    out: &mut [u8],
-    at: usize,
-) -> usize
-    ensures { written out.new result
-        ≡ put_at out.old at
-        (answer_text n line.now (says x)
-        (ratio_lines ids.now numerators.now denominators.now)) }
-{
-    match x {
-        Answer::Refused(r) => put_refused(out, at, r),
-        Answer::Done => {
-            let next = put_head(out, at, line, n);
-            put_ratios(out, next, ids, numerators, denominators)
+            lines(out, next)
         }
     }
 }
 
 // What a BFS job prints.
-fn bfs_job(
-    size: Size,
-    ids: &[i64],
-    out_offsets: &[usize],
-    out_targets: &[usize],
-    in_offsets: &[usize],
-    in_sources: &[usize],
-    root: i64,
-    line: &[u8],
-    out: &mut [u8],
-    at: usize,
-) -> usize
-    ensures { written out.new result
-        ≡ put_at out.old at
-        (bfs_text
-        (lent size ids.now out_offsets.now out_targets.now
-        in_offsets.now in_sources.now)
-        root line.now) }
+fn bfs_job(g: Lent, root: i64, line: &[u8], out: &mut [u8], at: usize) -> usize
+    ensures { written out.new result ≡ put_at out.old at (bfs_text (standing g.entry) root line.now) }
 {
     let mut depth = [0i64; DESK_VERTICES];
     let mut queue = [0usize; DESK_VERTICES];
-    let x = bfs(
-        size,
-        ids,
-        out_offsets,
-        out_targets,
-        in_offsets,
-        in_sources,
-        root,
-        &mut depth,
-        &mut queue,
-    );
-    put_labels(x, size.vertices, ids, &depth, line, out, at)
+    let x = bfs(g, root, &mut depth, &mut queue);
+    put_answer(
+        x,
+        g.size.vertices,
+        line,
+        |out, at| put_pairs(out, at, g.ids, &depth),
+        out,
+        at,
+    )
 }
 
 // What a WCC job prints.
-fn wcc_job(
-    size: Size,
-    ids: &[i64],
-    out_offsets: &[usize],
-    out_targets: &[usize],
-    in_offsets: &[usize],
-    in_sources: &[usize],
-    line: &[u8],
-    out: &mut [u8],
-    at: usize,
-) -> usize
-    ensures { written out.new result
-        ≡ put_at out.old at
-        (wcc_text
-        (lent size ids.now out_offsets.now out_targets.now
-        in_offsets.now in_sources.now)
-        line.now) }
+fn wcc_job(g: Lent, line: &[u8], out: &mut [u8], at: usize) -> usize
+    ensures { written out.new result ≡ put_at out.old at (wcc_text (standing g.entry) line.now) }
 {
-    let mut result = [0i64; DESK_VERTICES];
+    let mut labels = [0i64; DESK_VERTICES];
     let mut heads = [0usize; DESK_VERTICES];
-    let x = wcc(
-        size,
-        ids,
-        out_offsets,
-        out_targets,
-        in_offsets,
-        in_sources,
-        &mut result,
-        &mut heads,
-    );
-    put_labels(x, size.vertices, ids, &result, line, out, at)
+    let x = wcc(g, &mut labels, &mut heads);
+    put_answer(
+        x,
+        g.size.vertices,
+        line,
+        |out, at| put_pairs(out, at, g.ids, &labels),
+        out,
+        at,
+    )
 }
 
 // What a CDLP job prints.
-fn cdlp_job(
-    size: Size,
-    ids: &[i64],
-    out_offsets: &[usize],
-    out_targets: &[usize],
-    in_offsets: &[usize],
-    in_sources: &[usize],
-    iterations: i64,
-    line: &[u8],
-    out: &mut [u8],
-    at: usize,
-) -> usize
-    ensures { written out.new result
-        ≡ put_at out.old at
-        (cdlp_text
-        (lent size ids.now out_offsets.now out_targets.now
-        in_offsets.now in_sources.now)
-        iterations line.now) }
+fn cdlp_job(g: Lent, iterations: i64, line: &[u8], out: &mut [u8], at: usize) -> usize
+    ensures { written out.new result ≡ put_at out.old at (cdlp_text (standing g.entry) iterations line.now) }
 {
-    let mut result = [0i64; DESK_VERTICES];
-    let mut labels = [0usize; DESK_VERTICES];
-    let mut next_labels = [0usize; DESK_VERTICES];
+    let mut labels = [0i64; DESK_VERTICES];
+    let mut places = [0usize; DESK_VERTICES];
+    let mut next_places = [0usize; DESK_VERTICES];
     let mut counts = [0usize; DESK_VERTICES];
     let x = cdlp(
-        size,
-        ids,
-        out_offsets,
-        out_targets,
-        in_offsets,
-        in_sources,
+        g,
         iterations,
-        &mut result,
         &mut labels,
-        &mut next_labels,
+        &mut places,
+        &mut next_places,
         &mut counts,
     );
-    put_labels(x, size.vertices, ids, &result, line, out, at)
+    put_answer(
+        x,
+        g.size.vertices,
+        line,
+        |out, at| put_pairs(out, at, g.ids, &labels),
+        out,
+        at,
+    )
 }
 
 // What an LCC job prints.
-fn lcc_job(
-    size: Size,
-    ids: &[i64],
-    out_offsets: &[usize],
-    out_targets: &[usize],
-    in_offsets: &[usize],
-    in_sources: &[usize],
-    line: &[u8],
-    out: &mut [u8],
-    at: usize,
-) -> usize
-    ensures { written out.new result
-        ≡ put_at out.old at
-        (lcc_text
-        (lent size ids.now out_offsets.now out_targets.now
-        in_offsets.now in_sources.now)
-        line.now) }
+fn lcc_job(g: Lent, line: &[u8], out: &mut [u8], at: usize) -> usize
+    ensures { written out.new result ≡ put_at out.old at (lcc_text (standing g.entry) line.now) }
 {
     let mut numerators = [0usize; DESK_VERTICES];
     let mut denominators = [0usize; DESK_VERTICES];
     let mut work = [0usize; DESK_VERTICES];
-    let x = lcc(
-        size,
-        ids,
-        out_offsets,
-        out_targets,
-        in_offsets,
-        in_sources,
-        &mut numerators,
-        &mut denominators,
-        &mut work,
-    );
-    put_coefficients(
+    let x = lcc(g, &mut numerators, &mut denominators, &mut work);
+    put_answer(
         x,
-        size.vertices,
-        ids,
-        &numerators,
-        &denominators,
+        g.size.vertices,
         line,
+        |out, at| put_ratios(out, at, g.ids, &numerators, &denominators),
         out,
         at,
     )
 }
 
 // What a job prints.
-fn run_job(
-    size: Size,
-    ids: &[i64],
-    out_offsets: &[usize],
-    out_targets: &[usize],
-    in_offsets: &[usize],
-    in_sources: &[usize],
-    job: Job,
-    line: &[u8],
-    out: &mut [u8],
-    at: usize,
-) -> usize
-    ensures { written out.new result
-        ≡ put_at out.old at
-        (job_text
-        (lent size ids.now out_offsets.now out_targets.now
-        in_offsets.now in_sources.now)
-        line.now job) }
+fn run_job(g: Lent, job: Job, line: &[u8], out: &mut [u8], at: usize) -> usize
+    ensures { written out.new result ≡ put_at out.old at (job_text (standing g.entry) line.now job) }
 {
     match job {
-        Job::Bfs(root) => bfs_job(
-            size,
-            ids,
-            out_offsets,
-            out_targets,
-            in_offsets,
-            in_sources,
-            root,
-            line,
-            out,
-            at,
-        ),
-        Job::Wcc => wcc_job(
-            size,
-            ids,
-            out_offsets,
-            out_targets,
-            in_offsets,
-            in_sources,
-            line,
-            out,
-            at,
-        ),
-        Job::Cdlp(iterations) => cdlp_job(
-            size,
-            ids,
-            out_offsets,
-            out_targets,
-            in_offsets,
-            in_sources,
-            iterations,
-            line,
-            out,
-            at,
-        ),
-        Job::Lcc => lcc_job(
-            size,
-            ids,
-            out_offsets,
-            out_targets,
-            in_offsets,
-            in_sources,
-            line,
-            out,
-            at,
-        ),
+        Job::Bfs(root) => bfs_job(g, root, line, out, at),
+        Job::Wcc => wcc_job(g, line, out, at),
+        Job::Cdlp(iterations) => cdlp_job(g, iterations, line, out, at),
+        Job::Lcc => lcc_job(g, line, out, at),
     }
 }
 
 // So many jobs, whose lines stand in the sheet from a place on.
-pub fn run_jobs(
-    size: Size,
-    ids: &[i64],
-    out_offsets: &[usize],
-    out_targets: &[usize],
-    in_offsets: &[usize],
-    in_sources: &[usize],
-    s: &[u8],
-    count: usize,
-    from: usize,
-    out: &mut [u8],
-    at: usize,
-) -> usize
-    ensures { written out.new result
-        ≡ put_at out.old at
-        (jobs_text
-        (lent size ids.now out_offsets.now out_targets.now
-        in_offsets.now in_sources.now)
-        s.now count from) }
+pub fn run_jobs(g: Lent, s: &[u8], count: usize, from: usize, out: &mut [u8], at: usize) -> usize
+    ensures { written out.new result ≡ put_at out.old at (jobs_text (standing g.entry) s.now count from) }
 {
     let mut next = at;
     let mut place = from;
-    let mut left = count;
-    while 0 < left {
-        let x = read_job(s, place);
-        match x {
-            JobLine::Refused(_) => {
-                return next;
-            }
-            JobLine::Line(job, end) => {
-                next = run_job(
-                    size,
-                    ids,
-                    out_offsets,
-                    out_targets,
-                    in_offsets,
-                    in_sources,
-                    job,
-                    &s[place..end],
-                    out,
-                    next,
-                );
-                place = end;
-                left -= 1;
-            }
-        }
+    for _ in 0..count {
+        let Ok((job, end)) = read_job(s, place) else {
+            return next;
+        };
+        next = run_job(g, job, &s[place..end], out, next);
+        place = end;
     }
     next
 }

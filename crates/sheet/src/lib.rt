@@ -4,24 +4,20 @@
 pub mod jobs;
 
 ghost use Rattle.std.specs.Prelude.{◌≡◌};
-ghost use Rattle.load.specs.Load.{says, room_in, outcome};
+ghost use Rattle.basis.specs.Refusal.{said};
+ghost use Rattle.load.specs.Load.{room_in, outcome};
 ghost use Rattle.write.specs.Put.{written, put_at};
-ghost use Rattle.sheet.specs.Desk.{mode_number, load_of, plan_text, desk_output};
+ghost use Rattle.sheet.specs.Desk.{load_of, plan_text, desk_output};
 ghost use Rattle.sheet.specs.Steps.{Placed};
 
 use crate::jobs::run_jobs;
+use basis::Refusal;
 use basis::limits::{DESK_EDGES, DESK_VERTICES};
+use graph::{Lent, Size, Way};
 use listing::put_refused;
-use load::{Limits, Loaded, load_within};
+use load::{Limits, load_within};
 use plan::check;
-use plan::sections::{Checked, Plan};
-
-// The load's number for a mode.
-fn mode_number(directed: bool) -> usize
-    ensures { result ≡ mode_number directed }
-{
-    if directed { 1 } else { 0 }
-}
+use plan::sections::Plan;
 
 // The load of a sheet's vertex and edge sections.
 fn load_sections(
@@ -32,28 +28,22 @@ fn load_sections(
     out_targets: &mut [usize],
     in_offsets: &mut [usize],
     in_sources: &mut [usize],
-) -> Loaded
+) -> Result<Size, Refusal>
     requires { Placed s.now plan }
-    ensures { outcome (says result) ids.new out_offsets.new out_targets.new
+    ensures { outcome (said result) ids.new out_offsets.new out_targets.new
         in_offsets.new in_sources.new
         ≡ load_of s.now plan
         (room_in ids.old out_offsets.old out_targets.old
         in_offsets.old in_sources.old) }
 {
-    let vertices = plan.vertices;
-    let edges = plan.edges;
-    let vertices_from = vertices.from;
-    let vertices_to = vertices.to;
-    let edges_from = edges.from;
-    let edges_to = edges.to;
     load_within(
         Limits {
             vertices: DESK_VERTICES,
             edges: DESK_EDGES,
         },
-        mode_number(plan.directed),
-        &s[vertices_from..vertices_to],
-        &s[edges_from..edges_to],
+        usize::from(plan.directed),
+        &s[plan.vertices.from..plan.vertices.to],
+        &s[plan.edges.from..plan.edges.to],
         ids,
         out_offsets,
         out_targets,
@@ -67,7 +57,6 @@ fn print_plan(s: &[u8], plan: Plan, out: &mut [u8]) -> usize
     requires { Placed s.now plan }
     ensures { written out.new result ≡ put_at out.old 0 (plan_text s.now plan) }
 {
-    let jobs = plan.jobs;
     let mut ids = [0i64; DESK_VERTICES];
     let mut out_offsets = [0usize; DESK_VERTICES + 1];
     let mut out_targets = [0usize; 2 * DESK_EDGES];
@@ -83,22 +72,21 @@ fn print_plan(s: &[u8], plan: Plan, out: &mut [u8]) -> usize
         &mut in_sources,
     );
     match x {
-        Loaded::Refused(r) => put_refused(out, 0, r),
-        Loaded::Graph(size) => {
-            let n = size.vertices;
-            run_jobs(
+        Err(r) => put_refused(out, 0, r),
+        Ok(size) => {
+            let g = Lent {
                 size,
-                &ids[..n],
-                &out_offsets,
-                &out_targets,
-                &in_offsets,
-                &in_sources,
-                s,
-                jobs.count,
-                jobs.from,
-                out,
-                0,
-            )
+                ids: &ids[..size.vertices],
+                outward: Way {
+                    offsets: &out_offsets,
+                    targets: &out_targets,
+                },
+                inward: Way {
+                    offsets: &in_offsets,
+                    targets: &in_sources,
+                },
+            };
+            run_jobs(g, s, plan.jobs.count, plan.jobs.from, out, 0)
         }
     }
 }
@@ -107,9 +95,8 @@ fn print_plan(s: &[u8], plan: Plan, out: &mut [u8]) -> usize
 pub fn answer(s: &[u8], out: &mut [u8]) -> usize
     ensures { written out.new result ≡ put_at out.old 0 (desk_output s.now) }
 {
-    let x = check(s);
-    match x {
-        Checked::Refused(r) => put_refused(out, 0, r),
-        Checked::Good(plan) => print_plan(s, plan, out),
+    match check(s) {
+        Err(r) => put_refused(out, 0, r),
+        Ok(plan) => print_plan(s, plan, out),
     }
 }

@@ -2,10 +2,10 @@ use Rattle.sheet.proofs.Whole.{placed, answer-refused, answer-good}
 use Rattle.sheet.proofs.answer.Goals as goal
 
 pub print_plan-requires : goal.print_plan-requires
-print_plan-requires c = search placed
+print_plan-requires c = placed _ _ c.in-Ok.ensures
 
-pub returns-in-Refused : goal.returns-in-Refused
-returns-in-Refused c = search answer-refused
+pub returns-in-Err : goal.returns-in-Err
+returns-in-Err c = answer-refused _ _ _ _ _ _ c.in-Err.ensures c.put_refused.ensures
 
-pub returns-in-Good : goal.returns-in-Good
-returns-in-Good c = search answer-good
+pub returns-in-Ok : goal.returns-in-Ok
+returns-in-Ok c = answer-good _ _ _ _ _ _ c.in-Ok.ensures c.print_plan.ensures

@@ -1,5 +1,4 @@
 use Rattle.sheet.proofs.load_sections.Goals as goal
 
 pub returns : goal.returns
-returns c =
-    rw c.mode_number.ensures at c.load_within.ensures
+returns c = let f = c.from.ensures in ?

@@ -3,4 +3,4 @@ use borrow.Author.Rules.{rules}
 use Rattle.sheet.proofs.jobs.bfs_job.Goals as goal
 
 pub returns : goal.returns
-returns c = search (bfs-put, rules)
+returns c = bfs-put _ _ _ _ _ _ _ _ _ (search rules) c.bfs-x.ensures (c.put_answer.ensures _ (λ o place next p h. h))

@@ -3,4 +3,4 @@ use borrow.Author.Rules.{rules}
 use Rattle.sheet.proofs.jobs.cdlp_job.Goals as goal
 
 pub returns : goal.returns
-returns c = search (cdlp-put, rules)
+returns c = cdlp-put _ _ _ _ _ _ _ _ _ _ _ (search rules) c.cdlp-x.ensures (c.put_answer.ensures _ (λ o place next p h. h))

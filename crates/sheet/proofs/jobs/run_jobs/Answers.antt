@@ -1,29 +1,26 @@
-use mathlib.Core.Path.{refl}
+use Rattle.std.proofs.Math.Nat.{sub-zero}
 use native.Mathlib.Omega.{arith}
 use Rattle.write.proofs.Puts.{putting-length}
 use Rattle.sheet.proofs.Ran.{job_moved, jobs-end, jobs-fault, jobs-more}
 use Rattle.sheet.proofs.jobs.run_jobs.Goals as goal
 
-pub shape_of-out-in-Refused : goal.shape_of-out-in-Refused
-shape_of-out-in-Refused c = search putting-length
+pub loop-init : goal.loop-init
+loop-init c = rw sub-zero
 
-pub returns-in-Refused : goal.returns-in-Refused
-returns-in-Refused c = search jobs-fault
+pub returns-in_default : goal.returns-in_default
+returns-in_default c = jobs-fault _ _ _ _ _ _ _ c.loop.invariant c.loop-test.true _ c.in_default.ensures
 
 pub slice_bounds-run_job-count : goal.slice_bounds-run_job-count
-slice_bounds-run_job-count c = omega (arith, job_moved _ _ _ _ _ c.in-Line.ensures refl)
+slice_bounds-run_job-count c = omega (arith, job_moved _ _ _ _ c.in-Ok.ensures)
 
 pub slice_bounds-run_job-start : goal.slice_bounds-run_job-start
-slice_bounds-run_job-start c = omega (arith, job_moved _ _ _ _ _ c.in-Line.ensures refl)
+slice_bounds-run_job-start c = omega (arith, job_moved _ _ _ _ c.in-Ok.ensures)
 
 pub slice_bounds-run_job-end : goal.slice_bounds-run_job-end
-slice_bounds-run_job-end c = omega (arith, job_moved _ _ _ _ _ c.in-Line.ensures refl)
+slice_bounds-run_job-end c = omega (arith, job_moved _ _ _ _ c.in-Ok.ensures)
 
-pub loop-left-preserved : goal.loop-left-preserved
-loop-left-preserved c = search jobs-more
-
-pub shape_of-out : goal.shape_of-out
-shape_of-out c = search putting-length
+pub loop-preserved : goal.loop-preserved
+loop-preserved c = jobs-more _ _ _ _ _ _ _ c.loop.invariant c.loop-test.true _ _ c.in-Ok.ensures c.run_job-next.ensures
 
 pub returns : goal.returns
-returns c = search jobs-end
+returns c = jobs-end _ _ _ _ _ _ _ c.loop.invariant c.loop-test.false

@@ -1,8 +1,0 @@
-use Rattle.sheet.proofs.Ran.{ran-refused, ran-done}
-use Rattle.sheet.proofs.jobs.put_coefficients.Goals as goal
-
-pub returns-in-Refused : goal.returns-in-Refused
-returns-in-Refused c = search ran-refused
-
-pub returns-in-Done : goal.returns-in-Done
-returns-in-Done c = search ran-done
