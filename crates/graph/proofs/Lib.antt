@@ -9,4 +9,4 @@ pub mod Steps
 pub mod Walks
 pub mod Weighings
 pub mod Examples
-mod Runs
+pub mod Runs
