@@ -10,15 +10,16 @@ use borrow.Author.Tests.{le-leb, lt-leb, leb-true, lt-ltb, le-ltb, eq-eqb, ne_eq
 use lib.Dec.{leb, ltb, eqb}
 use lib.ListN.{length, get_or, drop, length-drop, get_or-eq_default}
 use lib.Pow.{pow-add}
-use Rattle.basis.proofs.Tests.{clash, false_of, bool_cases, and_first, and_second, and-off, failed, held}
-use Rattle.text.specs.Word.{malformed, is_digit, with_digit, run_len, run_val}
+use Rattle.basis.proofs.Tests.{no-case, clash, false_of, bool_cases, and_first, and_second, and-off, failed, held}
+use Rattle.text.specs.Word.{malformed, within, is_digit, with_digit, run_len, run_val}
 use Rattle.text.specs.Decimal.{digit_limit, digit_of, up, down, wrong, past_point}
 use Rattle.text.specs.Decimal.{whole_is_good, signed_power, power_at, parts_of, fraction_of, decimal_of}
+use Rattle.text.specs.Stop.{digit_at, two_digits}
 use Rattle.text.specs.Stop.{is_sign, digits_stop, digits_power, power_stop, parts_stop, fraction_stop, decimal_stop, power_word}
 use Rattle.text.specs.Scan.{has_at, scanned, cut_number, run_at, decimal_says}
 use Rattle.text.specs.declared.count.Scan.{Scan}
 use Rattle.text.specs.declared.decimal.Decimal.{Decimal}
-use Rattle.std.specs.Prelude.{Result, Ok, Err}
+use Rattle.std.specs.Prelude.{None, Some, Result, Ok, Err}
 use Rattle.text.specs.declared.decimal.Power.{Power}
 use Rattle.text.specs.declared.decimal.Power.TheVariants as P
 use Rattle.text.proofs.Bytes.{within-yes, within-is, has-here, has-is}
@@ -70,13 +71,6 @@ module _ (s : List ℕ) (w : ℕ) (n : w ≡ 1 → ⊥) where
   unfolding whole_is_good
   whole-more h k = rw (ne_eqb w 1 n, lt-ltb 1 w h, lt-ltb 48 (get_or s 0 0) k)
 
-pub sign-other : (b : ℕ) → (b ≡ 43 → ⊥) → eqb b 45 ≡ is_sign b
-unfolding is_sign
-sign-other b n = rw (ne_eqb b 43 n)
-
-sign-minus : (b : ℕ) → is_sign b ≡ true → (b ≡ 43 → ⊥) → b ≡ 45
-sign-minus b e n = eqb-true b 45 (sign-other b n ∙ e)
-
 pub no_sign : (g k : ℕ) → is_sign g ≡ false → signed_power g k ≡ wrong
 unfolding signed_power is_sign
 no_sign g k e = by (eqb g 43) (eqb g 45) e
@@ -86,35 +80,74 @@ no_sign g k e = by (eqb g 43) (eqb g 45) e
     by false true h = clash refl h
     by false false h = refl
 
--- ---- two digits x and y after the sign g
-module _ (s : List ℕ) (at g x : ℕ) (X : x ≡ get_or s at 0) (t : Bool) (T : t ≡ is_digit x) where
-  pub digits-first : t ≡ false → Err at ≡ power_word (digits_power s at g) (digits_stop s at)
-  unfolding digits_power digits_stop
-  digits-first q = rw (← X, failed t (is_digit x) T q, and-off (eqb (length s) (at + 2)) false refl)
+-- ---- a digit at a place, or none
+module _ (s : List ℕ) (at : ℕ) where
+  pub digit-none : is_digit (get_or s at 0) ≡ false → None ≡ digit_at s at
+  unfolding digit_at
+  digit-none e = rw e
 
-  module _ (q : t ≡ true) (y : ℕ) (Y : y ≡ get_or s (at + 1) 0) (u : Bool) (U : u ≡ is_digit y) where
-    pub digits-second : u ≡ false → Err (at + 1) ≡ power_word (digits_power s at g) (digits_stop s at)
-    unfolding digits_power digits_stop
-    digits-second p = rw (← X, held t (is_digit x) T q, ← Y, failed u (is_digit y) U p, and-off (eqb (length s) (at + 2)) false refl)
+  pub digit-past : length s ≤ at → None ≡ digit_at s at
+  unfolding within
+  digit-past h = digit-none (ap is_digit (get_or-eq_default s 0 h))
 
-    module _ (p : u ≡ true) where
-      pub digits_long : (length s ≡ at + 2 → ⊥) → Err (at + 2) ≡ power_word (digits_power s at g) (digits_stop s at)
-      unfolding digits_power digits_stop
-      digits_long n = rw (← X, held t (is_digit x) T q, ← Y, held u (is_digit y) U p, ne_eqb (length s) (at + 2) n)
+  pub digit-some : (b : ℕ) → b ≡ get_or s at 0 → 48 ≤ b → b ≤ 57 → Some (b - 48) ≡ digit_at s at
+  unfolding digit_at
+  digit-some b e h k =
+      let d : true ≡ is_digit b = digit-yes b h k in
+      rw (← e, ← d) (ap Some (worth-yes b h k))
 
-      digits-good : length s ≡ at + 2 → power_word (signed_power g (digit_of x * 10 + digit_of y)) (at + 2)
-          ≡ power_word (digits_power s at g) (digits_stop s at)
-      unfolding digits_power digits_stop
-      digits-good l = rw (← X, held t (is_digit x) T q, ← Y, held u (is_digit y) U p, eq-eqb (length s) (at + 2) l)
+  digit-is-none : None ≡ digit_at s at → is_digit (get_or s at 0) ≡ false
+  unfolding digit_at
+  digit-is-none = by (is_digit (get_or s at 0)) (digit_of (get_or s at 0))
+    where
+      by : (t : Bool) (d : ℕ) → None ≡ cond t (Some d) None → t ≡ false
+      by true d e = no-case cc
+      by false d e = refl
 
-      module _ (l : length s ≡ at + 2) (k : ℕ) (e : k ≡ digit_of x * 10 + digit_of y) where
-        pub digits_up : g ≡ 43 → Ok (P.Up k) ≡ power_word (digits_power s at g) (digits_stop s at)
-        unfolding signed_power
-        digits_up h = (rw (e, eq-eqb g 43 h)) ∙ digits-good l
+  digit-read : (x : ℕ) → Some x ≡ digit_at s at → (is_digit (get_or s at 0) ≡ true) × (x ≡ digit_of (get_or s at 0))
+  unfolding digit_at
+  digit-read x = by (is_digit (get_or s at 0)) (digit_of (get_or s at 0))
+    where
+      by : (t : Bool) (d : ℕ) → Some x ≡ cond t (Some d) None → (t ≡ true) × (x ≡ d)
+      by true d e = (refl, cc)
+      by false d e = no-case cc
 
-        pub digits-down : is_sign g ≡ true → (g ≡ 43 → ⊥) → Ok (P.Down k) ≡ power_word (digits_power s at g) (digits_stop s at)
-        unfolding signed_power
-        digits-down i h = (rw (e, ne_eqb g 43 h, eq-eqb g 45 (sign-minus g i h))) ∙ digits-good l
+  pub digit-most : (x : ℕ) → Some x ≡ digit_at s at → x ≤ 9
+  digit-most x e = omega (arith, (digit-read x e).1, digit-small (get_or s at 0))
+
+-- ---- two digits
+module _ (s : List ℕ) (at : ℕ) where
+  pub two-first : None ≡ digit_at s at → Err at ≡ two_digits s at
+  unfolding two_digits digits_stop
+  two-first e = rw (digit-is-none s at e, and-off (eqb (length s) (at + 2)) false refl)
+
+  module _ (x : ℕ) (e : Some x ≡ digit_at s at) where
+    pub two-second : None ≡ digit_at s (at + 1) → Err (at + 1) ≡ two_digits s at
+    unfolding two_digits digits_stop
+    two-second f = rw ((digit-read s at x e).0, digit-is-none s (at + 1) f, and-off (eqb (length s) (at + 2)) false refl)
+
+    module _ (y : ℕ) (f : Some y ≡ digit_at s (at + 1)) where
+      pub two-long : (length s ≡ at + 2 → ⊥) → Err (at + 2) ≡ two_digits s at
+      unfolding two_digits digits_stop
+      two-long n = rw ((digit-read s at x e).0, (digit-read s (at + 1) y f).0, ne_eqb (length s) (at + 2) n)
+
+      pub two-whole : length s ≡ at + 2 → Ok (x * 10 + y) ≡ two_digits s at
+      unfolding two_digits
+      two-whole l =
+          rw ((digit-read s at x e).0, (digit-read s (at + 1) y f).0, eq-eqb (length s) (at + 2) l)
+          (rw ((digit-read s at x e).1, (digit-read s (at + 1) y f).1))
+
+  -- with a power P for the sign g
+  abbrev powered : (ℕ → Power) → Result ℕ ℕ → Result Power ℕ
+  powered P (Err q) = Err q
+  powered P (Ok k) = Ok (P k)
+
+  two-power : (g : ℕ) (P : ℕ → Power) → ((k stop : ℕ) → power_word (signed_power g k) stop ≡ Ok (P k))
+      → powered P (two_digits s at) ≡ power_word (digits_power s at g) (digits_stop s at)
+  unfolding two_digits digits_power
+  two-power g P h =
+      bool_cases (eqb (length s) (at + 2) && (is_digit (get_or s at 0) && is_digit (get_or s (at + 1) 0))) _
+      (λ e. rw e (sym (h (digit_of (get_or s at 0) * 10 + digit_of (get_or s (at + 1) 0)) (digits_stop s at)))) (λ e. rw e)
 
 -- ---- the power: the letter b, the sign g and two digits, or nothing
 either_way : {A : Type 0} (t : Bool) (a : A) → cond t a a ≡ a
@@ -153,6 +186,38 @@ module _ (s : List ℕ) (at : ℕ) where
           let three : at + 2 + 1 ≡ at + 3 = omega arith in
           let four : at + 2 + 2 ≡ at + 4 = omega arith in
           rw (ne_eqb (length s) at n, ← B, eq-eqb b 101 k, ← G, held t (is_sign g) T q, ← three, ← four) h
+
+  -- the code's ways out
+  module _ (n : length s ≡ at → ⊥) where
+    pub power-other : has_at s at 101 ≡ false → Err at ≡ power_word (power_at s at) (power_stop s at)
+    power-other e = power-letter n (get_or s at 0) refl (λ q. clash (has-here s at 100 q) e)
+
+    module _ (h : has_at s at 101 ≡ true) where
+      signed : (g : ℕ) → has_at s (at + 1) g ≡ true → is_sign g ≡ true → (P : ℕ → Power)
+          → ((k stop : ℕ) → power_word (signed_power g k) stop ≡ Ok (P k))
+          → powered s (at + 2) P (two_digits s (at + 2)) ≡ power_word (power_at s at) (power_stop s at)
+      signed g e i P f =
+          power-signed n (get_or s at 0) refl (has-is s at 101 h) g (sym (has-is s (at + 1) g e)) true (sym i) refl
+          (powered s (at + 2) P (two_digits s (at + 2))) (two-power s (at + 2) g P f)
+
+      pub power-up : has_at s (at + 1) 43 ≡ true → (r : Result ℕ ℕ) → r ≡ two_digits s (at + 2)
+          → powered s (at + 2) (λ k. P.Up k) r ≡ power_word (power_at s at) (power_stop s at)
+      unfolding is_sign signed_power
+      power-up e r f = ap (powered s (at + 2) (λ k. P.Up k)) f ∙ signed 43 e refl (λ k. P.Up k) (λ k stop. refl)
+
+      pub power-down : has_at s (at + 1) 45 ≡ true → (r : Result ℕ ℕ) → r ≡ two_digits s (at + 2)
+          → powered s (at + 2) (λ k. P.Down k) r ≡ power_word (power_at s at) (power_stop s at)
+      unfolding is_sign signed_power
+      power-down e r f = ap (powered s (at + 2) (λ k. P.Down k)) f ∙ signed 45 e refl (λ k. P.Down k) (λ k stop. refl)
+
+      pub power-unsigned : has_at s (at + 1) 43 ≡ false → has_at s (at + 1) 45 ≡ false
+          → Err (at + 1) ≡ power_word (power_at s at) (power_stop s at)
+      unfolding is_sign
+      power-unsigned e f =
+          let g : ℕ = get_or s (at + 1) 0 in
+          let p : eqb g 43 ≡ false = ne_eqb g 43 (λ q. clash (has-here s (at + 1) 42 q) e) in
+          let m : eqb g 45 ≡ false = ne_eqb g 45 (λ q. clash (has-here s (at + 1) 44 q) f) in
+          power-sign n (get_or s at 0) refl (has-is s at 101 h) g refl false (rw (p, m) refl) refl
 
 -- ---- the parts of a decimal
 module _ (s : List ℕ) (w p f n : ℕ) where

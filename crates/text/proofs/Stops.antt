@@ -40,9 +40,6 @@ sign-in s at e =
     (λ h. clash e (ap is_sign (nothing-past s at (ltb-false at (length s) h))))
 
 -- past a sign g
-pub sign-on : (s : List ℕ) (at g : ℕ) (t : Bool) → g ≡ get_or s (at + 1) 0 → t ≡ is_sign g → t ≡ true → at + 2 ≤ length s
-sign-on s at g t e f h = omega (arith, sign-in s (at + 1) (ap is_sign (sym e) ∙ held t (is_sign g) f h))
-
 -- ---- never past the end
 pub cond-le : (t : Bool) (a b n : ℕ) → (t ≡ true → a ≤ n) → (t ≡ false → b ≤ n) → cond t a b ≤ n
 cond-le true a b n f g = f refl

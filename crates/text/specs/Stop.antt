@@ -1,6 +1,6 @@
 -- Where a word breaks off: the place of the first byte at which no good word could go on, and the word's length where there is no such
 -- byte. Past the end of a word `get_or s at 0` is 0, which continues nothing.
-use Rattle.std.specs.Prelude.{ℕ, suc, ◌+◌, ◌-◌, ◌*◌, List, [], ◌∷◌, Bool, cond, ◌&&◌, ◌||◌, length, get_or, drop, ltb, eqb, Result, Ok, Err}
+use Rattle.std.specs.Prelude.{ℕ, suc, ◌+◌, ◌-◌, ◌*◌, List, [], ◌∷◌, Bool, cond, ◌&&◌, ◌||◌, length, get_or, drop, ltb, eqb, Option, None, Some, Result, Ok, Err}
 use Rattle.text.specs.Bytes.{zero_digit, one_digit, nine_digit, plus_sign, minus_sign, power_mark}
 use Rattle.text.specs.Word.{within, is_digit, run_len}
 use Rattle.text.specs.Decimal.{Exponent, up, down, wrong, digit_limit, decimal, digit_of, past_point, whole_is_good, signed_power}
@@ -60,6 +60,17 @@ digits_power s at g =
     cond (eqb (length s) (at + 2) && (is_digit (get_or s at 0) && is_digit (get_or s (at + 1) 0)))
     (signed_power g (digit_of (get_or s at 0) * 10 + digit_of (get_or s (at + 1) 0)))
     wrong
+
+-- what the digit at a place is worth, if one stands there
+unfoldable pub digit_at : List ℕ → ℕ → Option ℕ
+digit_at s at = cond (is_digit (get_or s at 0)) (Some (digit_of (get_or s at 0))) None
+
+-- what two digits from a place up to the end are worth, or the place at which they break off
+unfoldable pub two_digits : List ℕ → ℕ → Result ℕ ℕ
+two_digits s at =
+    cond (eqb (length s) (at + 2) && (is_digit (get_or s at 0) && is_digit (get_or s (at + 1) 0)))
+    (Ok (digit_of (get_or s at 0) * 10 + digit_of (get_or s (at + 1) 0)))
+    (Err (digits_stop s at))
 
 -- the code's answer for a power: where it is wrong, the place at which it breaks off
 abbrev pub power_word : Exponent → ℕ → Result Power ℕ

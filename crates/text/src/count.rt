@@ -31,7 +31,7 @@ pub const PLUS: u8 = 43;
 pub const CAP: u64 = 9223372036854775809;
 
 // What was read, and the place of the first byte after it.
-#[derive(Clone, Copy)]
+#[derive(Clone, Copy, Debug, PartialEq, Eq)]
 pub struct Scan<T> {
     pub value: T,
     pub next: usize,

@@ -1,7 +1,7 @@
 // The decimal of a coefficient claim.
-ghost use Rattle.std.specs.Prelude.{◌≡◌, true, ◌+◌, ◌*◌, ◌≤◌, length, get_or};
-ghost use Rattle.text.specs.Decimal.{digit_of, past_point, whole_is_good, power_at, parts_of, decimal_of};
-ghost use Rattle.text.specs.Stop.{is_sign, digits_stop, digits_power, power_stop, parts_stop, decimal_stop, power_word, scaled_by};
+ghost use Rattle.std.specs.Prelude.{◌≡◌, ◌+◌, ◌≤◌, length};
+ghost use Rattle.text.specs.Decimal.{past_point, whole_is_good, power_at, parts_of, decimal_of};
+ghost use Rattle.text.specs.Stop.{digit_at, two_digits, power_stop, parts_stop, decimal_stop, power_word, scaled_by};
 ghost use Rattle.text.specs.Scan.{scanned, decimal_says};
 
 use crate::count::{MINUS, PLUS, ZERO, digits, has};
@@ -16,7 +16,7 @@ const POWER: u8 = 101;
 pub const DIGITS: usize = 17;
 
 // digits * 10^up / 10^down: nothing is rounded.
-#[derive(Clone, Copy)]
+#[derive(Clone, Copy, Debug, PartialEq, Eq)]
 pub struct Decimal {
     pub digits: u64,
     pub up: u8,
@@ -24,33 +24,21 @@ pub struct Decimal {
 }
 
 // The exponent that stands after the digits.
+// Stays: it multiplies or divides, by a number either way, so neither kind is an absence or a failure.
 #[derive(Clone, Copy)]
 enum Power {
     Up(u8),
     Down(u8),
 }
 
-// The byte at a place, 0 past the end.
-fn byte_at(s: &[u8], at: usize) -> u8
-    ensures { result ≡ get_or s.now at 0 }
+// What the digit at a place is worth, if one stands there.
+fn digit_at(s: &[u8], at: usize) -> Option<u8>
+    ensures { result ≡ digit_at s.now at }
 {
-    s.get(at).copied().unwrap_or(0)
-}
-
-// Whether a byte is a sign.
-#[tactic(auto, unfolding(crate::specs::Stop::is_sign))]
-fn is_sign(b: u8) -> bool
-    ensures { result ≡ is_sign b }
-{
-    b == PLUS || b == MINUS
-}
-
-// What a digit is worth; 0 of any other byte.
-#[tactic(auto, unfolding(crate::specs::Decimal::digit_of, crate::specs::Word::within))]
-fn digit_of(b: u8) -> u8
-    ensures { result ≡ digit_of b }
-{
-    if b.is_ascii_digit() { b - ZERO } else { 0 }
+    match s.get(at) {
+        Some(b) if b.is_ascii_digit() => Some(*b - ZERO),
+        _ => None,
+    }
 }
 
 // Where the digits after the point start; `at` itself where there is no point.
@@ -69,37 +57,24 @@ fn whole_is_good(s: &[u8], w: usize) -> bool
     w == 1 || w > 1 && s[0] > ZERO
 }
 
-// What two digits are worth.
-fn two_digits(x: u8, y: u8) -> u8
-    ensures { result ≡ digit_of x * 10 + digit_of y }
+// What two digits up to the end are worth; or the place at which they break off.
+fn two_digits(s: &[u8], at: usize) -> Result<u8, usize>
+    requires { at ≤ length s.now }
+    ensures { result ≡ two_digits s.now at }
 {
-    digit_of(x) * 10 + digit_of(y)
-}
-
-// Two digits up to the end, after the sign g.
-fn signed_power(s: &[u8], at: usize, g: u8) -> Result<Power, usize>
-    requires { (at ≤ length s.now) × (is_sign g ≡ true) }
-    ensures { result ≡ power_word (digits_power s.now at g) (digits_stop s.now at) }
-{
-    let x = byte_at(s, at);
-    if !x.is_ascii_digit() {
+    let Some(x) = digit_at(s, at) else {
         return Err(at);
-    }
-    let y = byte_at(s, at + 1);
-    if !y.is_ascii_digit() {
+    };
+    let Some(y) = digit_at(s, at + 1) else {
         return Err(at + 1);
-    }
+    };
     if s.len() != at + 2 {
         return Err(at + 2);
     }
-    let k = two_digits(x, y);
-    if g == PLUS {
-        return Ok(Power::Up(k));
-    }
-    Ok(Power::Down(k))
+    Ok(x * 10 + y)
 }
 
-// What stands after the digits, up to the end: nothing, or `e`, a sign and two digits.
+// What stands after the digits, up to the end: nothing, or `e`, a sign and two digits; or the place at which that breaks off.
 fn power_at(s: &[u8], at: usize) -> Result<Power, usize>
     requires { at ≤ length s.now }
     ensures { result ≡ power_word (power_at s.now at) (power_stop s.now at) }
@@ -107,14 +82,16 @@ fn power_at(s: &[u8], at: usize) -> Result<Power, usize>
     if s.len() == at {
         return Ok(Power::Up(0));
     }
-    if byte_at(s, at) != POWER {
+    if !has(s, at, POWER) {
         return Err(at);
     }
-    let g = byte_at(s, at + 1);
-    if !is_sign(g) {
-        return Err(at + 1);
+    if has(s, at + 1, PLUS) {
+        return Ok(Power::Up(two_digits(s, at + 2)?));
     }
-    signed_power(s, at + 2, g)
+    if has(s, at + 1, MINUS) {
+        return Ok(Power::Down(two_digits(s, at + 2)?));
+    }
+    Err(at + 1)
 }
 
 // A number with f digits after the point, and its power.

@@ -13,7 +13,7 @@ const LETTER: u8 = 105;
 
 // How far a vertex is said to be: not reachable, or so far.
 // Stays: `infinity` is a value that a claim gives, and no absence of one, so this is not an Option.
-#[derive(Clone, Copy)]
+#[derive(Clone, Copy, Debug, PartialEq, Eq)]
 pub enum Distance {
     Infinity,
     Finite(Decimal),

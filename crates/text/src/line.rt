@@ -12,13 +12,14 @@ use crate::ident::field;
 use basis::refusal::{BAD_FORM, OUT_OF_RANGE};
 
 // A reader's place in a file.
-#[derive(Clone, Copy)]
+#[derive(Clone, Copy, Debug, PartialEq, Eq)]
 pub struct Cursor {
     pub at: usize,
 }
 
 // Why a line is refused: by its number, with the column, from 1, at which its form breaks off, or 0.
-#[derive(Clone, Copy)]
+// Stays: both are plain numbers, as `Line.line_says` fixes them, and as a Refusal carries them.
+#[derive(Clone, Copy, Debug, PartialEq, Eq)]
 pub struct Fault {
     pub number: usize,
     pub column: usize,

@@ -45,6 +45,7 @@ impl Cursor {
     }
 
     // The edge line at this place in a file that has weights or has none: then its weight is 0.
+    // Stays: that 0 is what `Weighed.plain_form` says of such a line.
     pub fn listed_edge(
         &mut self,
         s: &[u8],
