@@ -47,8 +47,8 @@ impl Ring {
 }
 
 // Vertex w is met at depth d: where it has no depth yet it gets this one, and goes to the end of the queue.
-// Stays: depth, queue and tail as three parameters here and in `walk`. A struct that lends the two areas would change what stands behind
-// each of them through one more reference, and its contract would have to name both areas apart as these do.
+// Stays: depth, queue and tail as parameters, here and in `walk`. A struct that holds the two areas as `&mut` needs, in each contract, a
+// clause for each of them that it is still the same area, and what they hold would be said no shorter.
 fn relax(depth: &mut [i64], queue: &mut [usize], tail: usize, w: usize, d: usize) -> usize
     requires queued { Queued (board depth.old queue.old tail) }
     requires w_in_bounds { (w < length depth.old) × (d < infinity) }

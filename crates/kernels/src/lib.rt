@@ -8,6 +8,7 @@ ghost use Rattle.kernels.specs.Kernel.{Named};
 
 use basis::Refusal;
 
+// Stays: kernels as numbers too. Calls of the host's and the proved verdict call name a kernel by its number, and answer on every number.
 pub const BFS: usize = 1;
 
 pub const WCC: usize = 2;

@@ -20,7 +20,7 @@ use Rattle.graph.specs.Part.{part_of}
 use Rattle.graph.specs.Find.{Searched, place_in}
 use Rattle.graph.specs.Sound.{outward, names}
 use Rattle.graph.specs.Walk.{arcs_checked}
-use Rattle.graph.specs.Weights.{Weighted, counts_weighted, is_weighted, out_legs, legs_of, sound_weighted}
+use Rattle.graph.specs.Weights.{Weighted, Leg, counts_weighted, is_weighted, out_legs, legs_of, sound_weighted}
 use Rattle.graph.proofs.Walks.{check-told, check-area}
 use Rattle.graph.proofs.Sounds.{names-length, outward-below, vertex-found}
 use Rattle.graph.proofs.Finds.{place_at, searched-is}
@@ -84,6 +84,16 @@ module _ {g : Weighted} {v : ℕ} {D : List ℤ} {S W T : List ℕ} (x : Ready g
   abbrev n : ℕ
   n = g.graph.vertices
 
+  -- the arcs that leave a vertex, as of a graph of m vertices: where they lead, their weights, and both
+  abbrev to : ℕ → ℕ → List ℕ
+  to m = part_of m g.graph.out_offsets g.graph.out_targets
+
+  abbrev cost : ℕ → ℕ → List ℕ
+  cost m = part_of m g.graph.out_offsets g.out_weights
+
+  abbrev arcs : ℕ → ℕ → List Leg
+  arcs m = legs_of m g.graph.out_offsets g.graph.out_targets g.out_weights
+
   lent-distance : n ≤ length D
   lent-distance = room-distance n D S W T x.room
 
@@ -106,9 +116,9 @@ module _ {g : Weighted} {v : ℕ} {D : List ℤ} {S W T : List ℕ} (x : Ready g
   taken-tree = sym (length-take-le n T lent-tree)
 
   -- what the search needs
-  pub fill-inside : WeighedAll (length (take n S)) (part_of (length (take n S)) g.graph.out_offsets g.graph.out_targets) (part_of (length (take n S)) g.graph.out_offsets g.out_weights)
+  pub fill-inside : WeighedAll (length (take n S)) (to (length (take n S))) (cost (length (take n S)))
   fill-inside =
-      subst (λ (m : ℕ). WeighedAll m (part_of m g.graph.out_offsets g.graph.out_targets) (part_of m g.graph.out_offsets g.out_weights)) taken-settled (sound-inside g x.sound x.weighted)
+      subst (λ (m : ℕ). WeighedAll m (to m) (cost m)) taken-settled (sound-inside g x.sound x.weighted)
 
   pub fill-lent : Lent v (take n S) (take n W) (take n T)
   fill-lent =
@@ -132,14 +142,14 @@ module _ {g : Weighted} {v : ℕ} {D : List ℤ} {S W T : List ℕ} (x : Ready g
   fill-long E e = sym (fill-taken E e) ∙ taken-settled
 
   pub fill-all : (E A : List ℤ) (B C F S₁ W₁ T₁ : List ℕ) → E ≡ cleared_z D
-      → A ≡ as_signed (length (take n S)) (distances (length (take n S)) (legs_of (length (take n S)) g.graph.out_offsets g.graph.out_targets g.out_weights) v)
+      → A ≡ as_signed (length (take n S)) (distances (length (take n S)) (arcs (length (take n S))) v)
       → length B ≡ length (take n S) → length C ≡ length (take n W) → length F ≡ length (take n T)
       → (S₁ ≡ cleared (B ++ drop n S)) × (W₁ ≡ cleared (C ++ drop n W)) × (T₁ ≡ cleared (F ++ drop n T))
       → outcome (gives tt) (A ++ drop n E) S₁ W₁ T₁ ≡ left_by (gives tt) g (Some v) D S W T
   unfolding left_by
   fill-all E A B C F S₁ W₁ T₁ e a b c d z =
       let f : A ≡ as_signed n (distances n (out_legs g) v) =
-      a ∙ ap (λ (m : ℕ). as_signed m (distances m (legs_of m g.graph.out_offsets g.graph.out_targets g.out_weights) v)) (sym taken-settled) in
+      a ∙ ap (λ (m : ℕ). as_signed m (distances m (arcs m) v)) (sym taken-settled) in
       outcomes refl
       (front-padded (pos 0) n D E (as_signed n (distances n (out_legs g) v)) A
       (column-length (λ u. pos (get_or (distances n (out_legs g) v) u 0)) 0 n) e f)

@@ -30,8 +30,8 @@ fn room(n: usize, distance: &[i64], settled: &[usize], waiting: &[usize], tree: 
 }
 
 // The three working areas are zero.
-// Stays: the four areas as parameters, here and below. A struct that lends them would change what stands behind each of them through one
-// more reference, and a contract would have to name each of them apart as these do.
+// Stays: the areas as parameters, here and below. A struct that holds them as `&mut` needs, in each contract, a clause for each of them
+// that it is still the same area, and what they hold would be said no shorter.
 fn clear_all(settled: &mut [usize], waiting: &mut [usize], tree: &mut [usize])
     ensures { (settled.new ≡ cleared settled.old) × (waiting.new ≡ cleared waiting.old)
         × (tree.new ≡ cleared tree.old) }

@@ -14,6 +14,7 @@ use graph::Way;
 use view::neighbours;
 
 // `Area.infinity`, as the working areas hold it.
+// Stays: a number that says that a vertex has no distance. A lent area has a place of one number for each vertex, no room for an Option.
 const FAR: usize = 9223372036854775807;
 
 // Vertex w is met at distance d: where it is not known as near, d is its key.

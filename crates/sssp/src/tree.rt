@@ -21,6 +21,7 @@ fn nearer(key: &[usize], a: usize, b: usize) -> usize
     if key[b] < key[a] { b } else { a }
 }
 
+// Stays: `key` and `tree` as two parameters, here and in `search.rt`, for the reason that stands at `clear_all`.
 // Node k is played again, by the winners of the two nodes below it.
 fn play(key: &[usize], tree: &mut [usize], k: usize)
     requires nodes { Nodes key.now tree.old }
