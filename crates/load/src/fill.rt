@@ -8,9 +8,10 @@ use crate::Limits;
 use basis::Refusal;
 use basis::area::copy;
 use basis::refusal::{NO_ROOM, UNKNOWN_NUMBER};
-use graph::Size;
+use graph::{Size, Way};
 use lists::edges::read_edges;
 use lists::vertices::read_vertices;
+use store::HeldEdges;
 use store::spread::{lacks, spread};
 use store::sums::sum_up;
 
@@ -36,7 +37,13 @@ fn arrange(
         return Err(Refusal::plain(NO_ROOM));
     }
     sum_up(offsets, n + 1);
-    spread(back, sources, offsets, targets, undirected, n);
+    let way = Way { offsets, targets };
+    let edges = HeldEdges {
+        way,
+        vertices: n,
+        undirected,
+    };
+    spread(back, sources, edges);
     Ok(m)
 }
 
