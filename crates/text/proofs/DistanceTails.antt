@@ -49,7 +49,9 @@ pub record Sharing (s w : List ℕ) (at i : ℕ) : Type 0 where
   pub inside : at + i ≤ max at (length s)
 
 pub sharing-start : (s w : List ℕ) (at : ℕ) → Sharing s w at 0
-sharing-start s w at = record { same = let q : at + 0 ≡ at = omega arith in omega (arith, ap (λ (k : ℕ). shared_front w (drop k s)) q); inside = omega arith }
+sharing-start s w at =
+    let q : at + 0 ≡ at = omega arith in
+    record { same = omega (arith, ap (λ (k : ℕ). shared_front w (drop k s)) q); inside = omega arith }
 
 module _ (s w : List ℕ) (at i : ℕ) (r : Sharing s w at i) where
   pub sharing-fits : length s * 1 < 2 ^ 63 → at < 2 ^ 64 → at + i < 2 ^ 64

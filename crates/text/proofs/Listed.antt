@@ -84,7 +84,8 @@ module _ (s : List ℕ) (at : ℕ) (weighted : Bool) where
     pub listed-end : none k.at ≡ edge_line s at → none k.at ≡ listed_line weighted s at
     listed-end e = listed-is (none k.at) e
 
-    pub listed-fault : (f : Fault) → fault f.number f.column k.at ≡ edge_line s at → fault f.number f.column k.at ≡ listed_line weighted s at
+    pub listed-fault : (f : Fault) → fault f.number f.column k.at ≡ edge_line s at
+        → fault f.number f.column k.at ≡ listed_line weighted s at
     listed-fault f e = listed-is (fault f.number f.column k.at) e
 
     pub listed-line : (x : ℤ × ℤ) → line x k.at ≡ edge_line s at → line (x.0, (x.1, 0)) k.at ≡ listed_line weighted s at

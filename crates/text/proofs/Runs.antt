@@ -128,6 +128,8 @@ module _ (s : List ℕ) (from start : ℕ) where
       let d : drop i s ≡ [] = drop_of_length-le s h in
       let l : i ≡ from + run_len (drop from s) = omega (arith, r.len, ap run_len d) in
       let q : k ≡ i =
-      bool_cases (leb from (length s)) _ (λ t. let m : i ≤ length s = b (leb-true from (length s) t) in omega (arith, leb-true from (length s) t))
-      (λ t. let m : length s < from = leb-false from (length s) t in let m2 : length s ≤ from = omega arith in omega (arith, l, ap run_len (drop_of_length-le s m2))) in
+      bool_cases (leb from (length s)) _ (λ t. let m = leb-true from (length s) t in let o = b m in omega (arith, m, o))
+      (λ t. let m : length s < from = leb-false from (length s) t in
+      let o : length s ≤ from = omega arith in
+      omega (arith, l, ap run_len (drop_of_length-le s o))) in
       ap (λ (j : ℕ). record { value = n; next = j }) q ∙ running-end n i r (ap (run_val n) d) (ap run_len d)

@@ -12,8 +12,14 @@ use Rattle.text.specs.Word.{Word, malformed, outside, value, well_formed, within
 use Rattle.text.specs.Scan.{Scanned, scanned, has_at, cut_number, run_at, count_at, cut_word, saturated}
 use Rattle.text.specs.Scan.{count_says, ranged_at, signed_at, ident_at, closed, field_at, word_of, ranged_says, scan_says}
 use Rattle.text.specs.declared.count.Scan.{Scan}
-use Rattle.std.specs.Prelude.{Option, None, Some, Result, Ok, Err}
+use Rattle.std.specs.Prelude.{Option, None, Some, Result, Ok, Err, IsErrAnd}
+use Rattle.std.proofs.lemmas.Result.{err_from_is_err_and}
 use Rattle.text.proofs.Bytes.{within-yes, no-first, no_zero, has-yes, has_no, nothing-past}
+
+-- ---- what a `?` passes on
+pub passed-on : {T A : Type 0} (says : Result T ℕ → A) (r : Result T ℕ) (e : ℕ) (y : A) → IsErrAnd r (λ x. x ≡ e) → says (Err e) ≡ y
+    → says r ≡ y
+passed-on says r e y h q = let p = err_from_is_err_and r h in ap says (p.1 ∙ ap Err p.2) ∙ q
 
 -- ---- a count
 module _ (s : List ℕ) (at : ℕ) where

@@ -102,8 +102,8 @@ weighed-read s at l x e y f =
     (tail-stops weight_form weight-right) s at
     l
 
-pub weighed-behind : (s : List ℕ) (at : ℕ) → length s * 1 < 2 ^ 63 → at < length s → (x : Scanned (ℤ × (ℤ × ℕ))) → x ≡ two_at (pair_at weight_form) s at
-    → Behind at x.next
+pub weighed-behind : (s : List ℕ) (at : ℕ) → length s * 1 < 2 ^ 63 → at < length s → (x : Scanned (ℤ × (ℤ × ℕ)))
+    → x ≡ two_at (pair_at weight_form) s at → Behind at x.next
 weighed-behind s at l h x e =
     scanned-behind s at l (pair_at weight_form)
     (λ p. two-behind s at l (last_at weight_form) (last-behind weight_form weight-right s at l) p) h x e

@@ -1,5 +1,6 @@
 -- 01 "Lists", "Claims and verdicts": the lines of a file, on the bytes from a place on.
-use Rattle.std.specs.Prelude.{ℕ, ◌+◌, List, [], ◌∷◌, true, false, cond, ◌&&◌, length, drop, leb, eqb, ℤ, Option, None, Some, Result, Ok, Err}
+use Rattle.std.specs.Prelude.{ℕ, ◌+◌, List, [], ◌∷◌, true, false, cond, ◌&&◌, length, drop, leb, eqb, ℤ}
+use Rattle.std.specs.Prelude.{Option, None, Some, Result, Ok, Err}
 use Rattle.basis.specs.Refusal.{bad_form, out_of_range}
 use Rattle.basis.specs.Scan.{mem}
 use Rattle.text.specs.Bytes.{lf, space}

@@ -1,6 +1,7 @@
 -- What the code scans from a place on, without knowing where the word ends. Past the end of a file `get_or s at 0` is 0, which begins and
 -- continues nothing.
-use Rattle.std.specs.Prelude.{ℕ, ◌+◌, ◌-◌, ◌^◌, ◌≤◌, ◌<◌, min, List, Bool, true, false, cond, ◌&&◌, length, get_or, drop, ltb, eqb, ℤ, Option, None, Some, Result, Ok, Err}
+use Rattle.std.specs.Prelude.{ℕ, ◌+◌, ◌-◌, ◌^◌, ◌≤◌, ◌<◌, min, List, Bool, true, false, cond, ◌&&◌, length, get_or, drop, ltb, eqb, ℤ}
+use Rattle.std.specs.Prelude.{Option, None, Some, Result, Ok, Err}
 use Rattle.text.specs.Bytes.{lf, space, zero_digit, one_digit, nine_digit, minus_sign}
 use Rattle.text.specs.Word.{Word, malformed, outside, value, well_formed, within, run_len, run_val, ranged_of, signed_of}
 use Rattle.text.specs.Decimal.{decimal_of}

@@ -1,6 +1,7 @@
 -- Where a word breaks off: the place of the first byte at which no good word could go on, and the word's length where there is no such
 -- byte. Past the end of a word `get_or s at 0` is 0, which continues nothing.
-use Rattle.std.specs.Prelude.{ℕ, suc, ◌+◌, ◌-◌, ◌*◌, List, [], ◌∷◌, Bool, cond, ◌&&◌, ◌||◌, length, get_or, drop, ltb, eqb, Option, None, Some, Result, Ok, Err}
+use Rattle.std.specs.Prelude.{ℕ, suc, ◌+◌, ◌-◌, ◌*◌, List, [], ◌∷◌, Bool, cond, ◌&&◌, ◌||◌, length, get_or, drop, ltb, eqb}
+use Rattle.std.specs.Prelude.{Option, None, Some, Result, Ok, Err}
 use Rattle.text.specs.Bytes.{zero_digit, one_digit, nine_digit, plus_sign, minus_sign, power_mark}
 use Rattle.text.specs.Word.{within, is_digit, run_len}
 use Rattle.text.specs.Decimal.{Exponent, up, down, wrong, digit_limit, decimal, digit_of, past_point, whole_is_good, signed_power}

@@ -50,8 +50,8 @@ is_bad_form (fault n c p) = eqb n bad_form
 unfoldable pub has_weights : List ℕ → Bool
 has_weights s = is_bad_form (edge_line s 0)
 
--- what the code's reader says of an edge line with its weight, by the place at which it left its cursor and the cases of its answer: the two
--- numbers and the weight
+-- what the code's reader says of an edge line with its weight, by the place at which it left its cursor and the cases of its answer: the
+-- two numbers and the weight
 abbrev pub weighed_says : Cursor → Option (Result (ℤ × ℤ × ℕ) Fault) → LineSaid (ℤ × (ℤ × ℕ))
 weighed_says k None = none k.at
 weighed_says k (Some (Err f)) = fault f.number f.column k.at

@@ -35,4 +35,6 @@ module _ (z : ℤ) (f : SFits w64 z) (m : ℕ) (size : m ≡ nat_abs (to_z w64 (
 
   pub signed_high : lt_z (to_z w64 (of_z w64 z)) (pos 0) ≡ false → written o' p ≡ put_at o at (count_text m)
       → written o' p ≡ put_at o at (signed_text z)
-  signed_high e x = put_as o at (count_text m) x (signed_text z) (ap count_text (size ∙ ap nat_abs (to_z-of_z w64 z f)) ∙ high-text z (rw (to_z-of_z w64 z f) at e))
+  signed_high e x =
+      put_as o at (count_text m) x (signed_text z)
+      (ap count_text (size ∙ ap nat_abs (to_z-of_z w64 z f)) ∙ high-text z (rw (to_z-of_z w64 z f) at e))

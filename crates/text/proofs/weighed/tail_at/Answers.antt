@@ -1,20 +1,17 @@
-use Rattle.std.proofs.lemmas.Result.{err_from_is_err_and}
+use Rattle.text.specs.Scan.{scan_says}
+use Rattle.text.proofs.Scans.{passed-on}
 use Rattle.text.proofs.Lines.{two-none, two-bad, two-good}
 use Rattle.text.proofs.Places.{field-inside}
 use Rattle.text.proofs.weighed.tail_at.Goals as goal
 
 pub returns-in_err-x : goal.returns-in_err-x
-returns-in_err-x c =
-    let p = err_from_is_err_and c.from_residual.result c.from_residual.ensures.1 in
-    rw (p.1, p.2) (two-none _ _ _ _ c.in_err-x.ensures)
+returns-in_err-x c = passed-on scan_says _ _ _ c.from_residual.ensures.1 (two-none _ _ _ _ c.in_err-x.ensures)
 
 pub weight_rest-requires : goal.weight_rest-requires
 weight_rest-requires c = field-inside _ _ _ _ c.in_ok-x.ensures
 
 pub returns-in_err-y : goal.returns-in_err-y
-returns-in_err-y c =
-    let p = err_from_is_err_and c.from_residual-in_err-y.result c.from_residual-in_err-y.ensures.1 in
-    rw (p.1, p.2) (two-bad _ _ _ _ c.in_ok-x.ensures _ c.in_err-y.ensures)
+returns-in_err-y c = passed-on scan_says _ _ _ c.from_residual-in_err-y.ensures.1 (two-bad _ _ _ _ c.in_ok-x.ensures _ c.in_err-y.ensures)
 
 pub returns : goal.returns
 returns c = rw c.zip.ensures (two-good _ _ _ _ c.in_ok-x.ensures _ c.in_ok-y.ensures)
