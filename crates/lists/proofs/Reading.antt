@@ -23,7 +23,8 @@ use Rattle.graph.specs.Arcs.{Arc}
 use Rattle.graph.specs.Find.{is_there}
 use Rattle.lists.specs.declared.Lines.{Lines}
 use Rattle.lists.specs.Files.{vertex_test, is_above, vertex_number, edge_test, numbered}
-use Rattle.lists.specs.Steps.{before_of, lines_at, counted, step_by, vertex_step, order_fault, looked_by, with_numbers, edge_step}
+use Rattle.lists.specs.Steps.{before_of, above_last, lines_at, counted, step_by, vertex_step, order_fault, looked_by, with_numbers, edge_step}
+use Rattle.lists.proofs.Orders.{by_number, by_pair, above-vertex, above-edge}
 
 -- ---- one line more, by what is read at the reader's place
 module _ {A : Type 0} (file most : ℕ) (test : Before A → A → ℕ) (c : Lines A) (k : Cursor) where
@@ -64,10 +65,13 @@ module _ (s : List ℕ) (most : ℕ) (c : Lines ℤ) (k : Cursor) where
 
     -- the number v, handed on as z
     module _ (v : ℤ) (h : gives v ≡ counted vertex_file most c.passed x) (z : ℤ) (q : z ≡ v) (t : Bool)
-        (g : t ≡ eqb (vertex_test (before_of c.last) z) 0) where
+        (g : t ≡ above_last by_number (before_of c.last) z) where
+      passes : eqb (vertex_test (before_of c.last) v) 0 ≡ t
+      passes = rw q at (sym (g ∙ above-vertex (before_of c.last) z))
+
       pub vertex-fault : t ≡ false → (r : Refusal) → r ≡ at not_above vertex_file (c.passed + 1) → refuses r ≡ vertex_step s most c
       vertex-fault f r o =
-          let n : vertex_test (before_of c.last) v ≡ 4 = low (before_of c.last) (rw q at (sym g ∙ f)) in
+          let n : vertex_test (before_of c.last) v ≡ 4 = low (before_of c.last) (passes ∙ f) in
           ap refuses o ∙ rw n at (by-vertex (gives v) h)
         where
           low : (b : Before ℤ) → eqb (vertex_test b v) 0 ≡ false → vertex_test b v ≡ 4
@@ -80,7 +84,7 @@ module _ (s : List ℕ) (most : ℕ) (c : Lines ℤ) (k : Cursor) where
 
       pub vertex-more : t ≡ true → gives (Some z, record { at = k; passed = c.passed + 1; last = Some z }) ≡ vertex_step s most c
       vertex-more f =
-          let n : vertex_test (before_of c.last) v ≡ 0 = eqb-true (vertex_test (before_of c.last) v) 0 (rw q at (sym g ∙ f)) in
+          let n : vertex_test (before_of c.last) v ≡ 0 = eqb-true (vertex_test (before_of c.last) v) 0 (passes ∙ f) in
           rw q (rw n at (by-vertex (gives v) h))
 
 -- ---- the order of an edge; a number that is handed on is marked
@@ -108,14 +112,17 @@ module _ (undirected : Bool) (before : Before (ℤ × ℤ)) (e : ℤ × ℤ) whe
     pub way-off : (b a : ℤ) → b ≡ e.1 → a ≡ e.0 → lt_z b a ≡ false → (undirected && lt_z e.1 e.0) ≡ false
     way-off b a p q h = and-off undirected (lt_z e.1 e.0) (rw (← p, ← q) h)
 
-    module _ (w : (undirected && lt_z e.1 e.0) ≡ false) (t : Bool) (g : t ≡ is_above before e) where
+    module _ (w : (undirected && lt_z e.1 e.0) ≡ false) (t : Bool) (g : t ≡ above_last by_pair before e) where
+      above : is_above before e ≡ t
+      above = sym (g ∙ above-edge before e)
+
       pub order-rises : t ≡ true → None ≡ order_fault undirected before e
       unfolding order_fault
-      order-rises h = let m : is_above before e ≡ true = sym g ∙ h in rw (apart, w, m) refl
+      order-rises h = let m : is_above before e ≡ true = above ∙ h in rw (apart, w, m) refl
 
       pub order-falls : t ≡ false → Some 4 ≡ order_fault undirected before e
       unfolding order_fault
-      order-falls h = let m : is_above before e ≡ false = sym g ∙ h in rw (apart, w, m) refl
+      order-falls h = let m : is_above before e ≡ false = above ∙ h in rw (apart, w, m) refl
 
 -- ---- the test of an edge: its order, then its vertices
 abbrev number_of : Option ℕ → ℕ → ℕ

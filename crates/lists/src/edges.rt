@@ -3,27 +3,15 @@ ghost use Rattle.std.specs.Prelude.{◌≡◌, ◌-◌, ◌<◌, ◌^◌, length
 ghost use Rattle.basis.specs.Area.{cleared};
 ghost use Rattle.basis.specs.Refusal.{said};
 ghost use Rattle.graph.specs.Find.{bisected};
-ghost use Rattle.lists.specs.Files.{is_above};
 ghost use Rattle.lists.specs.Calls.{edge_outcome, edge_call};
 ghost use Rattle.lists.specs.Steps.{before_of, order_fault, looked_by, numbered_step, step_says, edges_scanned, edges_left};
 
-use crate::{Lines, counted, put};
+use crate::{Lines, counted, is_above, put};
 use basis::Refusal;
 use basis::area::{clear, number_at};
 use basis::refusal::{EDGE_FILE, LARGER_FIRST, NOT_ABOVE, SELF_EDGE, UNKNOWN_VERTEX};
 use graph::find::find;
 use text::line::Cursor;
-
-// Whether an edge is above the one before it, if there is one.
-fn is_above(last: Option<(i64, i64)>, edge: (i64, i64)) -> bool
-    ensures { result ≡ is_above (before_of last) edge }
-{
-    let (a, b) = edge;
-    match last {
-        None => true,
-        Some((p, q)) => p < a || p == a && q < b,
-    }
-}
 
 // The number of the fault of an edge in its order; its vertices are not looked up yet.
 fn order_fault(undirected: bool, last: Option<(i64, i64)>, edge: (i64, i64)) -> Option<usize>
@@ -93,6 +81,7 @@ fn scan_edges(
         passed: 0,
         last: None,
     };
+    // Stays: a loop, and no `for`. The reader moves by what a line says, and ends at the first fault or past the last line.
     while let Some((u, v)) = next_edge(&mut lines, s, most, undirected, ids)? {
         let degree = number_at(counts, u);
         put(counts, u, degree + 1);

@@ -1,25 +1,15 @@
 // The vertex file, line by line.
-ghost use Rattle.std.specs.Prelude.{◌≡◌, eqb, ◌-◌, ◌<◌, ◌^◌, length};
+ghost use Rattle.std.specs.Prelude.{◌≡◌, ◌-◌, ◌<◌, ◌^◌, length};
 ghost use Rattle.basis.specs.Refusal.{said, mapped};
-ghost use Rattle.lists.specs.Files.{vertex_test, identifiers};
+ghost use Rattle.lists.specs.Files.{identifiers};
 ghost use Rattle.lists.specs.Calls.{vertex_outcome, vertex_call};
-ghost use Rattle.lists.specs.Steps.{before_of, step_says, vertex_step, ids_into, ids_left};
+ghost use Rattle.lists.specs.Steps.{step_says, vertex_step, ids_into, ids_left};
 
-use crate::{Lines, counted, put};
+use crate::{Lines, counted, is_above, put};
 use basis::Refusal;
 use basis::area::clear;
 use basis::refusal::{NOT_ABOVE, VERTEX_FILE};
 use text::line::Cursor;
-
-// Whether an identifier is above the one before it, if there is one.
-fn is_above(last: Option<i64>, z: i64) -> bool
-    ensures { result ≡ eqb (vertex_test (before_of last) z) 0 }
-{
-    match last {
-        None => true,
-        Some(y) => y < z,
-    }
-}
 
 // One vertex line more: its identifier, or none where no line is left.
 fn next_vertex(lines: &mut Lines<i64>, s: &[u8], most: usize) -> Result<Option<i64>, Refusal>
@@ -48,6 +38,7 @@ fn scan_vertices(s: &[u8], most: usize, ids: &mut [i64]) -> Result<usize, Refusa
         passed: 0,
         last: None,
     };
+    // Stays: a loop, and no `for`. The reader moves by what a line says, and ends at the first fault or past the last line.
     while let Some(z) = next_vertex(&mut lines, s, most)? {
         put(ids, lines.passed - 1, z);
     }

@@ -8,10 +8,9 @@ use crate::Limits;
 use basis::Refusal;
 use basis::area::copy;
 use basis::refusal::{NO_ROOM, UNKNOWN_NUMBER};
-use graph::{Size, Way};
+use graph::Size;
 use lists::edges::read_edges;
 use lists::vertices::read_vertices;
-use store::HeldEdges;
 use store::spread::{lacks, spread};
 use store::sums::sum_up;
 
@@ -37,13 +36,7 @@ fn arrange(
         return Err(Refusal::plain(NO_ROOM));
     }
     sum_up(offsets, n + 1);
-    let way = Way { offsets, targets };
-    let edges = HeldEdges {
-        way,
-        vertices: n,
-        undirected,
-    };
-    spread(back, sources, edges);
+    spread(back, sources, offsets, targets, undirected, n);
     Ok(m)
 }
 
@@ -165,7 +158,6 @@ fn is_undirected(mode: usize) -> Result<bool, Refusal>
 }
 
 // The graph of two files in five areas; where it is refused, what stands in them is of no use.
-// Stays: the five lent areas apart. A struct of five `&mut` slices needs a ghost name for each in every function that it is passed to.
 pub(crate) fn fill(
     limits: Limits,
     mode: usize,

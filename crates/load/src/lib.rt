@@ -23,6 +23,7 @@ pub struct Limits {
 }
 
 // Five areas are cleared.
+// Stays: the five lent areas apart. A struct of five `&mut` slices needs a ghost name for each in every function that it is passed to.
 fn clear_all(
     ids: &mut [i64],
     out_offsets: &mut [usize],
