@@ -5,6 +5,7 @@ ghost use Rattle.wcc.specs.Component.{labels};
 ghost use Rattle.wcc.specs.Steps.{noted, marked, taken_over, Within, Fitting, Marking};
 
 use crate::groups::find_heads;
+use graph::Way;
 
 // Each head gets the smallest identifier of its group: vertices write theirs from the last to the first.
 fn mark(heads: &[usize], ids: &[i64], res: &mut [i64])
@@ -12,13 +13,8 @@ fn mark(heads: &[usize], ids: &[i64], res: &mut [i64])
     ensures { res.new
         ≡ marked (noted heads.now) ids.now (length res.old) res.old }
 {
-    let n = res.len();
-    let mut i = 0;
-    while i < n {
-        let v = n - 1 - i;
-        let h = heads[v];
-        res[h] = ids[v];
-        i += 1;
+    for v in (0..res.len()).rev() {
+        res[heads[v]] = ids[v];
     }
 }
 
@@ -27,27 +23,17 @@ fn take_over(heads: &[usize], res: &mut [i64])
     requires { (Within (length res.old) (noted heads.now)) × (length heads.now ≡ length res.old) }
     ensures { res.new ≡ taken_over (noted heads.now) (length res.old) res.old }
 {
-    let mut v = 0;
-    while v < res.len() {
-        let h = heads[v];
-        res[v] = res[h];
-        v += 1;
+    for (v, h) in heads.iter().enumerate() {
+        res[v] = res[*h];
     }
 }
 
 // The labels of n vertices. `result` holds the book until every vertex's head is noted in `heads`, which keeps them.
-pub(crate) fn label(
-    n: usize,
-    offsets: &[usize],
-    targets: &[usize],
-    ids: &[i64],
-    res: &mut [i64],
-    heads: &mut [usize],
-)
-    requires { Fitting n (part_of n offsets.now targets.now) ids.now res.old heads.old }
-    ensures { res.new ≡ labels n (part_of n offsets.now targets.now) ids.now }
+pub(crate) fn label(n: usize, way: Way, ids: &[i64], res: &mut [i64], heads: &mut [usize])
+    requires { Fitting n (part_of n way.offsets.now way.targets.now) ids.now res.old heads.old }
+    ensures { res.new ≡ labels n (part_of n way.entry.offsets.now way.entry.targets.now) ids.now }
 {
-    find_heads(n, offsets, targets, res, heads);
+    find_heads(n, way, res, heads);
     mark(heads, ids, res);
     take_over(heads, res);
 }
