@@ -31,6 +31,9 @@ fn output<'b, 'o>(bytes: &'b [u8], n: usize, out: &'o mut [u8]) -> &'o [u8]
 }
 
 // Reads until `bytes` is full or the input ends, and says how many bytes it put at the start of `bytes`.
+//
+// Stays: the place moves by what the reader says. Of the library's forms `read_exact` refuses an input that is shorter, `read_to_end` puts
+// it on the heap, and `io::copy` reads on until the input ends.
 fn read_full(input: &mut impl Read, bytes: &mut [u8]) -> io::Result<usize>
     ensures { IfOk result (λ n. n ≤ length bytes.new) }
 {

@@ -1,5 +1,6 @@
 -- Laws of the whole: a load's two answers, and a check's. Assumes nothing.
-use Rattle.std.proofs.Common.{Result, Ok, Err}
+use Rattle.std.proofs.Common.{Result, Ok, Err, Bool, true, false, refl}
+use mir.Val.{bool_byte}
 use Prim.Native.Nat.{ℕ, ◌≤◌}
 use mathlib.Core.Path.{◌≡◌, sym, ap, ◌∙◌}
 use mathlib.Core.List.{List}
@@ -23,6 +24,11 @@ use Rattle.listing.specs.Listing.{refused_text}
 use Rattle.sheet.specs.Jobs.{jobs_text}
 use Rattle.sheet.specs.Desk.{mode_number, lines_in, load_of, graph_in, load_text, plan_text, checked_text, desk_output}
 use Rattle.sheet.specs.Steps.{Placed}
+
+-- ---- the mode, as the library makes a number of it
+pub mode-byte : (directed : Bool) → bool_byte directed ≡ mode_number directed
+mode-byte true = refl
+mode-byte false = refl
 
 -- ---- what the vertex and edge sections of a plan say
 module _ (s : List ℕ) (p : Plan) where

@@ -8,7 +8,7 @@ pub slice_bounds-ids-end : goal.slice_bounds-ids-end
 slice_bounds-ids-end c = omega (arith, few-vertices c.args.s.now c.args.plan _ _ c.in-Ok.ensures refl)
 
 pub slice_bounds-g-end : goal.slice_bounds-g-end
-slice_bounds-g-end c = ?
+slice_bounds-g-end c = sym (length-take-le _ _ (omega (arith, few-vertices c.args.s.now c.args.plan _ _ c.in-Ok.ensures refl)))
 
 pub returns-in-Err : goal.returns-in-Err
 returns-in-Err c =

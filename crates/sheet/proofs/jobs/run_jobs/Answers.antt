@@ -1,6 +1,5 @@
 use Rattle.std.proofs.Math.Nat.{sub-zero}
 use native.Mathlib.Omega.{arith}
-use Rattle.write.proofs.Puts.{putting-length}
 use Rattle.sheet.proofs.Ran.{job_moved, jobs-end, jobs-fault, jobs-more}
 use Rattle.sheet.proofs.jobs.run_jobs.Goals as goal
 
