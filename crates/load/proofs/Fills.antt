@@ -29,7 +29,7 @@ use Rattle.store.proofs.Order.{Valid, valid-ends}
 use Rattle.store.proofs.Built.{offsets-length, both-parts, parts-seconds}
 use Rattle.lists.specs.Files.{edges_of, all_numbered}
 use Rattle.load.specs.Load.{arc_room, with_room, listed_arcs, arcs_read}
-use Rattle.load.specs.Steps.{edges_read, Arranged, arranged, arranged_by, arranged_left, Filled, filled, filled_by}
+use Rattle.load.specs.Steps.{edges_read, Arranged, arranged, arranged_by, arranged_left, filled, filled_by}
 use Rattle.load.proofs.Valids.{valid-file}
 use Rattle.store.proofs.Fits.{arc-count}
 
@@ -221,11 +221,3 @@ module _ (most : ℕ) (ids : List ℤ) (s : List ℕ) (lo lt li ls : ℕ) (rise 
         let h₃ : o ≡ pad lo (offsets (arcs true es) n) = c ∙ ap (pad lo) out-offsets in
         let h₄ : t ≡ pad lt (parts (arcs true es) n) = d ∙ ap (pad lt) (both-parts es n n valid.fine) in
         rw (swapped, given.1) (ap gives (filled_of n (sym arcs-long) h₃ h₄ h₁ h₂))
-
--- ---- by the mode
-module _ (undirected : Bool) (most : ℕ) (ids : List ℤ) (s : List ℕ) (t u : ℕ) (f : List Arc → Filled) (x : Said Filled) where
-  pub edges-both : undirected ≡ true → x ≡ mapped f (arcs_read true most ids s t u) → x ≡ mapped f (arcs_read undirected most ids s t u)
-  edges-both e h = rw e h
-
-  pub edges-one : undirected ≡ false → x ≡ mapped f (arcs_read false most ids s t u) → x ≡ mapped f (arcs_read undirected most ids s t u)
-  edges-one e h = rw e h

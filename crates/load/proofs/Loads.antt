@@ -108,9 +108,6 @@ module _ (limits : Limits) (mode : ℕ) (v e : List ℕ) (ids : List ℤ) (oo ot
           front : take n a ≡ list
           front = ap (take n) padded ∙ take_at list (replicate (length ids - length list) (pos 0)) n (sym taken.2)
 
-          pub fill-places : n ≤ la
-          fill-places = let g = fits in omega arith
-
           -- the first n identifiers, lent on as b
           module _ (b : List ℤ) (eb : b ≡ take n a) where
             lent : b ≡ list
