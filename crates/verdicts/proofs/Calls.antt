@@ -1,8 +1,9 @@
 -- Laws of the public verdict: room in six areas, and one law for each kernel. Assumes nothing.
+use Rattle.std.specs.Prelude.{Result, Ok, Err}
 use mathlib.Core.Path.{◌≡◌, refl, sym, ap, ◌∙◌}
 use mathlib.Core.Bool.{Bool, true, ◌&&◌}
 use mathlib.Core.List.{List, []}
-use Prim.Native.Nat.{ℕ, min}
+use Prim.Native.Nat.{ℕ}
 use native.Mathlib.Nat.{sub-zero}
 use lib.Dec.{leb}
 use lib.IntN.{ℤ, pos}
@@ -12,8 +13,10 @@ use Rattle.basis.specs.Refusal.{Said, gives, refuses, plain, unknown_number}
 use Rattle.basis.specs.declared.refusal.Refusal.{Refusal}
 use Rattle.basis.specs.Area.{leaves, cleared, cleared_z}
 use Rattle.basis.proofs.Tests.{and_first, and_second}
-use Rattle.basis.proofs.Orders.{leb-min}
 use Rattle.graph.specs.Sound.{Graph, sound_graph}
+use Rattle.kernels.specs.declared.Kernel.{Kernel}
+use Rattle.kernels.specs.declared.UnknownKernel.{UnknownKernel}
+use Rattle.kernels.specs.Kernel.{number_of, Named}
 use Rattle.matching.specs.Verdict.{Verdict}
 use Rattle.verdicts.specs.Reference.{Reference, bfs_reference, wcc_reference, cdlp_reference, lcc_reference}
 use Rattle.verdicts.specs.Call.{Outcome, outcome, room_for, verdict_says, left_by, call_on, unknown_call, verdict_call}
@@ -21,25 +24,6 @@ use Rattle.verdicts.specs.Steps.{Roomy, Numbers, numbers, numbers_verdict, Terms
 
 -- ---- room in areas of six lengths
 module _ (n a b c d e l : ℕ) where
-  -- in the shortest
-  pub room-all : {o x y z w : ℕ} → o ≡ min e l → x ≡ min d o → y ≡ min c x → z ≡ min b y → w ≡ min a z
-      → leb n w ≡ (leb n a && (leb n b && (leb n c && (leb n d && (leb n e && leb n l)))))
-  room-all k p q r s =
-      let o = min e l in
-      let x = min d o in
-      rw (
-        s,
-        r,
-        q,
-        p,
-        k,
-        leb-min n a (min b (min c x)),
-        leb-min n b (min c x),
-        leb-min n c x,
-        leb-min n d o,
-        leb-min n e l,
-      ) refl
-
   -- what the answer says of each
   module _ {room : Bool} (p : room ≡ (leb n a && (leb n b && (leb n c && (leb n d && (leb n e && leb n l)))))) where
     from_second : room ≡ true → (leb n b && (leb n c && (leb n d && (leb n e && leb n l)))) ≡ true
@@ -102,12 +86,24 @@ module _ (k : Reference) (g : Graph) (R C : List ℤ) (F S T L : List ℕ) {room
       (ap (λ (o : Terms). o.first) h) (ap (λ (o : Terms). o.second) h) t (ap (λ (o : Terms). o.lines) h))
 
 -- ---- by the kernel's number
+module _ (kernel : ℕ) (r : Result Kernel UnknownKernel) (h : Named kernel r) where
+  pub named-as : {found : Kernel} (k : Kernel) → r ≡ Ok found → found ≡ k → kernel ≡ number_of k
+  named-as k e f = sym (rw (e, f) at h)
+
+  pub named-none : {u : UnknownKernel} → r ≡ Err u → (k : Kernel) → kernel ≡ number_of k → ⊥
+  named-none e k f = let n = rw e at h in n.1 k (sym f)
+
 module _ (most : ℕ) (g : Graph) (kernel : ℕ) (parameter : ℤ) (s : List ℕ) (R C : List ℤ) (F S T L : List ℕ) where
   pub verdict-unknown : (kernel ≡ 1 → ⊥) → (kernel ≡ 2 → ⊥) → (kernel ≡ 3 → ⊥) → (kernel ≡ 4 → ⊥) → {x : Outcome}
       → x ≡ unknown_call R C F S T L
       → x ≡ verdict_call most g kernel parameter s R C F S T L
   unfolding verdict_call
   verdict-unknown a b c d h = rw (ne_eqb kernel 1 a, ne_eqb kernel 2 b, ne_eqb kernel 3 c, ne_eqb kernel 4 d) h
+
+  -- SSSP has no rule of matching
+  pub verdict-sssp : kernel ≡ 5 → {x : Outcome} → x ≡ unknown_call R C F S T L → x ≡ verdict_call most g kernel parameter s R C F S T L
+  unfolding verdict_call
+  verdict-sssp e h = rw e h
 
   module _ {room : Bool}
       (p : room
@@ -125,30 +121,30 @@ module _ (most : ℕ) (g : Graph) (kernel : ℕ) (parameter : ℤ) (s : List ℕ
         numbers-call (bfs_reference most g s parameter') g R C F S T L p refl refl h a b c
         ∙ rw (e, q)
 
-    pub verdict-wcc : (kernel ≡ 1 → ⊥) → kernel ≡ 2 → numbers x R' C' L'
+    pub verdict-wcc : kernel ≡ 2 → numbers x R' C' L'
         ≡ numbers_verdict (wcc_reference most g s) (sound_graph g) room R C L
         → F' ≡ cleared F → S' ≡ cleared S → T' ≡ cleared T → outcome x R' C' F' S' T' L'
         ≡ verdict_call most g kernel parameter s R C F S T L
     unfolding verdict_call room_for
-    verdict-wcc i e h a b c =
+    verdict-wcc e h a b c =
         numbers-call (wcc_reference most g s) g R C F S T L p refl refl h a b c
         ∙ rw e
 
-    pub verdict-cdlp : {parameter' : ℤ} → parameter' ≡ parameter → (kernel ≡ 1 → ⊥) → (kernel ≡ 2 → ⊥) → kernel ≡ 3
+    pub verdict-cdlp : {parameter' : ℤ} → parameter' ≡ parameter → kernel ≡ 3
         → numbers x R' C' L' ≡ numbers_verdict (cdlp_reference most g s parameter') (sound_graph g) room R C L
         → (F' ≡ cleared F) × (S' ≡ cleared S) × (T' ≡ cleared T)
         → outcome x R' C' F' S' T' L' ≡ verdict_call most g kernel parameter s R C F S T L
     unfolding verdict_call room_for
-    verdict-cdlp {parameter'} q i j e h a =
+    verdict-cdlp {parameter'} q e h a =
         numbers-call (cdlp_reference most g s parameter') g R C F S T L p refl refl h a.0 a.1 a.2
         ∙ rw (e, q)
 
-    pub verdict-lcc : (kernel ≡ 1 → ⊥) → (kernel ≡ 2 → ⊥) → (kernel ≡ 3 → ⊥) → kernel ≡ 4
+    pub verdict-lcc : kernel ≡ 4
         → terms x F' S' L' ≡ terms_verdict (lcc_reference most g s) (sound_graph g) room F S L
         → R' ≡ cleared_z R → C' ≡ cleared_z C → T' ≡ cleared T
         → outcome x R' C' F' S' T' L' ≡ verdict_call most g kernel parameter s R C F S T L
     unfolding verdict_call room_for
-    verdict-lcc i j l e h a b c =
+    verdict-lcc e h a b c =
         terms-call (lcc_reference most g s) g R C F S T L p refl h a b c
         ∙ rw e
 

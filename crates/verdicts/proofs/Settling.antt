@@ -11,7 +11,6 @@ use lib.Seq.{length-take-le}
 use borrow.Author.Tests.{le-leb}
 use Rattle.basis.specs.Refusal.{Said, gives, refuses, plain, no_room}
 use Rattle.basis.specs.declared.refusal.Refusal.{Refusal}
-use Rattle.basis.specs.Area.{cleared, cleared_z}
 use Rattle.graph.specs.Find.{bisected}
 use Rattle.kernels.specs.Answer.{says as answers}
 use Rattle.matching.specs.declared.judged.Verdict as judged
@@ -20,8 +19,8 @@ use Rattle.matching.specs.declared.numbers.Rule.{Rule}
 use Rattle.matching.specs.Claim.{number_lines, coefficient_lines}
 use Rattle.matching.specs.Verdict.{Verdict, says, mismatch_vertex, judged_by}
 use Rattle.matching.specs.Calls as calls
-use Rattle.verdicts.specs.Steps.{unless_refused, Worked, Known, Roomy, Numbers, numbers}
-use Rattle.verdicts.specs.Steps.{numbers_says, numbers_on, Terms, terms, terms_says, terms_on}
+use Rattle.verdicts.specs.Steps.{unless_refused, Worked, Known, Roomy, numbers}
+use Rattle.verdicts.specs.Steps.{numbers_says, numbers_on, terms, terms_says, terms_on}
 
 -- ---- an area after a verdict, and after a refusal
 pub area-stays : {A : Type 0} (j : Result judged.Verdict Refusal) (z : A) (l : List A) → is_err j ≡ false → l ≡ unless_refused (says j) z l
@@ -79,9 +78,13 @@ module _ (answer : Result (Unit {0}) Refusal) (room : Bool) (rule : Rule) (most 
         let f : says j ≡ judged_by (bisected (take n ids)) (length (take n ids)) (pos 0) (mismatch_vertex rule (take n R))
         (number_lines most s) =
         ap (λ (o : calls.Outcome). o.said) q
-        ∙ rw (l, le-leb n (length R) (roomy.0 t), le-leb n (length C) (roomy.1 t), le-leb n (length L) (roomy.2 t)) in
-        (rw (e, t) f, (worked (says j) (pos 0) C C' (ap (λ (o : calls.Outcome). o.claimed) q),
-        worked (says j) 0 L L' (ap (λ (o : calls.Outcome). o.lines) q)))
+        ∙ rw (l, le-leb n (length R) (roomy.0 t), le-leb n (length C) (roomy.1 t), le-leb n (length L) (roomy.2 t)) in (
+          rw (e, t) f,
+          (
+            worked (says j) (pos 0) C C' (ap (λ (o : calls.Outcome). o.claimed) q),
+            worked (says j) 0 L L' (ap (λ (o : calls.Outcome). o.lines) q),
+          ),
+        )
 
     pub numbers-settled : (j : Result judged.Verdict Refusal) (D : List ℤ) (M : List ℕ)
         → says j ≡ numbers_says (answers answer) room rule most (take n ids) (take n R) s

@@ -74,7 +74,7 @@ fn terms_said(
 }
 
 // A claim of numbers on a kernel's results, by its rule; `room` says whether all areas have room.
-// Stays: three areas are lent for writing one by one, since a struct of `&mut` slices needs a ghost name for each in every clause.
+// Stays: the areas lent for writing are parameters one by one, here and below: a struct of `&mut` needs a ghost-name clause for each.
 pub(crate) fn numbers_on(
     answer: Result<(), Refusal>,
     room: bool,

@@ -32,17 +32,10 @@ pub(crate) fn on_bfs(
         × (Roomy room g.size.vertices (length lines.old)) }
     requires roomy_2 { Roomy room g.size.vertices (length queue.old) }
     ensures lines_after { numbers (says result) res.new claimed.new lines.new
-        ≡ bfs_verdict room most
-        (standing g.entry)
-        root claim.now res.old claimed.old lines.old }
+        ≡ bfs_verdict room most (standing g.entry) root claim.now res.old claimed.old lines.old }
     ensures queue_after { queue.new ≡ cleared queue.old }
 {
-    let answer = bfs(
-        g,
-        root,
-        res,
-        queue,
-    );
+    let answer = bfs(g, root, res, queue);
     numbers_on(
         answer,
         room,
@@ -73,16 +66,10 @@ pub(crate) fn on_wcc(
         × (Roomy room g.size.vertices (length lines.old)) }
     requires roomy_2 { Roomy room g.size.vertices (length heads.old) }
     ensures lines_after { numbers (says result) res.new claimed.new lines.new
-        ≡ wcc_verdict room most
-        (standing g.entry)
-        claim.now res.old claimed.old lines.old }
+        ≡ wcc_verdict room most (standing g.entry) claim.now res.old claimed.old lines.old }
     ensures heads_after { heads.new ≡ cleared heads.old }
 {
-    let answer = wcc(
-        g,
-        res,
-        heads,
-    );
+    let answer = wcc(g, res, heads);
     numbers_on(
         answer,
         room,
@@ -118,21 +105,12 @@ pub(crate) fn on_cdlp(
         × (Roomy room g.size.vertices (length next.old))
         × (Roomy room g.size.vertices (length counts.old)) }
     ensures lines_after { numbers (says result) res.new claimed.new lines.new
-        ≡ cdlp_verdict room most
-        (standing g.entry)
-        iterations claim.now res.old claimed.old lines.old }
+        ≡ cdlp_verdict room most (standing g.entry) iterations claim.now res.old claimed.old lines.old }
     ensures labels_after { (labels.new ≡ cleared labels.old)
         × (next.new ≡ cleared next.old)
         × (counts.new ≡ cleared counts.old) }
 {
-    let answer = cdlp(
-        g,
-        iterations,
-        res,
-        labels,
-        next,
-        counts,
-    );
+    let answer = cdlp(g, iterations, res, labels, next, counts);
     numbers_on(
         answer,
         room,
@@ -163,17 +141,10 @@ pub(crate) fn on_lcc(
         × (Roomy room g.size.vertices (length lines.old)) }
     requires roomy_2 { Roomy room g.size.vertices (length work.old) }
     ensures lines_after { terms (says result) numerators.new denominators.new lines.new
-        ≡ lcc_verdict room most
-        (standing g.entry)
-        claim.now numerators.old denominators.old lines.old }
+        ≡ lcc_verdict room most (standing g.entry) claim.now numerators.old denominators.old lines.old }
     ensures work_after { work.new ≡ cleared work.old }
 {
-    let answer = lcc(
-        g,
-        numerators,
-        denominators,
-        work,
-    );
+    let answer = lcc(g, numerators, denominators, work);
     terms_on(
         answer,
         room,

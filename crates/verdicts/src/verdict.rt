@@ -72,9 +72,7 @@ pub fn verdict_within(
 ) -> Result<Verdict, Refusal>
     ensures { outcome (says result) res.new claimed.new first.new second.new third.new
         lines.new
-        ≡ verdict_call most
-        (standing g.entry)
-        kernel parameter claim.now
+        ≡ verdict_call most (standing g.entry) kernel parameter claim.now
         res.old claimed.old first.old second.old third.old
         lines.old }
 {
@@ -126,9 +124,7 @@ pub fn verdict(
 ) -> Result<Verdict, Refusal>
     ensures { outcome (says result) res.new claimed.new first.new second.new third.new
         lines.new
-        ≡ verdict_call most_lines
-        (standing g.entry)
-        kernel parameter claim.now
+        ≡ verdict_call most_lines (standing g.entry) kernel parameter claim.now
         res.old claimed.old first.old second.old third.old
         lines.old }
 {

@@ -1,5 +1,7 @@
 use mir.Facts.{to_z-of_z}
-use Rattle.verdicts.proofs.Calls.{roomy, verdict-unknown, verdict-bfs, verdict-wcc, verdict-cdlp, verdict-lcc}
+use Rattle.kernels.specs.declared.Kernel.TheVariants.{Bfs, Wcc, Cdlp, Lcc, Sssp}
+use Rattle.verdicts.proofs.Calls.{roomy, named-as, named-none, verdict-unknown, verdict-sssp, verdict-bfs, verdict-wcc, verdict-cdlp}
+use Rattle.verdicts.proofs.Calls.{verdict-lcc}
 use Rattle.verdicts.proofs.verdict.verdict_within.Goals as goal
 
 pub on_bfs-requires : goal.on_bfs-requires
@@ -10,10 +12,11 @@ on_bfs-requires c =
       roomy_2 = h.1.0;
     }
 
-pub returns-then-kernel-eq-BFS : goal.returns-then-kernel-eq-BFS
-returns-then-kernel-eq-BFS c =
-    verdict-bfs _ _ _ _ _ _ _ _ _ _ _ c.has_room-room.ensures (to_z-of_z c.ranges.parameter) c.if-kernel-eq-BFS.true
-    c.on_bfs.ensures.lines_after c.on_bfs.ensures.queue_after c.clear.ensures c.clear-then-kernel-eq-BFS.ensures
+pub returns-in-Ok-Bfs : goal.returns-in-Ok-Bfs
+returns-in-Ok-Bfs c =
+    verdict-bfs _ _ _ _ _ _ _ _ _ _ _ c.has_room-room.ensures (to_z-of_z c.ranges.parameter)
+    (named-as _ _ c.try_from.ensures Bfs c.in-Ok-Bfs.is c.in-Ok-Bfs.field-0-is) c.on_bfs.ensures.lines_after c.on_bfs.ensures.queue_after
+    c.clear.ensures c.clear-in-Ok-Bfs.ensures
 
 pub on_wcc-requires : goal.on_wcc-requires
 on_wcc-requires c =
@@ -23,10 +26,11 @@ on_wcc-requires c =
       roomy_2 = h.1.0;
     }
 
-pub returns-then-kernel-eq-WCC : goal.returns-then-kernel-eq-WCC
-returns-then-kernel-eq-WCC c =
-    verdict-wcc _ _ _ _ _ _ _ _ _ _ _ c.has_room-room.ensures c.if-kernel-eq-BFS.false c.if-kernel-eq-WCC.true
-    c.on_wcc.ensures.lines_after c.on_wcc.ensures.heads_after c.clear-then-kernel-eq-WCC.ensures c.clear-then-kernel-eq-WCC-2.ensures
+pub returns-in-Ok-Wcc : goal.returns-in-Ok-Wcc
+returns-in-Ok-Wcc c =
+    verdict-wcc _ _ _ _ _ _ _ _ _ _ _ c.has_room-room.ensures
+    (named-as _ _ c.try_from.ensures Wcc c.in-Ok-Wcc.is c.in-Ok-Wcc.field-0-is) c.on_wcc.ensures.lines_after c.on_wcc.ensures.heads_after
+    c.clear-in-Ok-Wcc.ensures c.clear-in-Ok-Wcc-2.ensures
 
 pub on_cdlp-requires : goal.on_cdlp-requires
 on_cdlp-requires c =
@@ -36,11 +40,11 @@ on_cdlp-requires c =
       roomy_2 = h.1;
     }
 
-pub returns-then-kernel-eq-CDLP : goal.returns-then-kernel-eq-CDLP
-returns-then-kernel-eq-CDLP c =
-    verdict-cdlp _ _ _ _ _ _ _ _ _ _ _ c.has_room-room.ensures (to_z-of_z
-    c.ranges.parameter)
-    c.if-kernel-eq-BFS.false c.if-kernel-eq-WCC.false c.if-kernel-eq-CDLP.true c.on_cdlp.ensures.lines_after c.on_cdlp.ensures.labels_after
+pub returns-in-Ok-Cdlp : goal.returns-in-Ok-Cdlp
+returns-in-Ok-Cdlp c =
+    verdict-cdlp _ _ _ _ _ _ _ _ _ _ _ c.has_room-room.ensures (to_z-of_z c.ranges.parameter)
+    (named-as _ _ c.try_from.ensures Cdlp c.in-Ok-Cdlp.is c.in-Ok-Cdlp.field-0-is) c.on_cdlp.ensures.lines_after
+    c.on_cdlp.ensures.labels_after
 
 pub on_lcc-requires : goal.on_lcc-requires
 on_lcc-requires c =
@@ -50,13 +54,18 @@ on_lcc-requires c =
       roomy_2 = h.1.2;
     }
 
-pub returns-then-kernel-eq-LCC : goal.returns-then-kernel-eq-LCC
-returns-then-kernel-eq-LCC c =
-    verdict-lcc _ _ _ _ _ _ _ _ _ _ _ c.has_room-room.ensures c.if-kernel-eq-BFS.false
-    c.if-kernel-eq-WCC.false c.if-kernel-eq-CDLP.false c.if-kernel-eq-LCC.true c.on_lcc.ensures.lines_after c.clear_signed.ensures
-    c.clear_signed-then-kernel-eq-LCC.ensures c.on_lcc.ensures.work_after
+pub returns-in-Ok-Lcc : goal.returns-in-Ok-Lcc
+returns-in-Ok-Lcc c =
+    verdict-lcc _ _ _ _ _ _ _ _ _ _ _ c.has_room-room.ensures
+    (named-as _ _ c.try_from.ensures Lcc c.in-Ok-Lcc.is c.in-Ok-Lcc.field-0-is) c.on_lcc.ensures.lines_after c.clear-in-Ok-Lcc.ensures
+    c.clear-in-Ok-Lcc-2.ensures c.on_lcc.ensures.work_after
 
-pub returns : goal.returns
-returns c =
-    verdict-unknown _ _ _ _ _ _ _ _ _ _ _ c.if-kernel-eq-BFS.false c.if-kernel-eq-WCC.false c.if-kernel-eq-CDLP.false
-    c.if-kernel-eq-LCC.false c.refuse_unknown.ensures
+pub returns-in-Ok-Sssp : goal.returns-in-Ok-Sssp
+returns-in-Ok-Sssp c =
+    verdict-sssp _ _ _ _ _ _ _ _ _ _ _ (named-as _ _ c.try_from.ensures Sssp c.in-Ok-Sssp.is c.in-Ok-Sssp.field-0-is)
+    c.refuse_unknown.ensures
+
+pub returns-in-Err : goal.returns-in-Err
+returns-in-Err c =
+    let n = named-none _ _ c.try_from.ensures c.in-Err.is in
+    verdict-unknown _ _ _ _ _ _ _ _ _ _ _ (n Bfs) (n Wcc) (n Cdlp) (n Lcc) c.refuse_unknown-in-Err.ensures
