@@ -30,7 +30,8 @@ module _ (n : ℕ) (line listing : List ℕ) (x : Result (Unit {0}) Refusal) (o 
       → written o' p ≡ put_at o at (answer_text n line (says x) listing)
   ran-refused r e w = put_as o at (refused_text r) w _ (ap (λ y. answer_text n line (says y) listing) (sym e))
 
-  pub ran-done : (u : Unit {0}) {o'' : List ℕ} {q : ℕ} → x ≡ Ok u → written o' p ≡ put_at o at (head_text line n) → written o'' q ≡ put_at o' p listing
+  pub ran-done : (u : Unit {0}) {o'' : List ℕ} {q : ℕ} → x ≡ Ok u
+      → written o' p ≡ put_at o at (head_text line n) → written o'' q ≡ put_at o' p listing
       → written o'' q ≡ put_at o at (answer_text n line (says x) listing)
   ran-done u e w v =
       put_as o at (head_text line n ++ listing) (put_then o at (head_text line n) w listing v) _

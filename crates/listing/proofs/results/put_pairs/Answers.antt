@@ -5,7 +5,9 @@ use Rattle.listing.proofs.Lines.{pairs_end, pairs-more}
 use Rattle.listing.proofs.results.put_pairs.Goals as goal
 
 pub loop-id-preserved : goal.loop-id-preserved
-loop-id-preserved c = pairs-more _ _ _ _ _ _ _ _ _ _ c.loop-id.invariant c.in-Some.ensures.steps (search rules) (search rules) c.put_pair-next.ensures
+loop-id-preserved c =
+    pairs-more _ _ _ _ _ _ _ _ _ _ c.loop-id.invariant c.in-Some.ensures.steps (search rules) (search rules)
+    c.put_pair-next.ensures
 
 pub shape_of-out : goal.shape_of-out
 shape_of-out c = search putting-length

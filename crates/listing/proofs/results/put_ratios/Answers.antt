@@ -5,7 +5,9 @@ use Rattle.listing.proofs.Lines.{ratios-end, ratios-more}
 use Rattle.listing.proofs.results.put_ratios.Goals as goal
 
 pub loop-id-preserved : goal.loop-id-preserved
-loop-id-preserved c = ratios-more _ _ _ _ _ _ _ _ _ _ _ _ c.loop-id.invariant c.in-Some.ensures.steps (search rules) c.put_ratio-next.ensures
+loop-id-preserved c =
+    ratios-more _ _ _ _ _ _ _ _ _ _ _ _ c.loop-id.invariant c.in-Some.ensures.steps (search rules)
+    c.put_ratio-next.ensures
 
 pub shape_of-out : goal.shape_of-out
 shape_of-out c = search putting-length

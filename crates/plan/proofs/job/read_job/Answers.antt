@@ -22,7 +22,9 @@ overflow_add-at-then-begins_at-2 c =
     )
 
 pub returns-then-begins_at-2 : goal.returns-then-begins_at-2
-returns-then-begins_at-2 c = job-cdlp _ _ _ c.begins_at.ensures c.if-begins_at.false _ c.begins_at-2.ensures c.if-begins_at-2.true _ (c.numbered-then-begins_at-2.ensures false (λ z j h. h))
+returns-then-begins_at-2 c =
+    job-cdlp _ _ _ c.begins_at.ensures c.if-begins_at.false _ c.begins_at-2.ensures c.if-begins_at-2.true _
+    (c.numbered-then-begins_at-2.ensures false (λ z j h. h))
 
 pub overflow_add-result : goal.overflow_add-result
 overflow_add-result c =

@@ -9,7 +9,8 @@ loop-init g c = λ jobs s h. rw sub-zero
 pub returns-in_err-at : goal.returns-in_err-at
 returns-in_err-at g c = λ jobs s h.
     let p = err_from_is_err_and c.from_residual.result c.from_residual.ensures.1 in
-    rw (p.1, p.2) (lines-refused s jobs _ _ _ (c.loop.invariant jobs s h) c.loop-test.true c.in_err-at.field-0.0 (h c.loop.at _ c.in_err-at.ensures))
+    rw (p.1, p.2) (lines-refused s jobs _ _ _ (c.loop.invariant jobs s h) c.loop-test.true c.in_err-at.field-0.0
+    (h c.loop.at _ c.in_err-at.ensures))
 
 pub loop-preserved : goal.loop-preserved
 loop-preserved g c = λ jobs s h. lines_more s jobs _ _ _ (c.loop.invariant jobs s h) c.loop-test.true _ (h _ _ c.in_ok-at.ensures)
