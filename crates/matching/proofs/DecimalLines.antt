@@ -31,7 +31,8 @@ use Rattle.matching.specs.Cover.{failing_place, its_line_from, its_line, incompl
 use Rattle.matching.specs.Verdict.{verdict_of, says, judged_by}
 use Rattle.matching.specs.Calls.{near_within, far_within, fraction_in, fractions, no_decimal, room_in_three, told}
 use Rattle.matching.specs.Calls.{coefficients_call}
-use Rattle.matching.specs.Steps.{Found, new_in, set_at, stray_step, lesser_fault, far_step, end_line, counted, reported_in, Reportable, JudgedOf}
+use Rattle.matching.specs.Steps.{Found, new_in, set_at, stray_step, lesser_fault, far_step, end_line}
+use Rattle.matching.specs.Steps.{counted, reported_in, Reportable, JudgedOf}
 use Rattle.matching.proofs.FirstPlaces.{bits_back, failing-same, failing-bound, first-column}
 use Rattle.matching.proofs.Leasts.{failing-now}
 use Rattle.matching.proofs.Covering.{Grown, Recorded, recorded-none, grown, recorded-next, recorded-end, strays-bound, value-old, value-new}
@@ -199,8 +200,10 @@ module _ (most : ℕ) (ids : List ℤ) (nums dens s : List ℕ) where
             let p = passed-fault (pair_form decimal_form) claim_file most no_test s h.passed l f.0.number f.0.column c.at here in
             rw q record { tells = rw (p, f.2); wide = h.recorded.wide }
 
-        pub decimals-next : {x' : Option (ℤ × Decimal)} → Found x k (Ok x') → (id : ℤ) (d : Decimal) → x' ≡ Some (id, d) → length ids ≤ width
-            → {r : Option ℕ} → r ≡ new_in lines (bisected ids (to_z w64 (of_z w64 id))) → {record' : List ℕ} → record' ≡ set_at lines r (k + 1)
+        pub decimals-next : {x' : Option (ℤ × Decimal)} → Found x k (Ok x') → (id : ℤ) (d : Decimal) → x' ≡ Some (id, d)
+            → length ids ≤ width
+            → {r : Option ℕ} → r ≡ new_in lines (bisected ids (to_z w64 (of_z w64 id)))
+            → {record' : List ℕ} → record' ≡ set_at lines r (k + 1)
             → {f : ℕ} → f ≡ far_step nums dens r d far → {i : ℕ} → i ≡ stray_step r k stray
             → Decimals most ids nums dens s width record' c.at (k + 1) i f
         decimals-next f id d g wide {r} p t t' y =
@@ -252,7 +255,8 @@ module _ (most : ℕ) (ids : List ℤ) (nums dens s : List ℕ) where
     coefficients-short f r q = let k : room_in_three (length ids) (length nums) (length dens) (length lines) ≡ false
         = ap (room_in_three (length ids) (length nums) (length dens)) (sym wide) ∙ failed t _ e f in rw (k, q, c)
 
-    pub coefficients-done : t ≡ true → (left : List ℕ) (j : Result judged.Verdict Refusal) → JudgedOf most ids nums dens s (length before) left (says j)
+    pub coefficients-done : t ≡ true → (left : List ℕ) (j : Result judged.Verdict Refusal)
+        → JudgedOf most ids nums dens s (length before) left (says j)
         → (end : List ℕ) → end ≡ cleared left → told (says j) end ≡ coefficients_call most ids nums dens s lines
     unfolding coefficients_call
     coefficients-done f left j h end q =

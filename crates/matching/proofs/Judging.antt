@@ -80,7 +80,8 @@ module _ {read : Result (Option ℕ) Refusal} (n : ℕ) (lines : List ℕ) (w : 
 
 -- ---- what was read, where there was room in areas of these sizes
 module _ (most : ℕ) (ids reference : List ℤ) (s : List ℕ) (size width : ℕ) {t : Bool}
-    (e : t ≡ room_in_three (length ids) (length reference) size width) (f : t ≡ true) (mid : List ℤ) (record' : List ℕ) (read : Result (Option ℕ) Refusal)
+    (e : t ≡ room_in_three (length ids) (length reference) size width) (f : t ≡ true) (mid : List ℤ) (record' : List ℕ)
+    (read : Result (Option ℕ) Refusal)
     (h : ReadOf most ids s size width mid record' read) where
   pub judge-kept : length ids ≤ length mid
   judge-kept = omega (arith, room-second (length ids) (length reference) size width e f, h.kept)

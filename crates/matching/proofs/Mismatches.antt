@@ -66,7 +66,8 @@ module _ (a b : List ℤ) (n i : ℕ) (h : unlike_vertex a b ≡ failing_place (
       pub unlike-here : j < i → t ≡ true → suc i ≡ unlike_vertex a b
       unfolding agrees
       unlike-here f g =
-          sym (add-one i) ∙ sym (h ∙ fails-here (agrees a b) n i l (every-fail (same_kind a b i) i j f (not-true (same_kind a b i j) (sym kind ∙ g))))
+          sym (add-one i)
+          ∙ sym (h ∙ fails-here (agrees a b) n i l (every-fail (same_kind a b i) i j f (not-true (same_kind a b i j) (sym kind ∙ g))))
 
       pub like-more : t ≡ false → every (j + 1) (same_kind a b i) ≡ true
       like-more g = every_more (same_kind a b i) j k (not-false (same_kind a b i j) (sym kind ∙ g))

@@ -161,7 +161,9 @@ module _ (most : ℕ) (ids : List ℤ) (s : List ℕ) where
     module _ (x : Option (Result (ℤ × ℤ) Fault)) (c : Cursor) (e : edge_says c x ≡ claim_line s place) where
       pub numbers-end : {x' : Option (ℤ × ℤ)} → Found x k (Ok x') → x' ≡ None → {i : Option ℕ}
           → counted i ≡ end_line lines (length ids) k stray → ReadOf most ids s size width claimed lines (Ok i)
-      numbers-end f g = let n : x ≡ None = rw g at f in ended (passed-end edge_form claim_file most no_test s h.passed c.at (sym e ∙ ap (edge_says c) n))
+      numbers-end f g =
+          let n : x ≡ None = rw g at f in
+          ended (passed-end edge_form claim_file most no_test s h.passed c.at (sym e ∙ ap (edge_says c) n))
 
       module _ (l : k < most) where
         pub numbers-fault : {r : Refusal} → Found x k (Err r) → {y : Result (Option ℕ) Refusal} → y ≡ Err r
@@ -175,7 +177,8 @@ module _ (most : ℕ) (ids : List ℤ) (s : List ℕ) where
             }
 
         pub numbers-next : {x' : Option (ℤ × ℤ)} → Found x k (Ok x') → (id v : ℤ) → x' ≡ Some (id, v) → length ids ≤ width
-            → {r : Option ℕ} → r ≡ new_in lines (bisected ids (to_z w64 (of_z w64 id))) → {record' : List ℕ} → record' ≡ set_at lines r (k + 1)
+            → {r : Option ℕ} → r ≡ new_in lines (bisected ids (to_z w64 (of_z w64 id)))
+            → {record' : List ℕ} → record' ≡ set_at lines r (k + 1)
             → {left : List ℤ} → left ≡ set_at claimed r (to_z w64 (of_z w64 v)) → {i : ℕ} → i ≡ stray_step r k stray
             → Numbers most ids s size width left record' c.at (k + 1) i
         numbers-next f id v g wide {r} p t t' y =

@@ -1,5 +1,6 @@
 -- What private functions say of their work: the lines of a claim one by one.
-use Rattle.std.specs.Prelude.{ℕ, zero, suc, ◌+◌, ◌<◌, ◌≤◌, min, ◌≡◌, Bool, not, cond, List, ℤ, pos, length, get_or, take, set, eqb, ◌-◌, ◌^◌, ◌≢◌, Option, Some, None, Result, Ok, Err}
+use Rattle.std.specs.Prelude.{ℕ, zero, suc, ◌+◌, ◌-◌, ◌^◌, ◌<◌, ◌≤◌, min, ◌≡◌, ◌≢◌, Bool, not, cond, List, ℤ, pos, length, get_or, take}
+use Rattle.std.specs.Prelude.{set, eqb, Option, Some, None, Result, Ok, Err}
 use Rattle.basis.specs.Refusal.{Said, gives, refuses, at_column, claim_file}
 use Rattle.basis.specs.declared.refusal.Refusal.{Refusal}
 use Rattle.basis.specs.Scan.{every, or_else}

@@ -1,7 +1,6 @@
 -- Laws of a claim on a kernel's results: one for each way out of the code. Assumes nothing.
 use Rattle.std.specs.Prelude.{Result, Ok, Err}
-use Rattle.std.specs.Result.{is_err}
-use mathlib.Core.Path.{◌≡◌, refl, ap, ◌∙◌}
+use mathlib.Core.Path.{◌≡◌, ap, ◌∙◌}
 use mathlib.Core.Bool.{Bool, true, false}
 use mathlib.Core.List.{List}
 use Prim.Native.Nat.{ℕ, ◌≤◌}
@@ -14,25 +13,12 @@ use Rattle.basis.specs.declared.refusal.Refusal.{Refusal}
 use Rattle.graph.specs.Find.{bisected}
 use Rattle.kernels.specs.Answer.{says as answers}
 use Rattle.matching.specs.declared.judged.Verdict as judged
-use Rattle.matching.specs.declared.judged.Verdict.TheVariants as V
 use Rattle.matching.specs.declared.numbers.Rule.{Rule}
 use Rattle.matching.specs.Claim.{number_lines, coefficient_lines}
 use Rattle.matching.specs.Verdict.{Verdict, says, mismatch_vertex, judged_by}
 use Rattle.matching.specs.Calls as calls
 use Rattle.verdicts.specs.Steps.{unless_refused, Worked, Known, Roomy, numbers}
 use Rattle.verdicts.specs.Steps.{numbers_says, numbers_on, terms, terms_says, terms_on}
-
--- ---- an area after a verdict, and after a refusal
-pub area-stays : {A : Type 0} (j : Result judged.Verdict Refusal) (z : A) (l : List A) → is_err j ≡ false → l ≡ unless_refused (says j) z l
-area-stays (Ok V.Match) z l e = refl
-area-stays (Ok (V.Incomplete k)) z l e = refl
-area-stays (Ok (V.Mismatch k)) z l e = refl
-area-stays (Err r) z l e = cc
-
-pub area-goes : {A : Type 0} (j : Result judged.Verdict Refusal) (z : A) (l : List A) → is_err j ≡ true → {left : List A}
-    → left ≡ replicate (length l) z → left ≡ unless_refused (says j) z l
-area-goes (Ok v) z l e q = cc
-area-goes (Err r) z l e q = q
 
 -- a working area that a judge has cleared, or left with its size, and that goes after a refusal
 worked : {A : Type 0} (x : Said Verdict) (z : A) (before after : List A) → after ≡ replicate (length before) z → Worked x z before after

@@ -2,7 +2,8 @@
 ghost use Rattle.std.specs.Prelude.{◌≡◌, length, pos, take};
 ghost use Rattle.kernels.specs.Answer.{says as answers};
 ghost use Rattle.matching.specs.Verdict.{says};
-ghost use Rattle.verdicts.specs.Steps.{unless_refused, Worked, numbers, numbers_says, numbers_on, terms, terms_says, terms_on, Known, Roomy};
+ghost use Rattle.verdicts.specs.Steps.{unless_refused, Worked, Known, Roomy};
+ghost use Rattle.verdicts.specs.Steps.{numbers, numbers_says, numbers_on, terms, terms_says, terms_on};
 
 use basis::Refusal;
 use basis::area::{Zero, clear};

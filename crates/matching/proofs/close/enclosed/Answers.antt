@@ -19,7 +19,10 @@ overflow_add-sum c =
 pub loop-preserved : goal.loop-preserved
 loop-preserved c =
     dropped-next c.loop.invariant
-    (elim c.if-exact.branch [ then-exact w ↦ rw w.if-exact.true w.exact-is | else-exact w ↦ rw w.if-exact.false (w.exact-is ∙ w.if-exact.false) ])
+    (elim c.if-exact.branch [
+      | then-exact w ↦ rw w.if-exact.true w.exact-is
+      | else-exact w ↦ rw w.if-exact.false (w.exact-is ∙ w.if-exact.false)
+    ])
 
 pub returns-then-high-n : goal.returns-then-high-n
 returns-then-high-n c =
