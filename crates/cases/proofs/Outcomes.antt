@@ -1,6 +1,11 @@
 -- One outcome for every public call. `Reads.Learnt` is what Rattle tells a caller by the `ensures`; of a returned part it is the part's
 -- list that is promised, not where it lies. Assumes nothing.
 use mathlib.Core.Path.{◌≡◌, refl, sym, ap, ◌∙◌}
+use denote.RattleType.{RattleType}
+use denote.Param.Laws.{Laws, IsCopy}
+use mir.Syntax.{Dict}
+use Rattle.std.specs.declared.clone.Clone as Clone
+use Rattle.basis.specs.declared.area.Zero as Zero
 use Rattle.graph.specs.Part.{part_of}
 use Rattle.basis.specs.contracts.refusal.Refusal.plain as basis-plain
 use Rattle.basis.proofs.refusal.Refusal.plain.Reads as basis-plain-reads
@@ -16,12 +21,10 @@ use Rattle.basis.specs.contracts.order.lesser as basis-lesser
 use Rattle.basis.proofs.order.lesser.Reads as basis-lesser-reads
 use Rattle.basis.specs.contracts.area.number_at as basis-number_at
 use Rattle.basis.proofs.area.number_at.Reads as basis-number_at-reads
-use Rattle.basis.specs.contracts.area.fill_signed as basis-fill_signed
-use Rattle.basis.proofs.area.fill_signed.Reads as basis-fill_signed-reads
+use Rattle.basis.specs.contracts.area.fill as basis-fill
+use Rattle.basis.proofs.area.fill.Reads as basis-fill-reads
 use Rattle.basis.specs.contracts.area.clear as basis-clear
 use Rattle.basis.proofs.area.clear.Reads as basis-clear-reads
-use Rattle.basis.specs.contracts.area.clear_signed as basis-clear_signed
-use Rattle.basis.proofs.area.clear_signed.Reads as basis-clear_signed-reads
 use Rattle.basis.specs.contracts.area.copy as basis-copy
 use Rattle.basis.proofs.area.copy.Reads as basis-copy-reads
 use Rattle.text.specs.contracts.count.has as text-has
@@ -190,12 +193,11 @@ use Rattle.text.specs.contracts.line.Cursor.listed_edge as text-listed_edge
 use Rattle.text.proofs.line.Cursor.listed_edge.Reads as text-listed_edge-reads
 use Rattle.write.specs.contracts.millionths.put_millionths as write-put_millionths
 use Rattle.write.proofs.millionths.put_millionths.Reads as write-put_millionths-reads
-use Rattle.text.proofs.Saids.{count-one, scan-one, vertex-one, edge-one, coefficient-one, weighed-one, distance-one}
+use Rattle.text.proofs.Saids.{count-one, scan-one, reader-one, weighed-one}
 use Rattle.graph.proofs.Finds.{searched-is}
 use Rattle.book.proofs.Answers.{one-opened, one-joined, one-joined_each, one-headed, one-compared, one-reading}
-use Rattle.plan.proofs.Saids.{job_one, checked-one}
 use Rattle.cases.specs.Outcome.{One, OneAs}
-use Rattle.cases.proofs.Answers.{one-kernel, one-listed, one-loaded}
+use Rattle.cases.proofs.Answers.{one-said}
 use Rattle.matching.proofs.Judging.{says-apart}
 
 -- two that a promise fixes as one third; of records, then, each field
@@ -257,26 +259,22 @@ basis-number_at-one = record {
   one = λ _ _ _ _ _ _ p q. (meet p q, refl);
 }
 
-pub basis-fill_signed-one : One basis-fill_signed.ended (λ M 𝓤 𝓛. basis-fill_signed.clauses 𝓛)
-basis-fill_signed-one = record {
-  promise = basis-fill_signed-reads.Learnt;
-  told = refl;
-  one = λ _ _ _ _ _ _ p q. (refl, ap (λ l. l & tt & tt) (meet p q));
-}
+-- of every type of numbers, with whatever the type brings
+module _ (T : RattleType) (L : Laws T) (I : IsCopy T) (C : Clone.Ghosts T.Denot) (c : Dict) where
+  pub basis-fill-one : One (basis-fill.ended T C c) (λ M 𝓤 𝓛. basis-fill.clauses T C c 𝓛)
+  basis-fill-one = record {
+    promise = basis-fill-reads.Learnt T L I C c;
+    told = refl;
+    one = λ _ _ _ _ _ _ p q. (refl, ap (λ l. l & tt & tt) (meet p q));
+  }
 
-pub basis-clear-one : One basis-clear.ended (λ M 𝓤 𝓛. basis-clear.clauses 𝓛)
-basis-clear-one = record {
-  promise = basis-clear-reads.Learnt;
-  told = refl;
-  one = λ _ _ _ _ _ _ p q. (refl, ap (λ l. l & tt) (meet p q));
-}
-
-pub basis-clear_signed-one : One basis-clear_signed.ended (λ M 𝓤 𝓛. basis-clear_signed.clauses 𝓛)
-basis-clear_signed-one = record {
-  promise = basis-clear_signed-reads.Learnt;
-  told = refl;
-  one = λ _ _ _ _ _ _ p q. (refl, ap (λ l. l & tt) (meet p q));
-}
+  module _ (Z : Zero.Ghosts T.Denot) (z : Dict) where
+    pub basis-clear-one : One (basis-clear.ended T Z z C c) (λ M 𝓤 𝓛. basis-clear.clauses T Z z C c 𝓛)
+    basis-clear-one = record {
+      promise = basis-clear-reads.Learnt T L I Z z C c;
+      told = refl;
+      one = λ _ _ _ _ _ _ p q. (refl, ap (λ l. l & tt) (meet p q));
+    }
 
 pub basis-copy-one : One basis-copy.ended (λ M 𝓤 𝓛. basis-copy.clauses 𝓛)
 basis-copy-one = record {
@@ -318,42 +316,42 @@ pub text-vertex-one : One text-vertex.ended (λ M 𝓤 𝓛. text-vertex.clauses
 text-vertex-one = record {
   promise = text-vertex-reads.Learnt;
   told = refl;
-  one = λ _ _ z z' _ _ p q. (vertex-one z z' (meet p q), refl);
+  one = λ _ _ z z' _ _ p q. let h = reader-one _ _ z z' (meet p q) in (h.0, ap (λ k. k & tt & tt) h.1);
 }
 
 pub text-edge-one : One text-edge.ended (λ M 𝓤 𝓛. text-edge.clauses 𝓛)
 text-edge-one = record {
   promise = text-edge-reads.Learnt;
   told = refl;
-  one = λ _ _ z z' _ _ p q. (edge-one z z' (meet p q), refl);
+  one = λ _ _ z z' _ _ p q. let h = reader-one _ _ z z' (meet p q) in (h.0, ap (λ k. k & tt & tt) h.1);
 }
 
 pub text-claim-one : One text-claim.ended (λ M 𝓤 𝓛. text-claim.clauses 𝓛)
 text-claim-one = record {
   promise = text-claim-reads.Learnt;
   told = refl;
-  one = λ _ _ z z' _ _ p q. (edge-one z z' (meet p q), refl);
+  one = λ _ _ z z' _ _ p q. let h = reader-one _ _ z z' (meet p q) in (h.0, ap (λ k. k & tt & tt) h.1);
 }
 
 pub text-coefficient_claim-one : One text-coefficient_claim.ended (λ M 𝓤 𝓛. text-coefficient_claim.clauses 𝓛)
 text-coefficient_claim-one = record {
   promise = text-coefficient_claim-reads.Learnt;
   told = refl;
-  one = λ _ _ z z' _ _ p q. (coefficient-one z z' (meet p q), refl);
+  one = λ _ _ z z' _ _ p q. let h = reader-one _ _ z z' (meet p q) in (h.0, ap (λ k. k & tt & tt) h.1);
 }
 
 pub text-listed_edge-one : One text-listed_edge.ended (λ M 𝓤 𝓛. text-listed_edge.clauses 𝓛)
 text-listed_edge-one = record {
   promise = text-listed_edge-reads.Learnt;
   told = refl;
-  one = λ _ _ z z' _ _ p q. (weighed-one z z' (meet p q), refl);
+  one = λ _ _ z z' _ _ p q. let h = weighed-one _ _ z z' (meet p q) in (h.0, ap (λ k. k & tt & tt & tt) h.1);
 }
 
 pub text-distance_claim-one : One text-distance_claim.ended (λ M 𝓤 𝓛. text-distance_claim.clauses 𝓛)
 text-distance_claim-one = record {
   promise = text-distance_claim-reads.Learnt;
   told = refl;
-  one = λ _ _ z z' _ _ p q. (distance-one z z' (meet p q), refl);
+  one = λ _ _ z z' _ _ p q. let h = reader-one _ _ z z' (meet p q) in (h.0, ap (λ k. k & tt & tt) h.1);
 }
 
 pub text-has_weights-one : One text-has_weights.ended (λ M 𝓤 𝓛. text-has_weights.clauses 𝓛)
@@ -501,7 +499,7 @@ graph-sound_over-one = record {
   told = refl;
   one = λ _ _ _ _ _ _ p q. (
     ap (λ o. o.sound) (meet p q),
-    ap (λ o. tt & tt & tt & tt & tt & tt & o.cursors & tt) (meet p q),
+    ap (λ o. tt & o.cursors & tt) (meet p q),
   );
 }
 
@@ -525,7 +523,7 @@ graph-weighted_sound_over-one = record {
   told = refl;
   one = λ _ _ _ _ _ _ p q. (
     ap (λ o. o.sound) (meet p q),
-    ap (λ o. tt & tt & tt & tt & tt & tt & tt & tt & tt & o.cursors & tt) (meet p q),
+    ap (λ o. tt & o.cursors & tt) (meet p q),
   );
 }
 
@@ -565,7 +563,7 @@ store-spread-one = record {
   told = refl;
   one = λ _ _ _ _ _ _ p q. (
     ap (λ o. o.done) (meet p q),
-    ap (λ o. o.offsets & o.targets & tt & tt & tt & tt & tt) (meet p q),
+    ap (λ o. o.offsets & o.targets & tt & tt) (meet p q),
   );
 }
 
@@ -582,7 +580,7 @@ store-spread_weighed-one = record {
   told = refl;
   one = λ _ _ _ _ _ _ p q. (
     ap (λ o. o.done) (meet p q),
-    ap (λ o. o.offsets & o.targets & o.weights & tt & tt & tt & tt & tt & tt) (meet p q),
+    ap (λ o. o.offsets & o.targets & o.weights & tt & tt & tt) (meet p q),
   );
 }
 
@@ -592,7 +590,7 @@ lists-read_vertices-one = record {
   promise = lists-read_vertices-reads.Learnt;
   told = refl;
   one = λ _ _ z z' _ _ p q. (
-    one-listed z z' (ap (λ o. o.answer) (meet p q)),
+    one-said z z' (ap (λ o. o.answer) (meet p q)),
     ap (λ o. tt & tt & o.ids & tt) (meet p q),
   );
 }
@@ -602,7 +600,7 @@ lists-read_edges-one = record {
   promise = lists-read_edges-reads.Learnt;
   told = refl;
   one = λ _ _ z z' _ _ p q. (
-    one-listed z z' (ap (λ o. o.answer) (meet p q)),
+    one-said z z' (ap (λ o. o.answer) (meet p q)),
     ap (λ o. tt & tt & tt & tt & o.counts & o.targets & tt) (meet p q),
   );
 }
@@ -613,7 +611,7 @@ load-load_within-one = record {
   promise = load-load_within-reads.Learnt;
   told = refl;
   one = λ _ _ z z' _ _ p q. (
-    one-loaded z z' (ap (λ o. o.answer) (meet p q)),
+    one-said z z' (ap (λ o. o.answer) (meet p q)),
     ap (λ o. tt & tt & tt & tt & o.ids & o.out_offsets & o.out_targets & o.in_offsets & o.in_sources & tt) (meet p q),
   );
 }
@@ -623,7 +621,7 @@ load-load-one = record {
   promise = load-load-reads.Learnt;
   told = refl;
   one = λ _ _ z z' _ _ p q. (
-    one-loaded z z' (ap (λ o. o.answer) (meet p q)),
+    one-said z z' (ap (λ o. o.answer) (meet p q)),
     ap (λ o. tt & tt & tt & o.ids & o.out_offsets & o.out_targets & o.in_offsets & o.in_sources & tt) (meet p q),
   );
 }
@@ -633,7 +631,7 @@ pub kernels-refused-one : One kernels-refused.ended (λ M 𝓤 𝓛. kernels-ref
 kernels-refused-one = record {
   promise = kernels-refused-reads.Learnt;
   told = refl;
-  one = λ _ _ z z' _ _ p q. (one-kernel z z' (meet p q), refl);
+  one = λ _ _ z z' _ _ p q. (one-said z z' (meet p q), refl);
 }
 
 -- ---- bfs
@@ -642,8 +640,8 @@ bfs-bfs-one = record {
   promise = bfs-bfs-reads.Learnt;
   told = refl;
   one = λ _ _ z z' _ _ p q. (
-    one-kernel z z' (ap (λ o. o.said) (meet p q)),
-    ap (λ o. tt & tt & tt & tt & tt & tt & tt & o.depth & o.queue & tt) (meet p q),
+    one-said z z' (ap (λ o. o.said) (meet p q)),
+    ap (λ o. tt & tt & o.depth & o.queue & tt) (meet p q),
   );
 }
 
@@ -653,8 +651,8 @@ wcc-wcc-one = record {
   promise = wcc-wcc-reads.Learnt;
   told = refl;
   one = λ _ _ z z' _ _ p q. (
-    one-kernel z z' (ap (λ o. o.said) (meet p q)),
-    ap (λ o. tt & tt & tt & tt & tt & tt & o.result & o.heads & tt) (meet p q),
+    one-said z z' (ap (λ o. o.said) (meet p q)),
+    ap (λ o. tt & o.result & o.heads & tt) (meet p q),
   );
 }
 
@@ -664,8 +662,8 @@ cdlp-cdlp-one = record {
   promise = cdlp-cdlp-reads.Learnt;
   told = refl;
   one = λ _ _ z z' _ _ p q. (
-    one-kernel z z' (ap (λ o. o.said) (meet p q)),
-    ap (λ o. tt & tt & tt & tt & tt & tt & tt & o.result & o.labels & o.next & o.counts & tt) (meet p q),
+    one-said z z' (ap (λ o. o.said) (meet p q)),
+    ap (λ o. tt & tt & o.result & o.labels & o.next & o.counts & tt) (meet p q),
   );
 }
 
@@ -675,8 +673,8 @@ lcc-lcc-one = record {
   promise = lcc-lcc-reads.Learnt;
   told = refl;
   one = λ _ _ z z' _ _ p q. (
-    one-kernel z z' (ap (λ o. o.said) (meet p q)),
-    ap (λ o. tt & tt & tt & tt & tt & tt & o.numerators & o.denominators & o.work & tt) (meet p q),
+    one-said z z' (ap (λ o. o.said) (meet p q)),
+    ap (λ o. tt & o.numerators & o.denominators & o.work & tt) (meet p q),
   );
 }
 
@@ -706,8 +704,8 @@ sssp-sssp-one = record {
   promise = sssp-sssp-reads.Learnt;
   told = refl;
   one = λ _ _ z z' _ _ p q. (
-    one-kernel z z' (ap (λ o. o.said) (meet p q)),
-    ap (λ o. tt & tt & tt & tt & tt & tt & tt & tt & tt & tt & o.distance & o.settled & o.waiting & o.tree & tt) (meet p q),
+    one-said z z' (ap (λ o. o.said) (meet p q)),
+    ap (λ o. tt & tt & o.distance & o.settled & o.waiting & o.tree & tt) (meet p q),
   );
 }
 
@@ -747,7 +745,7 @@ verdicts-verdict_within-one = record {
   one = λ _ _ z z' _ _ p q. (
     says-apart z z' (ap (λ o. o.said) (meet p q)),
     ap
-        (λ o. tt & tt & tt & tt & tt & tt & tt & tt & tt & tt & o.result & o.claimed & o.first & o.second & o.third & o.lines & tt)
+        (λ o. tt & tt & tt & tt & tt & o.result & o.claimed & o.first & o.second & o.third & o.lines & tt)
         (meet p q),
   );
 }
@@ -759,7 +757,7 @@ verdicts-verdict-one = record {
   one = λ _ _ z z' _ _ p q. (
     says-apart z z' (ap (λ o. o.said) (meet p q)),
     ap
-        (λ o. tt & tt & tt & tt & tt & tt & tt & tt & tt & o.result & o.claimed & o.first & o.second & o.third & o.lines & tt)
+        (λ o. tt & tt & tt & tt & o.result & o.claimed & o.first & o.second & o.third & o.lines & tt)
         (meet p q),
   );
 }
@@ -769,21 +767,21 @@ pub plan-read_job-one : One plan-read_job.ended (λ M 𝓤 𝓛. plan-read_job.c
 plan-read_job-one = record {
   promise = plan-read_job-reads.Learnt;
   told = refl;
-  one = λ _ _ z z' _ _ p q. ((job_one) z z' (meet p q), refl);
+  one = λ _ _ z z' _ _ p q. (one-said z z' (meet p q), refl);
 }
 
 pub plan-read_sections-one : One plan-read_sections.ended (λ M 𝓤 𝓛. plan-read_sections.clauses 𝓛)
 plan-read_sections-one = record {
   promise = plan-read_sections-reads.Learnt;
   told = refl;
-  one = λ _ _ z z' _ _ p q. (checked-one z z' (meet p q), refl);
+  one = λ _ _ z z' _ _ p q. (one-said z z' (meet p q), refl);
 }
 
 pub plan-check-one : One plan-check.ended (λ M 𝓤 𝓛. plan-check.clauses 𝓛)
 plan-check-one = record {
   promise = plan-check-reads.Learnt;
   told = refl;
-  one = λ _ _ z z' _ _ p q. (checked-one z z' (meet p q), refl);
+  one = λ _ _ z z' _ _ p q. (one-said z z' (meet p q), refl);
 }
 
 pub plan-line_number-one : One plan-line_number.ended (λ M 𝓤 𝓛. plan-line_number.clauses 𝓛)
@@ -885,7 +883,7 @@ sheet-run_jobs-one = record {
   told = refl;
   one = λ _ _ _ _ _ _ p q. (
     ap (λ o. o.next) (meet p q),
-    ap (λ o. tt & tt & tt & tt & tt & tt & tt & tt & tt & o.area & tt & tt) (meet p q),
+    ap (λ o. tt & tt & tt & tt & o.area & tt & tt) (meet p q),
   );
 }
 
@@ -916,7 +914,7 @@ trace-trace_bfs-one = record {
   told = refl;
   one = λ _ _ _ _ _ _ p q. (
     ap (λ o. o.answer) (meet p q),
-    ap (λ o. tt & tt & tt & tt & tt & tt & tt & tt & o.depth & o.queue & tt) (meet p q),
+    ap (λ o. tt & tt & tt & o.depth & o.queue & tt) (meet p q),
   );
 }
 
@@ -926,7 +924,7 @@ trace-trace_wcc-one = record {
   told = refl;
   one = λ _ _ _ _ _ _ p q. (
     ap (λ o. o.answer) (meet p q),
-    ap (λ o. tt & tt & tt & tt & tt & tt & tt & o.result & o.heads & tt) (meet p q),
+    ap (λ o. tt & tt & o.result & o.heads & tt) (meet p q),
   );
 }
 
@@ -936,7 +934,7 @@ trace-trace_cdlp-one = record {
   told = refl;
   one = λ _ _ _ _ _ _ p q. (
     ap (λ o. o.answer) (meet p q),
-    ap (λ o. tt & tt & tt & tt & tt & tt & tt & tt & o.result & o.labels & o.next & o.counts & tt) (meet p q),
+    ap (λ o. tt & tt & tt & o.result & o.labels & o.next & o.counts & tt) (meet p q),
   );
 }
 
@@ -946,7 +944,7 @@ trace-trace_lcc-one = record {
   told = refl;
   one = λ _ _ _ _ _ _ p q. (
     ap (λ o. o.answer) (meet p q),
-    ap (λ o. tt & tt & tt & tt & tt & tt & tt & o.numerators & o.denominators & o.work & tt) (meet p q),
+    ap (λ o. tt & tt & o.numerators & o.denominators & o.work & tt) (meet p q),
   );
 }
 
@@ -1012,7 +1010,7 @@ trace-trace_judge-one = record {
   one = λ _ _ _ _ _ _ p q. (
     ap (λ o. o.answer) (meet p q),
     ap
-        (λ o. tt & tt & tt & tt & tt & tt & tt & tt & tt & tt & o.result & o.claimed & o.first & o.second & o.third & o.lines & tt)
+        (λ o. tt & tt & tt & tt & tt & o.result & o.claimed & o.first & o.second & o.third & o.lines & tt)
         (meet p q),
   );
 }
