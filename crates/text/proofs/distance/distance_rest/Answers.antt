@@ -7,7 +7,8 @@ pub infinity_rest-requires : goal.infinity_rest-requires
 infinity_rest-requires c = search letter-stands
 
 pub returns-in_err-x : goal.returns-in_err-x
-returns-in_err-x c = passed-on read_says _ _ _ c.from_residual.ensures.1 (distance-bad _ _ _ c.has.ensures c.if-has.false _ c.in_err-x.ensures)
+returns-in_err-x c =
+    passed-on read_says _ _ _ c.from_residual.ensures.1 (distance-bad _ _ _ c.has.ensures c.if-has.false _ c.in_err-x.ensures)
 
 pub returns : goal.returns
 returns c = distance-finite _ _ _ c.has.ensures c.if-has.false _ c.in_ok-x.ensures
