@@ -49,6 +49,7 @@ fn numbers_said(
 }
 
 // The same of a claim of coefficients.
+// Stays: numbers_said is like it, but each calls a judge of its own with other areas, and what both share is in settle.
 fn terms_said(
     answer: Result<(), Refusal>,
     room: bool,
