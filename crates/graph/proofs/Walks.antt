@@ -17,7 +17,7 @@ use Rattle.basis.specs.Order.{rising}
 use Rattle.basis.specs.Scan.{each, mem, all_below}
 use Rattle.basis.specs.Area.{cleared, copied}
 use Rattle.basis.proofs.Tests.{clash, false_of, bool_cases, same_test, and_first, and_second, and_both, and-off, or-first, or-second}
-use Rattle.basis.proofs.Scans.{every-at, every_of, every-fail, each-mem, mem_index}
+use Rattle.basis.proofs.Scans.{every-at, every_of, each-mem, mem_index}
 use Rattle.basis.proofs.Scans.{mem-none, mem-head, mem-append, each_at, below_at, below_of}
 use Rattle.basis.proofs.Orders.{rising-lt, rising_by-of}
 use Rattle.basis.proofs.Areas.{copied-length, copied_at}
@@ -523,15 +523,6 @@ module _ {n : ℕ} {out : ℕ → List ℕ} {off src : List ℕ} (s : Ways n out
 
     pub ways-told : t ≡ true → (r : Bool) → r ≡ at_ends n off a → r ≡ both_ways n out (part_of n off src)
     ways-told h r f = f ∙ walk_end s a (told.came h)
-
--- ---- a scan of the cursors
-module _ (n : ℕ) (off cursors : List ℕ) (w : ℕ) where
-  pub ends_more : get_or cursors w 0 ≡ get_or off (w + 1) 0 → eqb (get_or cursors w 0) (get_or off (w + 1) 0) ≡ true
-  ends_more h = eq-eqb (get_or cursors w 0) (get_or off (w + 1) 0) h
-
-  pub ends-stop : w < n → (get_or cursors w 0 ≡ get_or off (w + 1) 0 → ⊥) → false ≡ at_ends n off cursors
-  ends-stop l h =
-      sym (every-fail (λ w. eqb (get_or cursors w 0) (get_or off (w + 1) 0)) n w l (ne_eqb (get_or cursors w 0) (get_or off (w + 1) 0) h))
 
 -- ---- the answer and the area
 pub checks : {r s : Bool} {a : List ℕ} (b : List ℕ) → r ≡ s → a ≡ cleared b → arcs_checked r a ≡ arcs_checked s (cleared b)

@@ -5,7 +5,7 @@ ghost use Rattle.graph.specs.Part.{part_of};
 use graph::part::part;
 
 // The lent target area.
-#[derive(Drop)]
+#[derive(Clone, Copy)]
 pub struct Neighbours<'a> {
     pub targets: &'a [usize],
 }
