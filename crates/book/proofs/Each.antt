@@ -149,9 +149,6 @@ module _ (xs : List ℤ) (g h : ℕ) (ys : List ℤ) where
 
 -- ---- the code's `join_next`
 module _ (xs : List ℤ) (u : ℕ) (at : Result Head Refusal) (x : Walking xs u at) where
-  pub walking-within : length xs ≤ most_vertices
-  walking-within = x.lent
-
   -- a join that does not merge leaves the area, and so the walk
   link-leaves : (ys : List ℤ) (g h : ℕ) (s : Said Joining) → outcome s ys ≡ link_one xs g h → (s ≡ gives merged → ⊥) → ys ≡ xs
   unfolding link_one write_book

@@ -1,6 +1,6 @@
 -- Laws of the walk, a move at a time. Assumes nothing.
 use mathlib.Core.Path.{◌≡◌, refl, sym, ◌∙◌}
-use mathlib.Core.Bool.{Bool, true, false}
+use mathlib.Core.Bool.{Bool, true}
 use Prim.Native.Nat.{ℕ, zero, suc, ◌+◌, ◌≤◌, ◌<◌}
 use lib.Dec.{ltb}
 use borrow.Author.Tests.{ltb-true, lt-ltb, le-ltb}
@@ -60,7 +60,3 @@ module _ (next : ℕ → Next) (n : ℕ) where
 pub stop-of : (x : Next) (t : Bool) → t ≡ is_stop x → t ≡ true → x ≡ stop
 stop-of stop t e h = refl
 stop-of (to p) t e h = clash h e
-
-pub to-of : (x : Next) (t : Bool) → t ≡ is_stop x → t ≡ false → (p : ℕ) × (x ≡ to p)
-to-of stop t e h = clash e h
-to-of (to p) t e h = (p, refl)

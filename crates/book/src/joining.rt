@@ -1,10 +1,10 @@
 // Joining the groups of two vertices.
 ghost use Rattle.std.specs.Prelude.{◌≡◌, ◌≤◌, ◌<◌};
 ghost use Rattle.basis.specs.Limits.{most_vertices};
-ghost use Rattle.book.specs.Rules.{outcome, each_outcome, join_book, join_each, above};
-ghost use Rattle.book.specs.One.{one_book};
 ghost use Rattle.basis.specs.Refusal.{gives, plain};
-ghost use Rattle.book.specs.Says.{as_joining, says_joined, says_joined_each, says_headed};
+ghost use Rattle.book.specs.Rules.{merged, outcome, each_outcome, join_book, join_each, above};
+ghost use Rattle.book.specs.One.{one_book};
+ghost use Rattle.book.specs.Says.{says_joined, says_joined_each, says_headed};
 ghost use Rattle.book.specs.Steps.{AtHead, link_one, hang_one, one_more, Walking};
 
 use super::entry::{is_head, size_at};
@@ -52,14 +52,13 @@ impl Stopped {
 }
 
 // Puts the head `under` under the head `top`, whose size becomes `total`.
-fn hang(entries: &mut [i64], top: usize, under: usize, total: usize) -> Joining
+fn hang(entries: &mut [i64], top: usize, under: usize, total: usize)
     requires at_head { (AtHead entries.old top) × (AtHead entries.old under) }
     requires total_nonzero { (0 < total) × (total ≤ most_vertices) }
-    ensures { outcome (gives (as_joining result)) entries.new ≡ hang_one entries.old top under total }
+    ensures { outcome (gives merged) entries.new ≡ hang_one entries.old top under total }
 {
     entries[under] = top as i64;
     entries[top] = -(total as i64);
-    Joining::Merged
 }
 
 // Whether the head `g`, of a group of `a` vertices, goes above the head `h`, of a group of `b`.
@@ -83,9 +82,11 @@ fn link(entries: &mut [i64], g: usize, h: usize) -> Result<Joining, Refusal>
         return Err(Refusal::plain(UNSOUND));
     }
     if goes_above(a, b, g, h) {
-        return Ok(hang(entries, g, h, a + b));
+        hang(entries, g, h, a + b);
+    } else {
+        hang(entries, h, g, a + b);
     }
-    Ok(hang(entries, h, g, a + b))
+    Ok(Joining::Merged)
 }
 
 // The groups of two vertices become one, where they are two.

@@ -13,9 +13,9 @@ use Rattle.basis.specs.Refusal.{Said, gives, refuses, plain, unsound, no_room}
 use Rattle.basis.specs.Area.{cleared, cleared_z}
 use Rattle.basis.proofs.Tests.{and_first, and_second}
 use Rattle.basis.proofs.Areas.{column-length}
-use Rattle.graph.specs.declared.Lent.{Lent}
+use Rattle.graph.specs.declared.Size.{Size}
 use Rattle.graph.specs.Part.{part_of}
-use Rattle.graph.specs.Sound.{Graph, outward, names, standing, sound_graph}
+use Rattle.graph.specs.Sound.{Graph, outward, names, lent, sound_graph}
 use Rattle.graph.specs.Walk.{arcs_checked}
 use Rattle.graph.proofs.Walks.{check-told, check-area}
 use Rattle.graph.proofs.Sounds.{sound-of, outward-below, names-length}
@@ -46,14 +46,14 @@ module _ (n : ℕ) (R : List ℤ) (H : List ℕ) (h : room_for n R H ≡ true) w
   first-heads = leb-true n (length H) (and_second (leb n (length R)) (leb n (length H)) h)
 
 -- ---- their first n places, of a graph's n vertices; R₁ is the result area after it was cleared
-module _ (l : Lent) (R : List ℤ) (H : List ℕ) (x : Ready (standing l) R H) where
+module _ (size : Size) (ids : List ℤ) (oo ot io is : List ℕ) (R : List ℤ) (H : List ℕ) (x : Ready (lent size ids oo ot io is) R H) where
   abbrev g : Graph
-  g = standing l
+  g = lent size ids oo ot io is
 
   abbrev n : ℕ
-  n = l.size.vertices
+  n = size.vertices
 
-  pub taken-ids : n ≡ length (take n l.ids.now)
+  pub taken-ids : n ≡ length (take n ids)
   taken-ids = sym (names-length g (sound-of g x.sound))
 
   pub lent-heads : n ≤ length H
@@ -69,7 +69,7 @@ module _ (l : Lent) (R : List ℤ) (H : List ℕ) (x : Ready (standing l) R H) w
     pub taken-result : n ≡ length (take n R₁)
     taken-result = sym (length-take-le n R₁ lent-result)
 
-    pub fitting-of : Fitting n (part_of n l.outward.offsets.now l.outward.targets.now) (take n l.ids.now) (take n R₁) (take n H)
+    pub fitting-of : Fitting n (part_of n oo ot) (take n ids) (take n R₁) (take n H)
     fitting-of =
         record {
           few = (sound-of g x.sound).few_vertices;
@@ -95,8 +95,11 @@ unfolding wcc_call left_by room_for
 call-over g R H H₁ q = rw (q, length-replicate {A = ℕ} (length H) 0)
 
 -- H₁ is the working area as it left it
-module _ (graph : Graph) (R : List ℤ) (H H₁ : List ℕ) (o : Outcome) (s : Bool)
-    (e : arcs_checked s H₁ ≡ arcs_checked (sound_graph graph) (cleared H)) where
+module _ (size : Size) (ids : List ℤ) (oo ot io is : List ℕ) (R : List ℤ) (H H₁ : List ℕ) (o : Outcome) (s : Bool)
+    (e : arcs_checked s H₁ ≡ arcs_checked (sound_graph (lent size ids oo ot io is)) (cleared H)) where
+  abbrev graph : Graph
+  graph = lent size ids oo ot io is
+
   -- what the call leaves by what it says
   abbrev left : Said (Unit {0}) → Outcome
   left said = left_by said graph R H₁
@@ -106,15 +109,15 @@ module _ (graph : Graph) (R : List ℤ) (H H₁ : List ℕ) (o : Outcome) (s : B
 
   pub call-unsound : s ≡ false → o ≡ refusal unsound R H₁ → o ≡ wcc_call graph R H
   unfolding wcc_call left_by
-  call-unsound h q = ends-unsound left o (sound_graph graph) true 0 (room_for graph.vertices R H₁) s (check-told e) h q ∙ over
+  call-unsound h q = ends-unsound left o (sound_graph graph) true 0 (room_for size.vertices R H₁) s (check-told e) h q ∙ over
 
-  module _ (h : s ≡ true) (r : Bool) (i : r ≡ room_for graph.vertices R H₁) where
+  module _ (h : s ≡ true) (r : Bool) (i : r ≡ room_for size.vertices R H₁) where
     pub call-short : r ≡ false → o ≡ refusal no_room R H₁ → o ≡ wcc_call graph R H
     unfolding wcc_call left_by
     call-short l q =
-        ends-short left o (sound_graph graph) true 0 (room_for graph.vertices R H₁) s (check-told e) h true refl refl r i l q ∙ over
+        ends-short left o (sound_graph graph) true 0 (room_for size.vertices R H₁) s (check-told e) h true refl refl r i l q ∙ over
 
     pub call-done : r ≡ true → o ≡ left_by (gives tt) graph R H₁ → o ≡ wcc_call graph R H
     unfolding wcc_call
     call-done l q =
-        ends-done left o (sound_graph graph) true 0 (room_for graph.vertices R H₁) s (check-told e) h true refl refl r i l q ∙ over
+        ends-done left o (sound_graph graph) true 0 (room_for size.vertices R H₁) s (check-told e) h true refl refl r i l q ∙ over

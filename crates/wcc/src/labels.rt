@@ -23,17 +23,17 @@ fn take_over(heads: &[usize], res: &mut [i64])
     requires { (Within (length res.old) (noted heads.now)) × (length heads.now ≡ length res.old) }
     ensures { res.new ≡ taken_over (noted heads.now) (length res.old) res.old }
 {
-    for (v, head) in heads.iter().enumerate() {
-        res[v] = res[*head];
+    for (v, h) in heads.iter().enumerate() {
+        res[v] = res[*h];
     }
 }
 
 // The labels of n vertices. `res` holds the book until every vertex's head is noted in `heads`, which keeps them.
-pub(crate) fn label(n: usize, out: Way, ids: &[i64], res: &mut [i64], heads: &mut [usize])
-    requires { Fitting n (part_of n out.offsets.now out.targets.now) ids.now res.old heads.old }
-    ensures { res.new ≡ labels n (part_of n out.entry.offsets.now out.entry.targets.now) ids.now }
+pub(crate) fn label(n: usize, way: Way, ids: &[i64], res: &mut [i64], heads: &mut [usize])
+    requires { Fitting n (part_of n way.offsets.now way.targets.now) ids.now res.old heads.old }
+    ensures { res.new ≡ labels n (part_of n way.entry.offsets.now way.entry.targets.now) ids.now }
 {
-    find_heads(n, out, res, heads);
+    find_heads(n, way, res, heads);
     mark(heads, ids, res);
     take_over(heads, res);
 }

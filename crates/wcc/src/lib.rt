@@ -1,4 +1,4 @@
-// Layer kernels. WCC: weakly connected components, on the group book.
+// Layer kernels. WCC: weakly connected components (Graphalytics 1.0.4, 2.3.3), on the group book.
 #![tactic(auto)]
 
 mod groups;
@@ -39,12 +39,16 @@ fn refuse(number: usize, res: &mut [i64], heads: &mut [usize]) -> Result<(), Ref
 
 // The labels, in the first places of areas that have room for them.
 fn fill(g: Lent, res: &mut [i64], heads: &mut [usize]) -> Result<(), Refusal>
-    requires { Ready (standing g) res.old heads.old }
+    requires { Ready
+        (standing g)
+        res.old heads.old }
     ensures { outcome (says result) res.new heads.new
-        ≡ left_by (gives tt) (standing g.entry) res.old heads.old }
+        ≡ left_by (gives tt)
+        (standing g.entry)
+        res.old heads.old }
 {
-    let n = g.size.vertices;
     clear(res);
+    let n = g.size.vertices;
     label(n, g.outward, &g.ids[..n], &mut res[..n], &mut heads[..n]);
     clear(heads);
     Ok(())
@@ -54,7 +58,9 @@ fn fill(g: Lent, res: &mut [i64], heads: &mut [usize]) -> Result<(), Refusal>
 // working area, serves the check of the graph and then holds each vertex's head.
 pub fn wcc(g: Lent, res: &mut [i64], heads: &mut [usize]) -> Result<(), Refusal>
     ensures { outcome (says result) res.new heads.new
-        ≡ wcc_call (standing g.entry) res.old heads.old }
+        ≡ wcc_call
+        (standing g.entry)
+        res.old heads.old }
 {
     if !sound_over(g, heads) {
         return refuse(UNSOUND, res, heads);

@@ -14,11 +14,11 @@ returns-then-entries-a c =
 pub hang-requires : goal.hang-requires
 hang-requires c = search (rules, one-positive, one-within)
 
+pub hang-requires-else-goes_above : goal.hang-requires-else-goes_above
+hang-requires-else-goes_above c = search (rules, one-positive, one-within)
+
 pub returns-then-goes_above : goal.returns-then-goes_above
 returns-then-goes_above c = search one-above
 
-pub hang-requires-2 : goal.hang-requires-2
-hang-requires-2 c = search (rules, one-positive, one-within)
-
-pub returns : goal.returns
-returns c = search one_below
+pub returns-else-goes_above : goal.returns-else-goes_above
+returns-else-goes_above c = search one_below
