@@ -1,5 +1,5 @@
--- Laws of the whole: a load's two answers, and a check's. Assumes nothing.
-use Rattle.std.proofs.Common.{Result, Ok, Err, Bool, true, false, refl}
+-- Laws of the whole: the mode as a number, what a load gave, and where the sections of a checked sheet lie. Assumes nothing.
+use Rattle.std.proofs.Common.{Result, Ok, Bool, true, false, refl}
 use mir.Val.{bool_byte}
 use Prim.Native.Nat.{ℕ, ◌≤◌}
 use mathlib.Core.Path.{◌≡◌, sym, ap, ◌∙◌}
@@ -7,7 +7,7 @@ use mathlib.Core.List.{List}
 use native.Mathlib.Omega.{arith}
 use lib.IntN.{ℤ}
 use lib.ListN.{length}
-use Rattle.basis.specs.Refusal.{Said, gives, refuses, said}
+use Rattle.basis.specs.Refusal.{Said, gives, said}
 use Rattle.basis.specs.declared.refusal.Refusal.{Refusal}
 use Rattle.basis.specs.Limits.{desk_vertices}
 use Rattle.basis.proofs.Saids.{mapped-gives}
@@ -15,14 +15,10 @@ use Rattle.graph.specs.declared.Size.{Size}
 use Rattle.load.specs.Load.{Lists, Outcome, outcome, loaded, size_of, outcome_of, load_call, desk, desk_room}
 use Rattle.load.specs.Good.{GoodLoad}
 use Rattle.load.proofs.Accepts.{load-accepted}
-use Rattle.write.specs.Put.{written, put_at}
-use Rattle.write.proofs.Puts.{put_as}
 use Rattle.plan.specs.declared.sections.Plan.{Plan}
 use Rattle.plan.specs.Sheet.{sheet_check}
 use Rattle.plan.proofs.Places.{accepted}
-use Rattle.listing.specs.Listing.{refused_text}
-use Rattle.sheet.specs.Jobs.{jobs_text}
-use Rattle.sheet.specs.Desk.{mode_number, lines_in, load_of, graph_in, load_text, plan_text, checked_text, desk_output}
+use Rattle.sheet.specs.Desk.{mode_number, lines_in, load_of}
 use Rattle.sheet.specs.Steps.{Placed}
 
 -- ---- the mode, as the library makes a number of it
@@ -49,23 +45,6 @@ few-vertices s p x size u e =
     let q : size.vertices ≡ length g.0.ids = ap (λ (z : Size). z.vertices) g.2 in
     omega (arith, (lists-good s p g.0 g.1).ids_fit)
 
--- ---- a load's answers
-module _ (s : List ℕ) (p : Plan) (x : Result Size Refusal) (ids : List ℤ) (oo ot io is : List ℕ)
-    (u : outcome (said x) ids oo ot io is ≡ load_of s p desk_room)
-    (o : List ℕ) (at : ℕ) (o' : List ℕ) (next : ℕ) where
-  load-text : load_text s p (outcome (said x) ids oo ot io is) (said x) ≡ plan_text s p
-  unfolding plan_text
-  load-text = ap (λ (c : Outcome). load_text s p c c.answer) u
-
-  pub load-refused : (r : Refusal) → x ≡ Err r → written o' next ≡ put_at o at (refused_text r)
-      → written o' next ≡ put_at o at (plan_text s p)
-  load-refused r e w = put_as o at _ w _ (ap (λ y. load_text s p (outcome (said x) ids oo ot io is) (said y)) (sym e) ∙ load-text)
-
-  pub load-good : (size : Size) → x ≡ Ok size
-      → written o' next ≡ put_at o at (jobs_text (graph_in size ids oo ot io is) s p.jobs.count p.jobs.from)
-      → written o' next ≡ put_at o at (plan_text s p)
-  load-good size e w = put_as o at _ w _ (ap (λ y. load_text s p (outcome (said x) ids oo ot io is) (said y)) (sym e) ∙ load-text)
-
 -- ---- a check's answers
 pub placed : (s : List ℕ) (p : Plan) → gives p ≡ sheet_check s → Placed s p
 placed s p u =
@@ -76,14 +55,3 @@ placed s p u =
       edges-rise = a.edges.rise;
       edges-in = a.edges.inside;
     }
-
-module _ (s : List ℕ) (o : List ℕ) (at : ℕ) (o' : List ℕ) (next : ℕ) where
-  pub answer-refused : (r : Refusal) → refuses r ≡ sheet_check s → written o' next ≡ put_at o at (refused_text r)
-      → written o' next ≡ put_at o at (desk_output s)
-  unfolding desk_output
-  answer-refused r u w = put_as o at _ w _ (ap (checked_text s) u)
-
-  pub answer-good : (p : Plan) → gives p ≡ sheet_check s → written o' next ≡ put_at o at (plan_text s p)
-      → written o' next ≡ put_at o at (desk_output s)
-  unfolding desk_output
-  answer-good p u w = put_as o at _ w _ (ap (checked_text s) u)

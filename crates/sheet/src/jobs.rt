@@ -58,6 +58,7 @@ fn bfs_job(g: Lent, root: i64, line: &[u8], out: &mut [u8], at: usize) -> usize
 }
 
 // What a WCC job prints.
+#[tactic(auto, unfolding(crate::specs::Jobs::wcc_text))]
 fn wcc_job(g: Lent, line: &[u8], out: &mut [u8], at: usize) -> usize
     ensures { written out.new result ≡ put_at out.old at (wcc_text (standing g.entry) line.now) }
 {
@@ -101,6 +102,7 @@ fn cdlp_job(g: Lent, iterations: i64, line: &[u8], out: &mut [u8], at: usize) ->
 }
 
 // What an LCC job prints.
+#[tactic(auto, unfolding(crate::specs::Jobs::lcc_text))]
 fn lcc_job(g: Lent, line: &[u8], out: &mut [u8], at: usize) -> usize
     ensures { written out.new result ≡ put_at out.old at (lcc_text (standing g.entry) line.now) }
 {

@@ -53,6 +53,7 @@ fn load_sections(
 }
 
 // What an accepted sheet prints: its load's refusal, or its jobs' lines.
+#[tactic(auto, unfolding(crate::specs::Desk::plan_text))]
 fn print_plan(s: &[u8], plan: Plan, out: &mut [u8]) -> usize
     requires { Placed s.now plan }
     ensures { written out.new result ≡ put_at out.old 0 (plan_text s.now plan) }
@@ -92,6 +93,7 @@ fn print_plan(s: &[u8], plan: Plan, out: &mut [u8]) -> usize
 }
 
 // What the desk program prints for a sheet; the number of bytes.
+#[tactic(auto, unfolding(crate::specs::Desk::desk_output))]
 pub fn answer(s: &[u8], out: &mut [u8]) -> usize
     ensures { written out.new result ≡ put_at out.old 0 (desk_output s.now) }
 {

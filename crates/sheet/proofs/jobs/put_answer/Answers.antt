@@ -1,8 +1,5 @@
-use Rattle.sheet.proofs.Ran.{ran-refused, ran-done}
+use Rattle.sheet.proofs.Ran.{ran-done}
 use Rattle.sheet.proofs.jobs.put_answer.Goals as goal
-
-pub returns-in-Err : goal.returns-in-Err
-returns-in-Err g c = λ text h. search ran-refused
 
 pub returns-in-Ok : goal.returns-in-Ok
 returns-in-Ok g c = λ text h. ran-done _ _ _ _ _ _ _ c.in-Ok.is c.put_head-next.ensures (h _ _ _ _ c.lines.ensures)
