@@ -12,10 +12,8 @@ use lib.ListN.{length, get_or}
 use lib.Dec.{ltb}
 use lib.Signed.{lt_z}
 use borrow.Author.Tests.{lt-ltb, le-ltb, ltb-true, eqb-true}
-use Rattle.std.specs.Ordering.{is_lt, ordering_reverse, nat_cmp, int_cmp}
-use Rattle.std.specs.declared.cmp.Ordering.{Ordering}
+use Rattle.std.specs.Ordering.{is_lt, partial_lt, nat_cmp, int_cmp}
 use Rattle.std.specs.declared.cmp.Ordering.TheVariants.{Less, Equal, Greater}
-use Rattle.std.specs.Cmp.{IsTotalOrder}
 use Rattle.std.specs.Prelude.{nat_lt, int_lt, ◌==◌}
 use Rattle.std.proofs.lemmas.List.{get_or_default}
 use Rattle.basis.specs.Order.{same_z, rising_by, rising_z}
@@ -24,7 +22,7 @@ use Rattle.basis.proofs.Tests.{clash, no-case, bool_cases}
 use Rattle.basis.proofs.Saids.{refused-given, given-one}
 use Rattle.basis.proofs.Orders.{Order, less-trans, rising-less, same-places, signed-order}
 use Rattle.std.specs.Prelude.{Option, Some, None}
-use Rattle.graph.specs.Find.{place_from, place_in, found_says, below, bisect, bisect_by, bisected, StandsAt, Searched}
+use Rattle.graph.specs.Find.{place_from, place_in, found_says, bisect, bisect_by, bisected, StandsAt, Searched}
 
 -- ---- one turn
 module _ {A : Type 0} (less : A → A → Bool) (z : A) (l : List A) (x : A) where
@@ -89,24 +87,10 @@ module _ {A : Type 0} {less : A → A → Bool} {z : A} {l : List A} {x : A} {lo
         left (Some (low + (high - low) / 2) ≡ bisect_by less z l x)
         (λ k a s. sym (bisect-here less z l x k low high g (rw e at t) (rw e at u)) ∙ s)
 
--- ---- the same by an order: what a turn finds in the middle
-module _ {A : Type 0} {order : A → A → Ordering} {z : A} {l : List A} {x : A} {low high : ℕ} (t : IsTotalOrder order)
-    (k : high ≤ length l) (h : Halving (below order) z l x low high) (g : low < high) (y d : A) (e : y ≡ get_or l (low + (high - low) / 2) d) (o : Ordering)
-    (f : o ≡ order y x) where
-  there : y ≡ get_or l (low + (high - low) / 2) z
-  there = e ∙ get_or_default l (low + (high - low) / 2) d z (omega arith)
-
-  turned : below order x y ≡ is_lt (ordering_reverse o)
-  turned = ap is_lt (t.antisymm x y ∙ ap ordering_reverse (sym f))
-
-  pub order-up : o ≡ Less → Halving (below order) z l x (low + (high - low) / 2 + 1) high
-  order-up s = halving-up h g y there (ap is_lt (sym f ∙ s))
-
-  pub order-down : o ≡ Greater → Halving (below order) z l x low (low + (high - low) / 2)
-  order-down s = halving-down h g y there (ap is_lt (sym f ∙ s)) (turned ∙ ap (λ (o : Ordering). is_lt (ordering_reverse o)) s)
-
-  pub order-here : o ≡ Equal → Some (low + (high - low) / 2) ≡ bisect_by (below order) z l x
-  order-here s = halving-here h g y there (ap is_lt (sym f ∙ s)) (turned ∙ ap (λ (o : Ordering). is_lt (ordering_reverse o)) s)
+-- the middle of a turn stands in the list, whatever is read past its end
+pub in-middle : {A : Type 0} (z d : A) (l : List A) (low high : ℕ) → high ≤ length l → low < high → (y : A)
+    → y ≡ get_or l (low + (high - low) / 2) d → y ≡ get_or l (low + (high - low) / 2) z
+in-middle z d l low high k g y e = e ∙ get_or_default l (low + (high - low) / 2) d z (omega arith)
 
 -- ---- a bisection asks only of places in the list: another test that answers the same, and another value past the end, change nothing
 module _ {A : Type 0} (less more : A → A → Bool) (same : (a b : A) → less a b ≡ more a b) (y z : A) (l : List A) (x : A) where
@@ -133,6 +117,12 @@ module _ {A : Type 0} (less more : A → A → Bool) (same : (a b : A) → less 
       ]
 
 -- whole numbers and signed ones by their order, as the definitions bisect them
+abbrev pub below_n : ℕ → ℕ → Bool
+below_n = partial_lt (λ a b. Some (nat_cmp a b))
+
+abbrev pub below-z : ℤ → ℤ → Bool
+below-z = partial_lt (λ a b. Some (int_cmp a b))
+
 first_test : (s t : Bool) → is_lt (cond s Less (cond t Equal Greater)) ≡ s
 first_test true t = refl
 first_test false true = refl
@@ -143,12 +133,12 @@ first-signed true t = refl
 first-signed false true = refl
 first-signed false false = refl
 
-pub bisect-numbers : (l : List ℕ) (x : ℕ) → bisect_by (below nat_cmp) x l x ≡ bisect_by ltb 0 l x
-bisect-numbers l x = bisect-same (below nat_cmp) ltb (λ a b. first_test (nat_lt a b) (a == b)) x 0 l x (length l) 0 (length l) (omega arith)
+pub bisect-numbers : (l : List ℕ) (x : ℕ) → bisect_by below_n x l x ≡ bisect_by ltb 0 l x
+bisect-numbers l x = bisect-same below_n ltb (λ a b. first_test (nat_lt a b) (a == b)) x 0 l x (length l) 0 (length l) (omega arith)
 
-pub bisect-signed : (l : List ℤ) (x : ℤ) → bisect_by (below int_cmp) x l x ≡ bisected l x
+pub bisect-signed : (l : List ℤ) (x : ℤ) → bisect_by below-z x l x ≡ bisected l x
 bisect-signed l x =
-    bisect-same (below int_cmp) lt_z (λ a b. first-signed (int_lt a b) (int_lt b a)) x (pos 0) l x (length l) 0 (length l) (omega arith)
+    bisect-same below-z lt_z (λ a b. first-signed (int_lt a b) (int_lt b a)) x (pos 0) l x (length l) 0 (length l) (omega arith)
 
 -- ---- what a search must answer: a place that holds x, or that no place does
 module _ {A : Type 0} (z : A) (l : List A) (x : A) where

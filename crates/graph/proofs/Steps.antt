@@ -19,16 +19,15 @@ use Rattle.basis.proofs.Scans.{every-at, mem_index, mem-none}
 use Rattle.basis.proofs.Orders.{number-order}
 use Rattle.graph.specs.declared.Size.{Size}
 use Rattle.std.specs.Prelude.{Option, Some, None, is_some}
-use Rattle.std.specs.Ordering.{nat_cmp}
 use Rattle.graph.specs.Part.{part_of}
-use Rattle.graph.specs.Find.{below, bisect_by}
+use Rattle.graph.specs.Find.{bisect_by}
 use Rattle.graph.specs.Sound.{Graph, outward, inward, lent, first_ids_rise, sound_ids, other, never_fall, sound_offsets}
 use Rattle.graph.specs.Sound.{sound_part, sound_parts, sound_side, mirrored, both_ways, sound_sides, sound_graph}
 use Rattle.graph.specs.Steps.{answered}
 use Rattle.graph.specs.Walk.{Ways}
 use Rattle.graph.proofs.Parts.{part-far}
 use Rattle.graph.proofs.Sounds.{part-rises}
-use Rattle.graph.proofs.Finds.{Right, bisect-finds, bisect-numbers}
+use Rattle.graph.proofs.Finds.{Right, bisect-finds, below_n, bisect-numbers}
 
 -- the list rises, from a least number on
 abbrev starts_at : ℕ → List ℕ → Bool
@@ -144,7 +143,7 @@ parts-rise n off tgt s v =
 
 -- u is one of w's part exactly where the bisection of that part ends at a place
 pub found_member : (n : ℕ) (off tgt : List ℕ) (u : ℕ) → sound_parts n off tgt ≡ true → (w : ℕ) (l : List ℕ) → l ≡ part_of n off tgt w
-    → (r : Option ℕ) → r ≡ bisect_by (below nat_cmp) u l u → is_some r ≡ mem u (part_of n off tgt w)
+    → (r : Option ℕ) → r ≡ bisect_by below_n u l u → is_some r ≡ mem u (part_of n off tgt w)
 found_member n off tgt u s w l q r e =
     ap is_some (e ∙ bisect-numbers l u) ∙ finds-member l u (rw q (parts-rise n off tgt s w)) ∙ ap (mem u) q
 

@@ -23,9 +23,8 @@ use Rattle.basis.proofs.Orders.{number-order, rising-lt}
 use Rattle.basis.proofs.Areas.{copied-length, copied_at}
 use Rattle.graph.specs.declared.Size.{Size}
 use Rattle.std.specs.Prelude.{Option, Some, None}
-use Rattle.std.specs.Ordering.{nat_cmp}
 use Rattle.graph.specs.Part.{part_of}
-use Rattle.graph.specs.Find.{below, bisect_by}
+use Rattle.graph.specs.Find.{bisect_by}
 use Rattle.graph.specs.Sound.{Graph, lent, sound_part, mirrored, sound_graph, Side, Sound}
 use Rattle.graph.specs.Walk.{Ways, arcs_checked}
 use Rattle.graph.specs.Weights.{Weighted, weighing, counts_weighted, is_weighted, Leg, legs, legs_of, out_legs, in_legs, has_leg}
@@ -34,7 +33,7 @@ use Rattle.graph.specs.Weights.{Beside}
 use Rattle.graph.proofs.Parts.{part-far, part-whole}
 use Rattle.std.specs.List.{list_all, zip}
 use Rattle.graph.proofs.Runs.{all-each}
-use Rattle.graph.proofs.Finds.{Right, bisect-finds, bisect-numbers}
+use Rattle.graph.proofs.Finds.{Right, bisect-finds, below_n, bisect-numbers}
 use Rattle.graph.proofs.Sounds.{side-of, side-from, sound-of, sound-from, part-rises, offset-le, offset-most, mirrored-at}
 use Rattle.graph.proofs.Walks.{or-none, Cursors, out_below, walk_none, walk-on, walk_more, cursor-at}
 use Rattle.graph.proofs.Walks.{check-told, check-area, checks-late}
@@ -207,7 +206,7 @@ module _ {n m : ℕ} {oo ot io is ow iw : List ℕ} (b : Beside n m oo ot io is 
       (λ u l. answered-of (legs_of n io is iw) u (out u) (cost u) (out-long u) (λ i h. f u i l h)))
 
   -- ---- the search for an arc from u among those that lead to w, which are A and weigh B
-  module _ (u w : ℕ) (A B : List ℕ) (p : A ≡ into w) (q : B ≡ paid w) (f : Option ℕ) (e : f ≡ bisect_by (below nat_cmp) u A u) where
+  module _ (u w : ℕ) (A B : List ℕ) (p : A ≡ into w) (q : B ≡ paid w) (f : Option ℕ) (e : f ≡ bisect_by below_n u A u) where
     leg-rises : rising A ≡ true
     leg-rises = rw p (ends-rise in_side w)
 

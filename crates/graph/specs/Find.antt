@@ -1,8 +1,6 @@
 -- Where an identifier stands in a list.
 use Rattle.std.specs.Prelude.{ℕ, zero, suc, ◌+◌, ◌-◌, ◌/◌, ◌<◌, ◌≡◌, ◌↔◌, Bool, true, false, List, [], ◌∷◌, ℤ, pos, length, get_or, ltb}
 use Rattle.std.specs.Int.Signed.{lt_z}
-use Rattle.std.specs.Ordering.{is_lt}
-use Rattle.std.specs.declared.cmp.Ordering.{Ordering}
 use Rattle.basis.specs.Refusal.{Said, gives, refuses, plain, not_there}
 use Rattle.basis.specs.Order.{same_z, rising_z}
 use Rattle.std.specs.Prelude.{Option, Some, None}
@@ -25,10 +23,6 @@ found_says None = refuses (plain not_there)
 abbrev pub is_there : Option ℕ → Bool
 is_there (Some i) = true
 is_there None = false
-
--- the first of two is below the second, by their order
-abbrev pub below : {A : Type 0} → (A → A → Ordering) → A → A → Bool
-below order a b = is_lt (order a b)
 
 module _ {A : Type 0} (less : A → A → Bool) (z : A) (l : List A) (x : A) where
   -- a bisection for x of the places from low up to high, of at most so many turns: the middle, or the half that is left of it
