@@ -70,7 +70,8 @@ ends-equal n off cursors a b =
     ap (λ (k : ℕ). pointwise nat_eq (take n cursors) (take k (drop 1 off))) (omega arith)
     ∙ same_test (pointwise nat_eq (take n cursors) (take n (drop 1 off))) (at_ends n off cursors)
     (λ h. every_of (λ w. eqb (get_or cursors w 0) (get_or off (w + 1) 0)) n
-    (λ i g. rw (here i g, there i g) at (pairs-at (take n cursors) (take n (drop 1 off)) h i (let e = length-take n cursors in omega arith))))
+    (λ i g. rw (here i g, there i g) at
+    (pairs-at (take n cursors) (take n (drop 1 off)) h i (let e = length-take n cursors in omega arith))))
     (λ h. pairs-of (take n cursors) (take n (drop 1 off)) (long ∙ sym back)
     (λ i g. let e = long in
     rw (here i (omega arith), there i (omega arith))
@@ -99,7 +100,8 @@ module _ (n : ℕ) (off : List ℕ) (l : n < length off) where
       ≡ leb (get_or off i 0) (get_or off (i + 1) 0)
   at_place i g =
       rw (get_or-take (n + 1) off i 0 (omega arith), get_or-take (n + 1) off (i + 1) 0 (omega arith))
-      (le_test (get_or off i 0) (get_or off (i + 1) 0) (nat_cmp (get_or off i 0) (get_or off (i + 1) 0)) (ranks (get_or off i 0) (get_or off (i + 1) 0)))
+      (le_test (get_or off i 0) (get_or off (i + 1) 0) (nat_cmp (get_or off i 0) (get_or off (i + 1) 0))
+      (ranks (get_or off i 0) (get_or off (i + 1) 0)))
 
   pub falls-sorted : (r : Bool) → IsAllAdjacentAnswer (λ x y b. is_le (nat_cmp x y) ≡ b) (take (n + 1) off) r → r ≡ never_fall n off
   falls-sorted true h =

@@ -230,7 +230,8 @@ module _ {n m : ℕ} {oo ot io is ow iw : List ℕ} (b : Beside n m oo ot io is 
 
 pub answered-is : (back : ℕ → List Leg) (u : ℕ) (ws cs : List ℕ)
     → list_all (λ (a : Leg). has_leg u a.1 (back a.0)) (zip ws cs) ≡ legs_answered back u (legs ws cs)
-answered-is back u ws cs = ap (list_all (λ (a : Leg). has_leg u a.1 (back a.0))) (legs-zip ws cs) ∙ all-each (λ (a : Leg). has_leg u a.1 (back a.0)) (legs ws cs)
+answered-is back u ws cs = ap (list_all (λ (a : Leg). has_leg u a.1 (back a.0))) (legs-zip ws cs)
+    ∙ all-each (λ (a : Leg). has_leg u a.1 (back a.0)) (legs ws cs)
 
 -- ---- the arcs of every vertex
 module _ (n : ℕ) (from back : ℕ → List Leg) where

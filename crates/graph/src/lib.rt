@@ -1,5 +1,5 @@
-// Layer graph. A lent graph: its size by value, its identifiers, and its arcs each way, with weights beside them where it has them. Vertices
-// are numbers from 0; a vertex's part of a way's targets holds its neighbours.
+// Layer graph. A lent graph: its size by value, its identifiers, and its arcs each way, with weights beside them where it has them.
+// Vertices are numbers from 0; a vertex's part of a way's targets holds its neighbours.
 #![tactic(auto)]
 
 pub mod find;

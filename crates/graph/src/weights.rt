@@ -3,8 +3,8 @@ ghost use Rattle.std.specs.Prelude.{◌≡◌, true, ◌≤◌, length};
 ghost use Rattle.basis.specs.Area.{cleared};
 ghost use Rattle.graph.specs.Sound.{standing, sound_graph};
 ghost use Rattle.graph.specs.Walk.{arcs_checked};
-ghost use Rattle.graph.specs.Weights.{weighing_of, counts_weighted, legs, out_legs, in_legs, has_leg, legs_answered, legs_mirrored, all_light};
-ghost use Rattle.graph.specs.Weights.{sound_weights, sound_weighted, HasBeside};
+ghost use Rattle.graph.specs.Weights.{weighing_of, counts_weighted, out_legs, in_legs, has_leg, legs_answered, legs_mirrored};
+ghost use Rattle.graph.specs.Weights.{all_light, sound_weights, sound_weighted, HasBeside};
 
 use crate::find::bisect;
 use crate::part::part;
