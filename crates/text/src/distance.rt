@@ -79,12 +79,13 @@ fn reached_at(s: &[u8], at: usize) -> Result<Scan<Option<(i64, Distance)>>, usiz
 
 impl Cursor {
     // The claim line at this place, for SSSP.
-    pub fn distance_claim(&mut self, s: &[u8]) -> Option<Result<(i64, Distance), Fault>>
-        ensures { distance_says self.new result ≡ distance_line s.now self.old.at }
+    pub fn distance_claim(self, s: &[u8]) -> (Option<Result<(i64, Distance), Fault>>, Cursor)
+        ensures { distance_says result.1 result.0 ≡ distance_line s.now self.at }
     {
         if s.len() <= self.at {
-            return None;
+            return (None, self);
         }
-        Some(self.line(reached_at(s, self.at)))
+        let (line, next) = self.line(reached_at(s, self.at));
+        (Some(line), next)
     }
 }

@@ -78,64 +78,73 @@ fn coefficient_at(s: &[u8], at: usize) -> Result<Scan<Option<(i64, Decimal)>>, u
 }
 
 impl Cursor {
-    // The line at this place, of what was scanned of it. A good line moves the place past it.
-    pub(crate) fn line<T>(&mut self, scan: Result<Scan<Option<T>>, usize>) -> Result<T, Fault>
-        requires { Behind self.now.at (scan_says scan).next }
-        ensures { reader_says self.new (Some result) ≡ line_of self.old.at (scan_says scan) }
+    // The line at this place, of what was scanned of it, and the cursor past it; or its fault, and the cursor as it was.
+    pub(crate) fn line<T>(self, scan: Result<Scan<Option<T>>, usize>) -> (Result<T, Fault>, Cursor)
+        requires { Behind self.at (scan_says scan).next }
+        ensures { reader_says result.1 (Some result.0) ≡ line_of self.at (scan_says scan) }
     {
         match scan {
-            Err(p) => Err(Fault {
-                number: BAD_FORM,
-                column: column(self.at, p),
-            }),
+            Err(p) => {
+                let column = column(self.at, p);
+                (
+                    Err(Fault {
+                        number: BAD_FORM,
+                        column,
+                    }),
+                    self,
+                )
+            }
             Ok(Scan { value, next }) => match value {
-                None => Err(Fault {
-                    number: OUT_OF_RANGE,
-                    column: 0,
-                }),
-                Some(v) => {
-                    self.at = next;
-                    Ok(v)
-                }
+                None => (
+                    Err(Fault {
+                        number: OUT_OF_RANGE,
+                        column: 0,
+                    }),
+                    self,
+                ),
+                Some(v) => (Ok(v), Cursor { at: next }),
             },
         }
     }
 
     // The vertex line at this place.
-    pub fn vertex(&mut self, s: &[u8]) -> Option<Result<i64, Fault>>
-        ensures { vertex_says self.new result ≡ vertex_line s.now self.old.at }
+    pub fn vertex(self, s: &[u8]) -> (Option<Result<i64, Fault>>, Cursor)
+        ensures { vertex_says result.1 result.0 ≡ vertex_line s.now self.at }
     {
         if s.len() <= self.at {
-            return None;
+            return (None, self);
         }
-        Some(self.line(field(s, self.at, LF)))
+        let (line, next) = self.line(field(s, self.at, LF));
+        (Some(line), next)
     }
 
     // The edge line at this place.
-    pub fn edge(&mut self, s: &[u8]) -> Option<Result<(i64, i64), Fault>>
-        ensures { edge_says self.new result ≡ edge_line s.now self.old.at }
+    pub fn edge(self, s: &[u8]) -> (Option<Result<(i64, i64), Fault>>, Cursor)
+        ensures { edge_says result.1 result.0 ≡ edge_line s.now self.at }
     {
         if s.len() <= self.at {
-            return None;
+            return (None, self);
         }
-        Some(self.line(edge_at(s, self.at)))
+        let (line, next) = self.line(edge_at(s, self.at));
+        (Some(line), next)
     }
 
     // The claim line at this place, for BFS, WCC and CDLP: it has an edge line's form.
-    pub fn claim(&mut self, s: &[u8]) -> Option<Result<(i64, i64), Fault>>
-        ensures { edge_says self.new result ≡ claim_line s.now self.old.at }
+    pub fn claim(self, s: &[u8]) -> (Option<Result<(i64, i64), Fault>>, Cursor)
+        ensures { edge_says result.1 result.0 ≡ claim_line s.now self.at }
     {
         self.edge(s)
     }
 
     // The claim line at this place, for LCC.
-    pub fn coefficient_claim(&mut self, s: &[u8]) -> Option<Result<(i64, Decimal), Fault>>
-        ensures { coefficient_says self.new result ≡ coefficient_line s.now self.old.at }
+    pub fn coefficient_claim(self, s: &[u8]) -> (Option<Result<(i64, Decimal), Fault>>, Cursor)
+        ensures { coefficient_says result.1 result.0 ≡ coefficient_line s.now self.at }
     {
         if s.len() <= self.at {
-            return None;
+            return (None, self);
         }
-        Some(self.line(coefficient_at(s, self.at)))
+        let (line, next) = self.line(coefficient_at(s, self.at));
+        (Some(line), next)
     }
 }
 
@@ -143,9 +152,12 @@ impl Cursor {
 pub fn has_weights(s: &[u8]) -> bool
     ensures { result ≡ has_weights s.now }
 {
-    match (Cursor { at: 0 }).edge(s) {
-        Some(Err(fault)) => fault.number == BAD_FORM,
-        Some(Ok(_)) => false,
+    let (line, _) = Cursor { at: 0 }.edge(s);
+    match line {
         None => false,
+        Some(read) => match read {
+            Err(fault) => fault.number == BAD_FORM,
+            Ok(_) => false,
+        },
     }
 }

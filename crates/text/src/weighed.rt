@@ -35,33 +35,40 @@ fn weighed_at(s: &[u8], at: usize) -> Result<Scan<Option<(i64, (i64, usize))>>, 
 
 impl Cursor {
     // The edge line with a weight at this place.
-    fn weighed_edge(&mut self, s: &[u8]) -> Option<Result<(i64, (i64, usize)), Fault>>
-        ensures { reader_says self.new result ≡ weighed_line s.now self.old.at }
+    fn weighed_edge(self, s: &[u8]) -> (Option<Result<(i64, (i64, usize)), Fault>>, Cursor)
+        ensures { reader_says result.1 result.0 ≡ weighed_line s.now self.at }
     {
         if s.len() <= self.at {
-            return None;
+            return (None, self);
         }
-        Some(self.line(weighed_at(s, self.at)))
+        let (line, next) = self.line(weighed_at(s, self.at));
+        (Some(line), next)
     }
 
     // The edge line at this place in a file that has weights or has none: then its weight is 0.
     // Stays: that 0 is what `Weighed.plain_form` says of such a line.
     pub fn listed_edge(
-        &mut self,
+        self,
         s: &[u8],
         weighted: bool,
-    ) -> Option<Result<(i64, i64, usize), Fault>>
-        ensures { weighed_says self.new result ≡ listed_line weighted s.now self.old.at }
+    ) -> (Option<Result<(i64, i64, usize), Fault>>, Cursor)
+        ensures { weighed_says result.1 result.0 ≡ listed_line weighted s.now self.at }
     {
         if weighted {
-            return match self.weighed_edge(s)? {
-                Err(fault) => Some(Err(fault)),
-                Ok((u, (v, weight))) => Some(Ok((u, v, weight))),
+            let (line, next) = self.weighed_edge(s);
+            return match line {
+                None => (None, next),
+                Some(Err(fault)) => (Some(Err(fault)), next),
+                Some(Ok((u, (v, weight)))) => (Some(Ok((u, v, weight))), next),
             };
         }
-        match self.edge(s)? {
-            Err(fault) => Some(Err(fault)),
-            Ok((u, v)) => Some(Ok((u, v, 0))),
+        let (line, next) = self.edge(s);
+        match line {
+            None => (None, next),
+            Some(read) => match read {
+                Err(fault) => (Some(Err(fault)), next),
+                Ok((u, v)) => (Some(Ok((u, v, 0))), next),
+            },
         }
     }
 }

@@ -6,8 +6,8 @@ use Rattle.text.proofs.line.Cursor.edge.Goals as goal
 pub returns-then-s-self : goal.returns-then-s-self
 returns-then-s-self c = search line-end
 
-pub line-requires : goal.line-requires
-line-requires c = search edge-behind
+pub line-line-requires : goal.line-line-requires
+line-line-requires c = search edge-behind
 
 pub returns : goal.returns
 returns c = search edge-read
