@@ -26,12 +26,12 @@ fn shown<T: Drop>(rt: &impl Print, line: Option<Result<T, Fault>>) -> io::Result
 
 // The line of a kind.
 fn read_line(rt: &impl Print, line: &[u8], kind: u8) -> io::Result<()> {
-    let mut place = Cursor { at: 0 };
+    let place = Cursor { at: 0 };
     match kind {
-        b'v' => shown(rt, place.vertex(line)),
-        b'e' => shown(rt, place.edge(line)),
-        b'c' => shown(rt, place.claim(line)),
-        _ => shown(rt, place.coefficient_claim(line)),
+        b'v' => shown(rt, place.vertex(line).0),
+        b'e' => shown(rt, place.edge(line).0),
+        b'c' => shown(rt, place.claim(line).0),
+        _ => shown(rt, place.coefficient_claim(line).0),
     }
 }
 

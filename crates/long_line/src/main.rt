@@ -20,8 +20,8 @@ fn nines() -> [u8; DIGITS + 1]
 fn main(rt: HostRuntime) -> io::Result<()> {
     let mut s = nines();
     s[DIGITS] = LF;
-    let mut place = Cursor { at: 0 };
-    let n = match place.vertex(&s) {
+    let (line, place) = Cursor { at: 0 }.vertex(&s);
+    let n = match line {
         None => 0,
         Some(Err(fault)) => fault.number,
         Some(Ok(_)) => 1,
