@@ -107,7 +107,11 @@ module _ (n : ℕ) (w : View) (js : List Slip) (m : ℕ) (S : Sound n w js m) wh
 -- ---- a join
 
 above-true : (a b g h : ℕ) → above a b g h ≡ true → b ≤ a
-above-true a b g h e = elim (dec_lt a b) [ yes l ↦ clash e (sym (above-smaller a b g h (omega arith) (λ e. omega arith))) | no l ↦ omega arith ]
+above-true a b g h e =
+    elim (dec_lt a b) [
+      | yes l ↦ clash e (sym (above-smaller a b g h (omega arith) (λ q. omega arith)))
+      | no l ↦ omega arith
+    ]
 
 above-false : (a b g h : ℕ) → above a b g h ≡ false → a ≤ b
 above-false a b g h e = elim (dec_lt b a) [ yes l ↦ clash (sym (above-larger a b g h l)) e | no l ↦ omega arith ]

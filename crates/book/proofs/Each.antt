@@ -56,7 +56,8 @@ module _ (xs : List ℤ) (u : ℕ) (t : Bool) (e : t ≡ leb (length xs) most_ve
     unfolding one
     each-missing f l p = each-lost one_book xs u x (λ w. join-lost one_book xs u w x (heads-missing (one xs) u w t e x f l p)) ws k
 
-  pub walking_start : (at : Result Head Refusal) → t ≡ true → u < length xs → says_headed at ≡ walk_from (next_here xs) (length xs) u → Walking xs u at
+  pub walking_start : (at : Result Head Refusal) → t ≡ true → u < length xs → says_headed at ≡ walk_from (next_here xs) (length xs) u
+      → Walking xs u at
   walking_start at f l p = record { lent = lent-within (length xs) t e f; inside = l; walk = p }
 
 -- a list that is not empty, by the test for it
@@ -106,7 +107,8 @@ module _ (a : EachOutcome (List ℤ)) (b : List ℤ) (u : ℕ) (ws : List ℕ) (
         → behind i m (and_on s c (join_each one_book c u (drop (i + 1) ws))) ≡ a
     unfolding join_each
     turned s e =
-        rw add-one (ap (λ (d : Outcome Joining (List ℤ)). behind i m (and_on d.said d.area (join_each one_book d.area u (drop (suc i) ws)))) e
+        rw add-one
+        (ap (λ (d : Outcome Joining (List ℤ)). behind i m (and_on d.said d.area (join_each one_book d.area u (drop (suc i) ws)))) e
         ∙ ap (λ (x : List ℕ). behind i m (join_each one_book b u x)) (sym (drop-cons ws i 0 l)) ∙ f)
 
     pub each-merged : outcome (gives merged) c ≡ join_book one_book b u (get_or ws i 0)
@@ -186,7 +188,8 @@ module _ (xs : List ℤ) (u : ℕ) (at : Result Head Refusal) (x : Walking xs u 
         ended : gives (walk_end g k) ≡ walk_from (next_here xs) (length xs) u
         ended = sym (ap says_headed p) ∙ x.walk
 
-        pub next-lost2 : (r : Refusal) → refuses r ≡ walk_from (next_here xs) (length xs) w → outcome (refuses r) xs ≡ join_book one_book xs u w
+        pub next-lost2 : (r : Refusal) → refuses r ≡ walk_from (next_here xs) (length xs) w
+            → outcome (refuses r) xs ≡ join_book one_book xs u w
         unfolding one
         next-lost2 r q =
             join-lost one_book xs u w r (heads-walked (one xs) u w true lent (gives (walk_end g k)) (refuses r) refl x.inside l ended q)

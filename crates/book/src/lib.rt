@@ -38,8 +38,8 @@ fn well_lent(entries: &[i64]) -> bool
     entries.len() <= MOST_VERTICES
 }
 
-// The walk from `v` to its head, refused where it leaves the area or takes too many moves. It is inlined, since its answer of several values
-// would else go through memory.
+// The walk from `v` to its head, refused where it leaves the area or takes too many moves. It is inlined, since else its answer of several
+// values would go through memory.
 #[inline(always)]
 fn walk(entries: &[i64], v: usize) -> Result<Head, Refusal>
     requires { (v < length entries.now) × (length entries.now ≤ most_vertices) }

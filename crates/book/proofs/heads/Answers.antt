@@ -27,7 +27,8 @@ returns-in_err-first c =
     let p = err_from_is_err_and c.from_residual.result c.from_residual.ensures.1 in
     let w = c.well_lent in
     rw (p.1, p.2)
-    (heads-walked _ _ _ w.result w.ensures _ _ c.if-not-well_lent.false c.if-entries-u.false c.if-entries-v.false c.in_err-first.ensures refl)
+    (heads-walked _ _ _ w.result w.ensures _ _ c.if-not-well_lent.false c.if-entries-u.false c.if-entries-v.false c.in_err-first.ensures
+    refl)
 
 pub returns-in_err-second : goal.returns-in_err-second
 unfolding one
