@@ -57,7 +57,9 @@ fn power_below(size: usize) -> usize
     requires { (0 < size) × (size ≤ most_vertices) }
     ensures { result ≡ largest 16 size }
 {
-    size.ilog2() as usize
+    // Stays: by the leading zeros, the form that the rules name.
+    let zeros = (size as u64).leading_zeros();
+    (63 - zeros) as usize
 }
 
 // The largest k with 2 to the k at most the size of the group of `v`.
