@@ -1,6 +1,6 @@
 -- One outcome for every public call. `Reads.Learnt` is what Rattle tells a caller by the `ensures`; of a returned part it is the part's
 -- list that is promised, not where it lies. Assumes nothing.
-use mathlib.Core.Path.{◌≡◌, refl, sym, ap, ◌∙◌}
+use mathlib.Core.Path.{◌≡◌, refl, sym, ap, ap₂, ◌∙◌}
 use denote.RattleType.{RattleType}
 use denote.Param.Laws.{Laws, IsCopy}
 use mir.Syntax.{Dict}
@@ -260,21 +260,21 @@ basis-number_at-one = record {
 }
 
 -- of every type of numbers, with whatever the type brings
-module _ (T : RattleType) (L : Laws T) (I : IsCopy T) (C : Clone.Ghosts T.Denot) (c : Dict) where
-  pub basis-fill-one : One (basis-fill.ended T C c) (λ M 𝓤 𝓛. basis-fill.clauses T C c 𝓛)
-  basis-fill-one = record {
-    promise = basis-fill-reads.Learnt T L I C c;
-    told = refl;
-    one = λ _ _ _ _ _ _ p q. (refl, ap (λ l. l & tt & tt) (meet p q));
-  }
+pub basis-fill-one : (T : RattleType) → Laws T → IsCopy T → (C : Clone.Ghosts T.Denot) (c : Dict)
+    → One (basis-fill.ended T C c) (λ M 𝓤 𝓛. basis-fill.clauses T C c 𝓛)
+basis-fill-one T L I C c = record {
+  promise = basis-fill-reads.Learnt T L I C c;
+  told = refl;
+  one = λ _ _ _ _ _ _ p q. (refl, ap (λ l. l & tt & tt) (meet p q));
+}
 
-  module _ (Z : Zero.Ghosts T.Denot) (z : Dict) where
-    pub basis-clear-one : One (basis-clear.ended T Z z C c) (λ M 𝓤 𝓛. basis-clear.clauses T Z z C c 𝓛)
-    basis-clear-one = record {
-      promise = basis-clear-reads.Learnt T L I Z z C c;
-      told = refl;
-      one = λ _ _ _ _ _ _ p q. (refl, ap (λ l. l & tt) (meet p q));
-    }
+pub basis-clear-one : (T : RattleType) → Laws T → IsCopy T → (Z : Zero.Ghosts T.Denot) (z : Dict) (C : Clone.Ghosts T.Denot) (c : Dict)
+    → One (basis-clear.ended T Z z C c) (λ M 𝓤 𝓛. basis-clear.clauses T Z z C c 𝓛)
+basis-clear-one T L I Z z C c = record {
+  promise = basis-clear-reads.Learnt T L I Z z C c;
+  told = refl;
+  one = λ _ _ _ _ _ _ p q. (refl, ap (λ l. l & tt) (meet p q));
+}
 
 pub basis-copy-one : One basis-copy.ended (λ M 𝓤 𝓛. basis-copy.clauses 𝓛)
 basis-copy-one = record {
@@ -316,42 +316,42 @@ pub text-vertex-one : One text-vertex.ended (λ M 𝓤 𝓛. text-vertex.clauses
 text-vertex-one = record {
   promise = text-vertex-reads.Learnt;
   told = refl;
-  one = λ _ _ z z' _ _ p q. let h = reader-one _ _ z z' (meet p q) in (h.0, ap (λ k. k & tt & tt) h.1);
+  one = λ _ _ z z' _ _ p q. let h = reader-one _ _ z.0 z'.0 (meet p q) in (ap₂ (λ x k. (x, k)) h.0 h.1, refl);
 }
 
 pub text-edge-one : One text-edge.ended (λ M 𝓤 𝓛. text-edge.clauses 𝓛)
 text-edge-one = record {
   promise = text-edge-reads.Learnt;
   told = refl;
-  one = λ _ _ z z' _ _ p q. let h = reader-one _ _ z z' (meet p q) in (h.0, ap (λ k. k & tt & tt) h.1);
+  one = λ _ _ z z' _ _ p q. let h = reader-one _ _ z.0 z'.0 (meet p q) in (ap₂ (λ x k. (x, k)) h.0 h.1, refl);
 }
 
 pub text-claim-one : One text-claim.ended (λ M 𝓤 𝓛. text-claim.clauses 𝓛)
 text-claim-one = record {
   promise = text-claim-reads.Learnt;
   told = refl;
-  one = λ _ _ z z' _ _ p q. let h = reader-one _ _ z z' (meet p q) in (h.0, ap (λ k. k & tt & tt) h.1);
+  one = λ _ _ z z' _ _ p q. let h = reader-one _ _ z.0 z'.0 (meet p q) in (ap₂ (λ x k. (x, k)) h.0 h.1, refl);
 }
 
 pub text-coefficient_claim-one : One text-coefficient_claim.ended (λ M 𝓤 𝓛. text-coefficient_claim.clauses 𝓛)
 text-coefficient_claim-one = record {
   promise = text-coefficient_claim-reads.Learnt;
   told = refl;
-  one = λ _ _ z z' _ _ p q. let h = reader-one _ _ z z' (meet p q) in (h.0, ap (λ k. k & tt & tt) h.1);
+  one = λ _ _ z z' _ _ p q. let h = reader-one _ _ z.0 z'.0 (meet p q) in (ap₂ (λ x k. (x, k)) h.0 h.1, refl);
 }
 
 pub text-listed_edge-one : One text-listed_edge.ended (λ M 𝓤 𝓛. text-listed_edge.clauses 𝓛)
 text-listed_edge-one = record {
   promise = text-listed_edge-reads.Learnt;
   told = refl;
-  one = λ _ _ z z' _ _ p q. let h = weighed-one _ _ z z' (meet p q) in (h.0, ap (λ k. k & tt & tt & tt) h.1);
+  one = λ _ _ z z' _ _ p q. let h = weighed-one _ _ z.0 z'.0 (meet p q) in (ap₂ (λ x k. (x, k)) h.0 h.1, refl);
 }
 
 pub text-distance_claim-one : One text-distance_claim.ended (λ M 𝓤 𝓛. text-distance_claim.clauses 𝓛)
 text-distance_claim-one = record {
   promise = text-distance_claim-reads.Learnt;
   told = refl;
-  one = λ _ _ z z' _ _ p q. let h = reader-one _ _ z z' (meet p q) in (h.0, ap (λ k. k & tt & tt) h.1);
+  one = λ _ _ z z' _ _ p q. let h = reader-one _ _ z.0 z'.0 (meet p q) in (ap₂ (λ x k. (x, k)) h.0 h.1, refl);
 }
 
 pub text-has_weights-one : One text-has_weights.ended (λ M 𝓤 𝓛. text-has_weights.clauses 𝓛)
