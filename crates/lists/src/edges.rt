@@ -49,7 +49,9 @@ fn next_edge(
     requires { lines.now.passed < 2 ^ 64 - 1 }
     ensures { step_says lines.new result ≡ numbered_step undirected most (bisected ids.now) s.now lines.old }
 {
-    let Some(line) = lines.at.edge(s) else {
+    let (line, next) = lines.at.edge(s);
+    lines.at = next;
+    let Some(line) = line else {
         return Ok(None);
     };
     let edge = counted(EDGE_FILE, most, lines.passed, line)?;

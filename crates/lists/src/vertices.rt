@@ -16,7 +16,9 @@ fn next_vertex(lines: &mut Lines<i64>, s: &[u8], most: usize) -> Result<Option<i
     requires { lines.now.passed < 2 ^ 64 - 1 }
     ensures { step_says lines.new result ≡ vertex_step s.now most lines.old }
 {
-    let Some(line) = lines.at.vertex(s) else {
+    let (line, next) = lines.at.vertex(s);
+    lines.at = next;
+    let Some(line) = line else {
         return Ok(None);
     };
     let z = counted(VERTEX_FILE, most, lines.passed, line)?;
