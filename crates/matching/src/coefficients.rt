@@ -65,7 +65,9 @@ fn read_coefficients(
     let mut stray = None;
     let mut far = None;
     for k in 0..most {
-        let Some((id, s)) = found(cursor.coefficient_claim(claim), k)? else {
+        let (line, next) = cursor.coefficient_claim(claim);
+        cursor = next;
+        let Some((id, s)) = found(line, k)? else {
             return Ok(verdict_of(ended(lines, n, k, stray), far, lines));
         };
         let vertex = recorded(ids, lines, k, id);

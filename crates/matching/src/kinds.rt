@@ -13,16 +13,20 @@ fn unlike(claim: i64, smaller_claim: i64, label: i64, smaller_label: i64) -> boo
 }
 
 // The smallest vertex that disagrees in kind with a smaller one.
+// Stays: a labelled block, left from inside the nested loops with the first mismatch: the form that the rules name.
 pub(crate) fn first_unlike(labels: &[i64], claims: &[i64]) -> Option<usize>
     requires { length labels.now ≡ length claims.now }
     ensures { counted result ≡ unlike_vertex labels.now claims.now }
 {
-    for i in 0..labels.len() {
-        for j in 0..i {
-            if unlike(claims[i], claims[j], labels[i], labels[j]) {
-                return Some(i);
+    let first = 'vertices: {
+        for i in 0..labels.len() {
+            for j in 0..i {
+                if unlike(claims[i], claims[j], labels[i], labels[j]) {
+                    break 'vertices Some(i);
+                }
             }
         }
-    }
-    None
+        None
+    };
+    first
 }

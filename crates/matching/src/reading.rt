@@ -86,7 +86,9 @@ pub(crate) fn read_numbers(
     let mut cursor = Cursor { at: 0 };
     let mut stray = None;
     for k in 0..most {
-        let Some((id, value)) = found(cursor.claim(claim), k)? else {
+        let (line, next) = cursor.claim(claim);
+        cursor = next;
+        let Some((id, value)) = found(line, k)? else {
             return Ok(ended(lines, n, k, stray));
         };
         let vertex = recorded(ids, lines, k, id);

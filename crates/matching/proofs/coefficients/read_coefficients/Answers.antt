@@ -17,11 +17,11 @@ verdict_of-requires c =
 pub returns-in_err-id : goal.returns-in_err-id
 returns-in_err-id c =
     let e : c.from_residual.result ≡ Err c.in_err-id.field-0.0 = search rules in
-    decimals-fault _ _ _ _ _ c.loop-k.invariant _ _ c.coefficient_claim.ensures c.loop-k-test.true c.in_err-id.ensures e
+    decimals-fault _ _ _ _ _ c.loop-k.invariant _ _ c.coefficient_claim-line.ensures c.loop-k-test.true c.in_err-id.ensures e
 
 pub returns-in_default : goal.returns-in_default
 returns-in_default c =
-    decimals-end _ _ _ _ _ c.loop-k.invariant _ _ c.coefficient_claim.ensures c.in_ok-id.ensures c.in_default.is _ c.ended.ensures _
+    decimals-end _ _ _ _ _ c.loop-k.invariant _ _ c.coefficient_claim-line.ensures c.in_ok-id.ensures c.in_default.is _ c.ended.ensures _
     c.verdict_of.ensures
 
 pub measured-far-requires : goal.measured-far-requires

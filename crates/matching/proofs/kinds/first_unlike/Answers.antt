@@ -16,8 +16,8 @@ loop-j-preserved c = search (rules, like-more, bits_back)
 pub loop-i-preserved : goal.loop-i-preserved
 loop-i-preserved c = search (rules, unlike-later)
 
-pub returns : goal.returns
-returns c = search unlike-end
+pub returns-after-loop-i : goal.returns-after-loop-i
+returns-after-loop-i c = search unlike-end
 
 pub returns-then-unlike : goal.returns-then-unlike
 returns-then-unlike c = search (rules, unlike-here, bits_back)

@@ -12,11 +12,11 @@ loop-k-init c = search numbers-none
 pub returns-in_err-id : goal.returns-in_err-id
 returns-in_err-id c =
     let e : c.from_residual.result ≡ Err c.in_err-id.field-0.0 = search rules in
-    numbers-fault _ _ _ c.loop-k.invariant c.requires.ids_in_bounds.0 _ _ c.claim.ensures c.loop-k-test.true c.in_err-id.ensures e
+    numbers-fault _ _ _ c.loop-k.invariant c.requires.ids_in_bounds.0 _ _ c.claim-line.ensures c.loop-k-test.true c.in_err-id.ensures e
 
 pub returns-in_default : goal.returns-in_default
 returns-in_default c =
-    numbers-end _ _ _ c.loop-k.invariant c.requires.ids_in_bounds.0 _ _ c.claim.ensures c.in_ok-id.ensures c.in_default.is c.ended.ensures
+    numbers-end _ _ _ c.loop-k.invariant c.requires.ids_in_bounds.0 _ _ c.claim-line.ensures c.in_ok-id.ensures c.in_default.is c.ended.ensures
 
 pub keep-requires : goal.keep-requires
 keep-requires c =
