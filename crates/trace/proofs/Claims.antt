@@ -17,7 +17,7 @@ use Rattle.text.specs.Line.{Form, line_by, pair_form, edge_form, decimal_form}
 use Rattle.text.specs.File.{no_test}
 use Rattle.text.proofs.Breaks.{RightStop, decimal-right, pair-right, edge-right}
 use Rattle.text.proofs.Files.{file-accepted, FileRefusal, file-refusal}
-use Rattle.graph.specs.declared.find.Found.{Found}
+use Rattle.std.specs.Prelude.{Option}
 use Rattle.graph.specs.Find.{place_in}
 use Rattle.graph.specs.Sound.{Graph, names, sound_graph}
 use Rattle.kernels.specs.Answer.{kernel_says, bfs_number, wcc_number, cdlp_number, lcc_number}
@@ -52,12 +52,12 @@ module _ {A : Type 0} (form : Form A) (R : RightStop form) (s : List ℕ) (room 
 -- ---- the line of a verdict
 
 -- the claim line of a vertex is one of the lines
-reported-bound : (place : ℤ → Found) (named : List ℤ) (m : ℕ) → reported_line place named m ≤ length named
+reported-bound : (place : ℤ → Option ℕ) (named : List ℤ) (m : ℕ) → reported_line place named m ≤ length named
 reported-bound place named zero = omega arith
 reported-bound place named (suc v) = line-bound place named v
 
 -- a line at which a claim is incomplete is one of its lines, or the next
-incomplete-bound : (place : ℤ → Found) (n : ℕ) (named : List ℤ) → incomplete_line place n named ≤ length named + 1
+incomplete-bound : (place : ℤ → Option ℕ) (n : ℕ) (named : List ℤ) → incomplete_line place n named ≤ length named + 1
 unfolding incomplete_line stray_line
 incomplete-bound place n named =
     go (failing_place (names_new place named) (length named) 0) (every n (has_line place named))

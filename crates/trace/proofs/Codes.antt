@@ -55,6 +55,16 @@ readable-refused {room = room} r p h =
 pub readable-by : {A : Type 0} {room : ℕ} {value : A → ℕ} {s t : Said A} → s ≡ t → Readable room t value → Readable room s value
 readable-by e h = rw e h
 
+-- of values that are said in other words
+module _ {A B : Type 0} (f : A → B) (value : B → ℕ) where
+  pub readable-mapped : {room : ℕ} (s : Said A) → Readable room (mapped f s) value → Readable room s (λ x. value (f x))
+  readable-mapped s h =
+      record { values = λ x e. h.values (f x) (ap (mapped f) e); refusals = λ r e. h.refusals r (ap (mapped f) e) }
+
+  pub coded-mapped : (s : Said A) → coded s (λ x. value (f x)) ≡ coded (mapped f s) value
+  coded-mapped (gives x) = refl
+  coded-mapped (refuses r) = refl
+
 -- a refusal that meets no line
 pub readable-plain : {A : Type 0} {room : ℕ} {value : A → ℕ} (number : ℕ) → 0 < room → 0 < number → number ≤ 21
     → Readable room (refuses (plain number)) value

@@ -2,27 +2,24 @@
 use mathlib.Core.Path.{◌≡◌, refl, sym, ap, ◌∙◌}
 use mathlib.Core.Bool.{Bool, true, false}
 use mathlib.Core.List.{List}
-use Prim.Native.Nat.{ℕ, ◌+◌, ◌≤◌, ◌<◌}
+use Prim.Native.Nat.{ℕ, ◌+◌}
 use native.Mathlib.Omega.{arith}
 use lib.IntN.{ℤ, pos, nat_abs}
 use lib.ListN.{length, replicate, length-replicate}
 use lib.Dec.{leb}
-use borrow.Author.Tests.{le-leb, lt-leb, lt-ltb}
+use borrow.Author.Tests.{le-leb, lt-ltb}
 use Rattle.basis.proofs.Saids.{refused-given, given-one, mapped-refuses}
 use Rattle.basis.specs.Limits.{desk_vertices, desk_edges}
-use Rattle.basis.specs.Refusal.{Said, gives, refuses, plain, unknown_number, onward, mapped}
+use Rattle.basis.specs.Refusal.{Said, gives, refuses, plain, unknown_number, onward, mapped, said}
 use Rattle.graph.specs.Arcs.{Arc, arcs}
-use Rattle.graph.specs.declared.find.Found.{Found}
-use Rattle.graph.specs.declared.find.Found.TheVariants.{At, Missing}
+use Rattle.std.specs.Prelude.{Option, Some, None, Result, Ok, Err}
 use Rattle.graph.specs.Find.{place_in}
 use Rattle.graph.specs.Sound.{outward, inward, names, lent}
 use Rattle.graph.specs.Sound as Sound
 use Rattle.graph.specs.declared.Size.{Size}
 use Rattle.lists.specs.Files.{identifiers, edges_of, all_numbered}
 use Rattle.lists.proofs.Accepts.{vertices-accepted, edges-accepted}
-use Rattle.load.specs.declared.Loaded.{Loaded}
-use Rattle.load.specs.declared.Loaded.TheVariants.{Graph, Refused}
-use Rattle.load.specs.Load.{says, Lists, arc_room, vertex_room, with_room, arcs_read, lists_read, loaded}
+use Rattle.load.specs.Load.{Lists, arc_room, vertex_room, with_room, arcs_read, lists_read, loaded}
 use Rattle.load.specs.Load.{is_undirected, size_of, outcome, outcome_of, load_call, desk, desk_room}
 use Rattle.load.specs.Good.{GoodLoad, graph_left}
 use Rattle.load.proofs.Arranges.{arcs-few}
@@ -46,20 +43,6 @@ use Rattle.trace.specs.Verdict.{as_refusal}
 use Rattle.verdicts.specs.Call as Call
 use Rattle.basis.specs.declared.refusal.Refusal.{Refusal}
 use Rattle.basis.proofs.Tests.{failed, held, and_first, and_second, and_both}
-
--- ---- the numbers of mode and kernel, as they are tested
-module _ (mode kernel : ℕ) where
-  pub unknown-mode : 1 < mode → false ≡ is_known mode kernel
-  unfolding is_known
-  unknown-mode h = rw (lt-leb mode 1 h)
-
-  pub unknown-none : mode ≤ 1 → kernel < 1 → false ≡ is_known mode kernel
-  unfolding is_known
-  unknown-none h k = rw (le-leb mode 1 h, lt-leb 1 kernel k)
-
-  pub known-last : mode ≤ 1 → 1 ≤ kernel → leb kernel 4 ≡ is_known mode kernel
-  unfolding is_known
-  known-last h k = rw (le-leb mode 1 h, le-leb 1 kernel k)
 
 -- ---- the load: the desk's limits leave room in areas of desk size
 -- an edge stores two arcs at most
@@ -99,9 +82,9 @@ module _ (mode : ℕ) (vertices edges : List ℕ) where
 -- ---- the reference output, by what a graph shows
 module _ (most : ℕ) (g h : Sound.Graph) (s : List ℕ) (parameter : ℤ) (n : g.vertices ≡ h.vertices) (i : names g ≡ names h)
     (o : outward g ≡ outward h) (t : inward g ≡ inward h) where
-  depths-same : (place : Found) → depths_from g place ≡ depths_from h place
-  depths-same (At root) = cc
-  depths-same Missing = refl
+  depths-same : (place : Option ℕ) → depths_from g place ≡ depths_from h place
+  depths-same (Some root) = cc
+  depths-same None = refl
 
   bfs-same : bfs_reference most g s parameter ≡ bfs_reference most h s parameter
   bfs-same = rw (i, depths-same (place_in (names h) parameter))
@@ -194,33 +177,33 @@ module _ (vertices edges claim : List ℕ) (mode kernel : ℕ) (parameter : ℤ)
   unfolding host_verdict host_says
   host-unknown h r e k f = rw (f, e, failed t (is_known mode kernel) p h)
 
-  module _ (h : t ≡ true) (a : Loaded) (ids : List ℤ) (oo ot io is : List ℕ)
-      (e : outcome (says a) ids oo ot io is ≡ load_call desk mode desk_room vertices edges) where
-    answered : says a ≡ mapped size_of (loaded desk mode desk_room vertices edges)
+  module _ (h : t ≡ true) (a : Result Size Refusal) (ids : List ℤ) (oo ot io is : List ℕ)
+      (e : outcome (said a) ids oo ot io is ≡ load_call desk mode desk_room vertices edges) where
+    answered : said a ≡ mapped size_of (loaded desk mode desk_room vertices edges)
     unfolding load_call outcome_of
     answered = ap (λ o. o.answer) e
 
-    pub host-refused-small : (r : Refusal) → a ≡ Refused r → Small narrow r
+    pub host-refused-small : (r : Refusal) → a ≡ Err r → Small narrow r
     host-refused-small r q =
         ((mapped-readable size_of (loaded desk mode desk_room vertices edges) (omega arith)
         (loaded-readable narrow desk (omega arith) mode desk_room vertices edges)).refusals r
-        (sym answered ∙ ap says q)).1
+        (sym answered ∙ ap said q)).1
 
-    pub host-refused : (r : Refusal) → a ≡ Refused r → (k : ℕ) → k ≡ host_code r → k
+    pub host-refused : (r : Refusal) → a ≡ Err r → (k : ℕ) → k ≡ host_code r → k
         ≡ host_verdict vertices edges claim mode kernel parameter
     unfolding host_verdict
     host-refused r q k f =
         rw (
           f,
           says-known vertices edges claim mode kernel parameter (held t (is_known mode kernel) p h),
-          mapped-refuses size_of (loaded desk mode desk_room vertices edges) r (ap says (sym q) ∙ answered),
+          mapped-refuses size_of (loaded desk mode desk_room vertices edges) r (ap said (sym q) ∙ answered),
         )
 
-    pub host-judged : (size : Size) → a ≡ Graph size → (z : ℤ) → z ≡ parameter → (k : ℕ)
+    pub host-judged : (size : Size) → a ≡ Ok size → (z : ℤ) → z ≡ parameter → (k : ℕ)
         → k ≡ host_code (as_refusal (desk_judged (lent size ids oo ot io is) kernel z claim))
         → k ≡ host_verdict vertices edges claim mode kernel parameter
     unfolding host_verdict
-    host-judged size q z w k f = go (loaded desk mode desk_room vertices edges) refl (sym answered ∙ ap says q)
+    host-judged size q z w k f = go (loaded desk mode desk_room vertices edges) refl (sym answered ∙ ap said q)
       where
         go : (x : Said Lists) → loaded desk mode desk_room vertices edges ≡ x → mapped size_of x ≡ gives size
             → k ≡ host_code (as_refusal (host_says vertices edges claim mode kernel parameter))

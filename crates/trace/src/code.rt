@@ -3,6 +3,7 @@ ghost use Rattle.std.specs.Prelude.{◌≡◌, ◌<◌, ℕ};
 ghost use Rattle.basis.specs.Refusal.{said};
 ghost use Rattle.book.specs.Says.{as_joining, as_end};
 ghost use Rattle.trace.specs.Code.{placed, coded, host_code, wide, narrow, Small, Readable, nothing};
+ghost use Rattle.matching.specs.Verdict.{says};
 ghost use Rattle.trace.specs.Verdict.{as_refusal};
 ghost use Rattle.trace.specs.Load.{load_value};
 ghost use Rattle.trace.specs.Book.{join_value, head_value, same_value, reading_value};
@@ -41,7 +42,7 @@ pub(crate) fn host_code(r: Refusal) -> u64
 
 // A verdict's three numbers as those of a refusal, or a refusal as it is.
 pub(crate) fn as_refusal(judged: Result<Verdict, Refusal>) -> Refusal
-    ensures { result ≡ as_refusal (said judged) }
+    ensures { result ≡ as_refusal (says judged) }
 {
     match judged {
         Ok(Verdict::Match) => Refusal::at(MATCH, CLAIM_FILE, 0),

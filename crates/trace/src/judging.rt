@@ -74,10 +74,11 @@ pub extern "C" fn trace_judge(
 }
 
 // Whether the rules number this mode and this kernel.
+#[tactic(auto, unfolding(crate::specs::Host::is_known))]
 fn is_known(mode: u64, kernel: u64) -> bool
     ensures { result ≡ is_known mode kernel }
 {
-    mode <= 1 && (1..=4).contains(&kernel)
+    mode <= 1 && 1 <= kernel && kernel <= 4
 }
 
 // The verdict on a graph of desk size, with areas of its own.

@@ -1,8 +1,8 @@
 use Rattle.trace.proofs.Runs.{lcc-readable, lcc-told}
 use Rattle.trace.proofs.four_kernels.trace_lcc.Goals as goal
 
-pub kernel_code-requires : goal.kernel_code-requires
-kernel_code-requires c = search lcc-readable
+pub code-requires : goal.code-requires
+code-requires c = search lcc-readable
 
 pub returns : goal.returns
-returns c = search lcc-told
+returns c = let e = rw c.graph_of-g.ensures at c.lcc.ensures in search lcc-told

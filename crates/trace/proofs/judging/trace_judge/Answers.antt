@@ -6,4 +6,4 @@ pub refusal_code-requires : goal.refusal_code-requires
 refusal_code-requires c = search judge-small
 
 pub returns : goal.returns
-returns c = search (judge-told, to_z-of_z)
+returns c = let e = rw c.graph_of-g.ensures at c.verdict-judged.ensures in search (judge-told, to_z-of_z)
