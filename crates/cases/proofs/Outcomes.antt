@@ -914,7 +914,7 @@ trace-trace_bfs-one = record {
   told = refl;
   one = λ _ _ _ _ _ _ p q. (
     ap (λ o. o.answer) (meet p q),
-    ap (λ o. tt & tt & tt & o.depth & o.queue & tt) (meet p q),
+    ap (λ o. tt & tt & tt & tt & tt & tt & tt & tt & o.depth & o.queue & tt) (meet p q),
   );
 }
 
@@ -924,7 +924,7 @@ trace-trace_wcc-one = record {
   told = refl;
   one = λ _ _ _ _ _ _ p q. (
     ap (λ o. o.answer) (meet p q),
-    ap (λ o. tt & tt & o.result & o.heads & tt) (meet p q),
+    ap (λ o. tt & tt & tt & tt & tt & tt & tt & o.result & o.heads & tt) (meet p q),
   );
 }
 
@@ -934,7 +934,7 @@ trace-trace_cdlp-one = record {
   told = refl;
   one = λ _ _ _ _ _ _ p q. (
     ap (λ o. o.answer) (meet p q),
-    ap (λ o. tt & tt & tt & o.result & o.labels & o.next & o.counts & tt) (meet p q),
+    ap (λ o. tt & tt & tt & tt & tt & tt & tt & tt & o.result & o.labels & o.next & o.counts & tt) (meet p q),
   );
 }
 
@@ -944,7 +944,7 @@ trace-trace_lcc-one = record {
   told = refl;
   one = λ _ _ _ _ _ _ p q. (
     ap (λ o. o.answer) (meet p q),
-    ap (λ o. tt & tt & o.numerators & o.denominators & o.work & tt) (meet p q),
+    ap (λ o. tt & tt & tt & tt & tt & tt & tt & o.numerators & o.denominators & o.work & tt) (meet p q),
   );
 }
 
@@ -1010,7 +1010,7 @@ trace-trace_judge-one = record {
   one = λ _ _ _ _ _ _ p q. (
     ap (λ o. o.answer) (meet p q),
     ap
-        (λ o. tt & tt & tt & tt & tt & o.result & o.claimed & o.first & o.second & o.third & o.lines & tt)
+        (λ o. tt & tt & tt & tt & tt & tt & tt & tt & tt & tt & o.result & o.claimed & o.first & o.second & o.third & o.lines & tt)
         (meet p q),
   );
 }
