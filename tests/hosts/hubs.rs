@@ -1,7 +1,7 @@
-//! hubs [CASES]: coefficients of graphs with long lists (02 K4), through the host call. Vertices whose arcs go to a run of others, to every
-//! so many, to half or to all of them, so that lists of many lengths are walked together, with many members passed at once and with few.
-//! Graph and areas stand between pages that may not be touched. The fractions are those of the independent implementation; and where a list
-//! does not rise the graph is refused, and all three areas are zero.
+//! hubs [CASES]: coefficients of graphs with long lists (change K4), through the host call. Vertices whose arcs go to a run of others, to
+//! every so many, to half or to all of them, so that lists of many lengths are walked together, with many members passed at once and with
+//! few. Graph and areas stand between pages that may not be touched. The fractions are those of the independent implementation; and where a
+//! list does not rise the graph is refused, and all three areas are zero.
 
 mod fence;
 

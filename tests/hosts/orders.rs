@@ -1,4 +1,4 @@
-//! orders [CASES]: claims whose lines come in any order (02 K7), through both host calls: in order, backwards and shuffled, with a line
+//! orders [CASES]: claims whose lines come in any order (change K7), through both host calls: in order, backwards and shuffled, with a line
 //! doubled, missing, surplus, unknown or replaced by a copy of another, with up to two values wrong, and with damaged bytes. Graph, claim
 //! and the six areas stand between pages that may not be touched, and the areas hold anything before a call. Every answer, and what every
 //! area holds, is as the independent implementation says; and another order of a complete claim changes neither whether it matches nor the

@@ -1,7 +1,7 @@
-//! shifts [CASES]: the order of entry (02 K11), through the host calls. The slips of a random shift are entered by two clerks, each in an
-//! order of their own, either way round, with repeats, refused slips and questions between, in areas of any content between pages that may
-//! not be touched. Every same-group, group-size, group-count and step-limit call answers alike in both books, and what the pairs alone say;
-//! and no call but an opening turns a "same group" into "apart".
+//! shifts [CASES]: the order of entry (change K11), through the host calls. The slips of a random shift are entered by two clerks, each in
+//! an order of their own, either way round, with repeats, refused slips and questions between, in areas of any content between pages that
+//! may not be touched. Every same-group, group-size, group-count and step-limit call answers alike in both books, and what the pairs alone
+//! say; and no call but an opening turns a "same group" into "apart".
 
 mod fence;
 

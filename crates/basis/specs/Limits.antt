@@ -1,4 +1,4 @@
--- 01 "What the engine covers": the limits of the library and of the desk that their layers share.
+-- The rules "What the engine covers": the limits of the library and of the desk that their layers share.
 use Rattle.std.specs.Prelude.{ℕ}
 
 -- "Library limits: 65,536 vertices"
@@ -13,7 +13,7 @@ most_edges = 1048576
 abbrev pub most_arcs : ℕ
 most_arcs = 2097152
 
--- 02 K3: "a weight .. from 0 to 100000", "held as whole millionths": the largest
+-- Change K3: "a weight .. from 0 to 100000", "held as whole millionths": the largest
 abbrev pub most_weight : ℕ
 most_weight = 100000000000
 

@@ -1,13 +1,13 @@
--- 01 "Refusal numbers": what a call says, in the paper's numbers.
+-- The rules "Refusal numbers": what a call says, in the paper's numbers.
 use Rattle.std.specs.Prelude.{ℕ, Bool, cond, Result, Ok, Err}
 use Rattle.basis.specs.declared.refusal.Refusal.{Refusal}
 
--- 02 K2: "Every refusal now has four numbers": its number, file and line, and the column, from 1, in that line
+-- Change K2: "Every refusal now has four numbers": its number, file and line, and the column, from 1, in that line
 abbrev pub at_column : ℕ → ℕ → ℕ → ℕ → Refusal
 at_column number file line column = record { number = number; file = file; line = line; column = column }
 
--- "A refusal returns its number, a file number (1 vertex, 2 edge, 3 claim, 4 sheet, 0 none) and a line counted from 1"; 02 K2: "the column
--- is 0 except for refusal 2 of a vertex, edge or claim line"
+-- "A refusal returns its number, a file number (1 vertex, 2 edge, 3 claim, 4 sheet, 0 none) and a line counted from 1"; change K2: "the
+-- column is 0 except for refusal 2 of a vertex, edge or claim line"
 abbrev pub at : ℕ → ℕ → ℕ → Refusal
 at number file line = at_column number file line 0
 
@@ -43,7 +43,7 @@ larger_first = 6
 abbrev pub unknown_vertex : ℕ
 unknown_vertex = 7
 
--- "a lent area is too short"; of a book it "reads as length above 65,536" (02 K9)
+-- "a lent area is too short"; of a book it "reads as length above 65,536" (change K9)
 abbrev pub no_room : ℕ
 no_room = 8
 
@@ -63,11 +63,11 @@ bad_rounds = 11
 abbrev pub unknown_number : ℕ
 unknown_number = 12
 
--- 02 K3: "13, weight above 100000, after 3"
+-- Change K3: "13, weight above 100000, after 3"
 abbrev pub too_heavy : ℕ
 too_heavy = 13
 
--- 02 K3: "14, SSSP on an unweighted graph, after 9"
+-- Change K3: "14, SSSP on an unweighted graph, after 9"
 abbrev pub unweighted : ℕ
 unweighted = 14
 

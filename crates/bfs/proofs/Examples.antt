@@ -1,4 +1,4 @@
--- BFS on the sheet's graph of 01, computed through the call; and each refusal. Assumes nothing.
+-- BFS on the sheet's graph of the rules, computed through the call; and each refusal. Assumes nothing.
 use mathlib.Core.Path.{◌≡◌, refl}
 use mathlib.Core.List.{[], ◌∷◌}
 use lib.IntN.{pos}

@@ -1,4 +1,4 @@
--- 01 "The loaded graph" and "Kernels": what the BFS call answers, and what it leaves in the areas lent for writing.
+-- The rules "The loaded graph" and "Kernels": what the BFS call answers, and what it leaves in the areas lent for writing.
 use Rattle.std.specs.Prelude.{ℕ, Bool, ◌&&◌, Option, Some, None, List, [], ℤ, pos, length, leb}
 use Rattle.basis.specs.Refusal.{Said, refuses, plain, not_there}
 use Rattle.basis.specs.Area.{leaves, cleared, cleared_z}

@@ -1,4 +1,4 @@
--- 01 "Kernels" and 000, 2.3.1: depths of breadth-first search, over the arcs that leave each vertex.
+-- The rules "Kernels" and Graphalytics, 2.3.1: depths of breadth-first search, over the arcs that leave each vertex.
 use Rattle.std.specs.Prelude.{ℕ, zero, suc, cond, List, [], ◌∷◌, ◌++◌, ℤ, pos, ltb}
 use Rattle.basis.specs.Area.{unreachable, column}
 use Rattle.basis.specs.Scan.{mem, first_from}

@@ -1,4 +1,4 @@
--- What a depth is, and what a call of the kernel means, apart from how it is computed: 01 "Kernels" and document 000, 2.3.1.
+-- What a depth is, and what a call of the kernel means, apart from how it is computed: the rules "Kernels" and Graphalytics 1.0.4, 2.3.1.
 use Rattle.std.specs.Prelude.{ℕ, zero, suc, ◌≤◌, ◌<◌, ◌≡◌, ◌⊎◌, ◌↔◌, true, false, List, ℤ, pos, length, get_or}
 use Rattle.basis.specs.Refusal.{gives, unsound, not_there, no_room}
 use Rattle.basis.specs.Area.{infinity, unreachable, cleared}

@@ -267,7 +267,7 @@ module _ (M N : Machine) (F : Faithful M) (G : Faithful N) where
       ap₂ ◌∷◌ (ap Answer.opens (open-alike s.area t.area f e).0)
       (answers-alike (after M s Call.opening) (after N t Call.opening) (after_open s t f e) cs)
 
--- 02 K9: the book of one area answers as that of two
+-- Change K9: the book of one area answers as that of two
 pub answers-as-two : AnswersAsTwo
 unfolding one two
 answers-as-two s t p q cs =

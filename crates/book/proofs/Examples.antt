@@ -1,4 +1,4 @@
--- Damaged areas, worked: what the rules say of one area of signed numbers (02 K9). Assumes nothing.
+-- Damaged areas, worked: what the rules say of one area of signed numbers (change K9). Assumes nothing.
 use mathlib.Core.Path.{◌≡◌, refl}
 use mathlib.Core.List.{List, [], ◌∷◌}
 use lib.IntN.{ℤ, pos, negsuc}

@@ -1,4 +1,4 @@
--- 02 K9: "Hold one area of signed numbers: a parent at an ordinary vertex, and at a head the negative of the group's size".
+-- Change K9: "Hold one area of signed numbers: a parent at an ordinary vertex, and at a head the negative of the group's size".
 use Rattle.std.specs.Prelude.{List, ℕ, suc, ℤ, pos, negsuc, neg_ℤ, length, get_or, set, replicate, leb}
 use Rattle.basis.specs.Limits.{most_vertices}
 use Rattle.book.specs.Rules.{Next, stop, to, View, Machine}

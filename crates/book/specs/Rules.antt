@@ -1,4 +1,4 @@
--- 01 "The group book": the rules of its calls, over what a book's areas show of a vertex and not over the areas.
+-- The rules "The group book": the rules of its calls, over what a book's areas show of a vertex and not over the areas.
 use Rattle.std.specs.Prelude.{Bool, true, false, cond, ◌&&◌, List, [], ◌∷◌, ℕ, zero, suc, ◌+◌, ◌^◌, leb, ltb, eqb}
 use Rattle.basis.specs.declared.refusal.Refusal.{Refusal}
 use Rattle.basis.specs.Refusal.{Said, gives, refuses, plain, no_room, unsound, not_there, onward, check}

@@ -197,7 +197,8 @@ abbrev pub Demand3One : Type 0
 Demand3One = (s : State (List ℤ)) → length s.area ≤ most_vertices → (cs : List Call)
     → Kept one_book (length s.area) (run one_book s (opening ∷ cs))
 
--- 02 K9: "For every series of calls from an opening, each answer equals the two-area book's": of areas of one length, whatever they hold
+-- Change K9: "For every series of calls from an opening, each answer equals the two-area book's": of areas of one length, whatever they
+-- hold
 abbrev pub AnswersAsTwo : Type 0
 AnswersAsTwo = (s : State (List ℤ)) (t : State Areas) → length t.area.parents ≡ length s.area
     → length t.area.sizes ≡ length s.area → (cs : List Call)

@@ -1,5 +1,5 @@
--- 01 "The group book": "Two lent areas of one length, parents and sizes.": the book before 02 K9. No code keeps it; it is what the book of
--- one area answers like.
+-- The rules "The group book": "Two lent areas of one length, parents and sizes.": the book before change K9. No code keeps it; it is what
+-- the book of one area answers like.
 use Rattle.std.specs.Prelude.{List, Bool, cond, ◌&&◌, ℕ, length, get_or, set, replicate, leb, eqb}
 use Rattle.basis.specs.Limits.{most_vertices}
 use Rattle.basis.specs.Area.{own_numbers}

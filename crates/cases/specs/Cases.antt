@@ -1,5 +1,5 @@
--- 01 "Checked examples": P1 to P12 as one list. Each entry has what the definitions that the promises cite compute, and then what 01
--- says that it is.
+-- The rules "Checked examples": P1 to P12 as one list. Each entry has what the definitions that the promises cite compute, and then what
+-- the rules say that it is.
 use Rattle.std.specs.Prelude.{ℕ, List, [], ◌∷◌, ℤ, pos, negsuc, replicate}
 use Rattle.basis.specs.Refusal.{Said, gives, refuses, plain, no_room}
 use Rattle.text.specs.Bytes.{bytes}
@@ -27,7 +27,7 @@ pub data Value : Type 0 where
   judges : Said Verdict → Value
   books : List ℤ → Said ℕ → Value
 
--- an entry of the list: what the definitions compute, and what 01 says that it is
+-- an entry of the list: what the definitions compute, and what the rules say that it is
 pub record Case : Type 0 where
   pub computed : Value
   pub expected : Value
@@ -111,7 +111,7 @@ cases =
     -- P11 "labels 7 7 3 match components a a b; 7 7 7 fails at line 3"
     ∷ (component_claim (bytes "1 7\n2 7\n3 3\n") is judges (gives matched))
     ∷ (component_claim (bytes "1 7\n2 7\n3 7\n") is judges (gives (mismatch_at 3)))
-    -- P12 "four vertices, joins 0-1, 2-3, 1-3 give", of one area by 02 K9, "P12 ends as -4 0 0 2", "count 1"
+    -- P12 "four vertices, joins 0-1, 2-3, 1-3 give", of one area by change K9, "P12 ends as -4 0 0 2", "count 1"
     ∷ (book_after (Call.opening ∷ Call.joining 0 1 ∷ Call.joining 2 3 ∷ Call.joining 1 3 ∷ [])
     is books (negsuc 3 ∷ pos 0 ∷ pos 0 ∷ pos 2 ∷ []) (gives 1))
     ∷ []
@@ -121,7 +121,7 @@ abbrev pub computeds : List Case → List Value
 computeds [] = []
 computeds (c ∷ l) = c.computed ∷ computeds l
 
--- the second side: what 01 says, of every entry
+-- the second side: what the rules say, of every entry
 abbrev pub expecteds : List Case → List Value
 expecteds [] = []
 expecteds (c ∷ l) = c.expected ∷ expecteds l

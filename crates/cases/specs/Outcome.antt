@@ -1,4 +1,4 @@
--- 01 "Promises worth signing": "For each, prove that any two outcomes it allows are equal".
+-- The rules "Promises worth signing": "For each, prove that any two outcomes it allows are equal".
 use Rattle.std.specs.Prelude.{◌≡◌}
 use seplogic.Ra.Ura.{Ura}
 use base.Logic.{SProp}

@@ -1,4 +1,4 @@
--- The graph of 01's sheet, as its two lists load.
+-- The graph of the rules' sheet, as its two lists load.
 use Rattle.basis.specs.Refusal.{Said, gives, refuses}
 use Rattle.text.specs.Bytes.{bytes}
 use Rattle.graph.specs.declared.Size.{Size}

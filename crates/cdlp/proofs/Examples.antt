@@ -1,4 +1,4 @@
--- CDLP on the sheet's graph of 01, computed through the call; and refusals. Assumes nothing.
+-- CDLP on the sheet's graph of the rules, computed through the call; and refusals. Assumes nothing.
 use mathlib.Core.Path.{◌≡◌, refl}
 use mathlib.Core.List.{[], ◌∷◌}
 use lib.IntN.{pos, negsuc}

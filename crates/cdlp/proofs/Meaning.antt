@@ -1,4 +1,4 @@
--- What the definition says, in the words of document 000, 2.3.4, over identifiers; and what stands in a call's result area.
+-- What the definition says, in the words of Graphalytics 1.0.4, 2.3.4, over identifiers; and what stands in a call's result area.
 -- Assumes nothing.
 use Prim.Native.Nat.{ℕ, zero, suc, ◌+◌, ◌≤◌, ◌<◌}
 use mathlib.Core.Path.{◌≡◌, refl, sym, ap, ap₂, ◌∙◌, subst}

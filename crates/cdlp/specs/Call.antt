@@ -1,4 +1,4 @@
--- 01 "The loaded graph" and "Kernels": what the CDLP call answers, and what it leaves in the areas lent for writing.
+-- The rules "The loaded graph" and "Kernels": what the CDLP call answers, and what it leaves in the areas lent for writing.
 use Rattle.std.specs.Prelude.{ℕ, Bool, not, ◌&&◌, List, ℤ, pos, nat_abs, length, leb}
 use Rattle.std.specs.Int.Signed.{lt_z}
 use Rattle.basis.specs.Refusal.{Said, refuses, plain, bad_rounds}

@@ -1,4 +1,4 @@
--- 01 "Kernels" and document 000, 2.3.4: a vertex's next label, from the labels of its neighbours.
+-- The rules "Kernels" and Graphalytics 1.0.4, 2.3.4: a vertex's next label, from the labels of its neighbours.
 use Rattle.std.specs.Prelude.{ℕ, ◌+◌, max, Bool, cond, List, [], ◌∷◌, eqb}
 use Rattle.basis.specs.Scan.{bit}
 

@@ -1,4 +1,5 @@
--- What the labels are, and what a call of the kernel means, apart from how it is computed: 01 "Kernels" and document 000, 2.3.4.
+-- What the labels are, and what a call of the kernel means, apart from how it is computed: the rules "Kernels" and Graphalytics 1.0.4,
+-- 2.3.4.
 use Rattle.std.specs.Prelude.{ℕ, zero, suc, ◌+◌, ◌≤◌, ◌<◌, ◌≡◌, true, false, List, [], ◌∷◌, ℤ, pos, length, get_or}
 use Rattle.std.specs.Int.Signed.{lt_z}
 use Rattle.basis.specs.Refusal.{gives, unsound, no_room, bad_rounds}

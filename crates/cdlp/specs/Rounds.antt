@@ -1,4 +1,4 @@
--- 01 "Kernels" and document 000, 2.3.4: a round, and k rounds.
+-- The rules "Kernels" and Graphalytics 1.0.4, 2.3.4: a round, and k rounds.
 use Rattle.std.specs.Prelude.{ℕ, zero, suc, Bool, List, [], ◌∷◌, ◌++◌, ℤ, pos, get_or}
 use Rattle.std.specs.Int.Signed.{lt_z}
 use Rattle.basis.specs.Order.{same_z}

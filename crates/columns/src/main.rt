@@ -56,8 +56,8 @@ fn read_records(rt: &impl Print, s: &[u8]) -> io::Result<()> {
 }
 
 // Reads until `bytes` is full or the input ends, and says how many bytes it put at the start of `bytes`.
-// Stays: fixed memory. `read_to_end` takes a heap, and `read_exact` keeps no count where the input ends early. `desk` has the same function:
-// a library may not, since no promise fixes what a read gives.
+// Stays: fixed memory. `read_to_end` takes a heap, and `read_exact` keeps no count where the input ends early. `desk` has the same
+// function: a library may not, since no promise fixes what a read gives.
 fn read_full(input: &mut impl Read, bytes: &mut [u8]) -> io::Result<usize>
     ensures { IfOk result (λ n. n ≤ length bytes.new) }
 {

@@ -10,7 +10,7 @@ use Rattle.graph.specs.Part.{targets_between, part_of}
 use Rattle.graph.specs.Arcs.{Arc, arcs, backward, parts, offsets}
 use Rattle.graph.specs.Sound.{Graph, sound_ids, sound_offsets, sound_side, mirrored, sound_sides, sound_graph}
 
--- ---- the sheet of 01: vertices -3 2 5 9 20, arcs 2 5, 2 9, 5 2, 5 9, 9 20
+-- ---- the sheet of the rules: vertices -3 2 5 9 20, arcs 2 5, 2 9, 5 2, 5 9, 9 20
 abbrev sheet_arcs : List Arc
 sheet_arcs = (1, 2) ∷ (1, 3) ∷ (2, 1) ∷ (2, 3) ∷ (3, 4) ∷ []
 

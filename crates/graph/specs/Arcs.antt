@@ -1,4 +1,4 @@
--- 01 "Lists" and "The loaded graph": the arcs of an edge list, and the lists that store them.
+-- The rules "Lists" and "The loaded graph": the arcs of an edge list, and the lists that store them.
 use Rattle.std.specs.Prelude.{ℕ, zero, suc, ◌+◌, Bool, true, false, cond, List, [], ◌∷◌, ◌++◌, length, get_or, set, eqb}
 use Rattle.basis.specs.Area.{column}
 

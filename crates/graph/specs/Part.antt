@@ -1,4 +1,4 @@
--- 01 "The loaded graph": one vertex's part of a target area.
+-- The rules "The loaded graph": one vertex's part of a target area.
 use Rattle.std.specs.Prelude.{ℕ, ◌+◌, cond, ◌&&◌, List, [], length, get_or, ltb, leb}
 use Rattle.basis.specs.Area.{between}
 

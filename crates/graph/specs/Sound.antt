@@ -1,5 +1,5 @@
--- 01 "The loaded graph": what a lent graph is, and when it is sound: as a test that computes, and clause by clause (laws `sound-of` and
--- `sound-from`).
+-- The rules "The loaded graph": what a lent graph is, and when it is sound: as a test that computes, and clause by clause (laws `sound-of`
+-- and `sound-from`).
 use Rattle.std.specs.Prelude.{ℕ, ◌+◌, ◌≤◌, ◌<◌, ◌≡◌, Bool, true, not, ◌&&◌, List, ℤ, length, get_or, take, eqb, leb, ltb}
 use Rattle.basis.specs.Limits.{most_vertices, most_arcs}
 use Rattle.basis.specs.Order.{rising, rising_z}
@@ -112,6 +112,6 @@ pub record Sound (g : Graph) : Type 0 where
   pub back : mirrored g.vertices (outward g) (inward g) ≡ true
   pub forth : mirrored g.vertices (inward g) (outward g) ≡ true
 
--- 000, 2.3: "For undirected graphs, each edge is bidirectional": an arc leads back wherever one leads out
+-- Graphalytics, 2.3: "For undirected graphs, each edge is bidirectional": an arc leads back wherever one leads out
 abbrev pub Undirected : Graph → Type 0
 Undirected g = (u w : ℕ) → u < g.vertices → w < g.vertices → mem w (outward g u) ≡ true → mem u (outward g w) ≡ true

@@ -1,4 +1,4 @@
--- 02 K3: "The graph record gains a weight beside each arc": what a lent graph with weights is, and when it is sound: as a test that
+-- Change K3: "The graph record gains a weight beside each arc": what a lent graph with weights is, and when it is sound: as a test that
 -- computes, and clause by clause (laws `weighted-of` and `weighted-from`).
 use Rattle.std.specs.Prelude.{ℕ, ◌≤◌, ◌<◌, ◌≡◌, ◌↔◌, Bool, true, false, not, ◌&&◌, ◌||◌, List, [], ◌∷◌, length, get_or, eqb, leb, ltb}
 use Rattle.basis.specs.Limits.{most_weight}

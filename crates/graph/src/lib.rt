@@ -32,6 +32,7 @@ pub struct Lent<'a> {
 }
 
 // A lent graph, whether it is marked as weighted, and the weights beside its arcs each way.
+// Stays: `weighted` as a flag. A graph may be marked so and have no weights that count, so the mark is no `Option` of the areas.
 #[derive(Clone, Copy)]
 pub struct Weighed<'a> {
     pub graph: Lent<'a>,

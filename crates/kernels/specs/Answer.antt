@@ -1,4 +1,4 @@
--- 01 "The loaded graph" and "Kernels": what every kernel answers.
+-- The rules "The loaded graph" and "Kernels": what every kernel answers.
 use Rattle.std.specs.Prelude.{ℕ, Bool, Result, Ok, Err}
 use Rattle.basis.specs.declared.refusal.Refusal.{Refusal}
 use Rattle.basis.specs.Refusal.{Said, gives, refuses, unsound, no_room, check}
@@ -30,6 +30,6 @@ cdlp_number = 3
 abbrev pub lcc_number : ℕ
 lcc_number = 4
 
--- 02 K3: "It is kernel 5"
+-- Change K3: "It is kernel 5"
 abbrev pub sssp_number : ℕ
 sssp_number = 5

@@ -1,4 +1,4 @@
--- 01 "Kernels": "the fraction is in lowest terms by Euclid's rule".
+-- The rules "Kernels": "the fraction is in lowest terms by Euclid's rule".
 use Rattle.std.specs.Prelude.{◌≡◌, ℕ, zero, suc, ◌/◌, ◌%◌}
 use Rattle.std.specs.Int.{◌∣◌}
 use Rattle.lcc.specs.declared.ratio.Ratio.{Ratio}

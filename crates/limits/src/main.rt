@@ -44,6 +44,7 @@ fn run(rt: &impl Print, vertices: &[u8]) -> io::Result<()> {
 }
 
 // A load at limits above the library's, which count as the library's.
+// Stays: beside `run`, whose call has no limits and whose areas have other lengths.
 fn run_above(rt: &impl Print, vertices: &[u8]) -> io::Result<()> {
     let mut ids = [0i64; 1];
     let mut out_offsets = [0usize; 1];

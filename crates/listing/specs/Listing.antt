@@ -1,4 +1,4 @@
--- 01 "Layers, desk program, host call": the lines that the desk program prints, byte for byte.
+-- The rules "Layers, desk program, host call": the lines that the desk program prints, byte for byte.
 use Rattle.std.specs.Prelude.{ℕ, List, [], ◌∷◌, ◌++◌, ℤ}
 use Rattle.basis.specs.declared.refusal.Refusal.{Refusal}
 use Rattle.text.specs.Bytes.{bytes, lf, space}
@@ -16,7 +16,7 @@ refused_word = bytes "refused"
 unfoldable pub spaced_text : ℕ → List ℕ
 spaced_text n = space ∷ count_text n
 
--- "the three numbers, one space apart": number, file and line, with a space before each; 02 K2: "the desk program prints all four"
+-- "the three numbers, one space apart": number, file and line, with a space before each; change K2: "the desk program prints all four"
 unfoldable pub numbers_text : Refusal → List ℕ
 numbers_text r = spaced_text r.number ++ (spaced_text r.file ++ (spaced_text r.line ++ spaced_text r.column))
 

@@ -1,5 +1,5 @@
--- A file is accepted exactly where it has the form and order that 01 asks for, and refused exactly at its first fault, said of its bytes.
--- Assumes nothing.
+-- A file is accepted exactly where it has the form and order that the rules ask for, and refused exactly at its first fault, said of its
+-- bytes. Assumes nothing.
 use Prim.Native.Nat.{ℕ}
 use mathlib.Core.Path.{◌≡◌, refl, sym, ◌∙◌}
 use mathlib.Core.Logic.{◌↔◌}

@@ -98,42 +98,43 @@ module _ (most : ℕ) (s : List ℕ) (size : ℕ) (a : List ℤ) (e : a ≡ repl
 
 module _ (undirected : Bool) (most : ℕ) (place : ℤ → Option ℕ) (s : List ℕ) (sc st : ℕ) (a b : List ℕ) (ea : a ≡ replicate sc 0)
     (eb : b ≡ replicate st 0)
-    (x : Result ℕ Refusal) (c t : List ℕ) (told : edges_left x c t ≡ mapped (numbered_into place a b 0) (edges_of undirected most place s)) where
-  edges-lines : (n : ℕ) → x ≡ Ok n → edge_outcome (gives n) c t ≡ edge_call undirected most place s sc st
-  edges-lines n q =
-      let g = mapped-gives (numbered_into place a b 0) (edges_of undirected most place s) (n, c, t)
-      (ap (λ y. edges_left y c t) (sym q) ∙ told) in
-      let es = all_numbered place g.0 in
-      let k : n ≡ length g.0 = ap (λ (y : ℕ × List ℕ × List ℕ). y.0) g.2 ∙ zero-add (length es) ∙ length-numbered place g.0 in
-      let u : c ≡ bumps (replicate sc 0) es = ap (λ (y : ℕ × List ℕ × List ℕ). y.1) g.2 ∙ ap (λ (l : List ℕ). bumps l es) ea in
-      let v : t ≡ pad st (take st (seconds es)) =
-      ap (λ (y : ℕ × List ℕ × List ℕ). y.2) g.2 ∙ ap (λ (l : List ℕ). sets l 0 (seconds es)) eb ∙ put_front 0 st (seconds es) in
-      rw g.1 (edges-of k u v)
-    where
-      edges-of : {k m : ℕ} {c d t u : List ℕ} → k ≡ m → c ≡ d → t ≡ u → edge_outcome (gives k) c t ≡ edge_outcome (gives m) d u
-      edges-of p q r = cc
+    (x : Result ℕ Refusal) (c t : List ℕ) (told : edges_left x c t ≡ mapped (numbered_into place a b 0) (edges_of undirected most place s))
+  where
+    edges-lines : (n : ℕ) → x ≡ Ok n → edge_outcome (gives n) c t ≡ edge_call undirected most place s sc st
+    edges-lines n q =
+        let g = mapped-gives (numbered_into place a b 0) (edges_of undirected most place s) (n, c, t)
+        (ap (λ y. edges_left y c t) (sym q) ∙ told) in
+        let es = all_numbered place g.0 in
+        let k : n ≡ length g.0 = ap (λ (y : ℕ × List ℕ × List ℕ). y.0) g.2 ∙ zero-add (length es) ∙ length-numbered place g.0 in
+        let u : c ≡ bumps (replicate sc 0) es = ap (λ (y : ℕ × List ℕ × List ℕ). y.1) g.2 ∙ ap (λ (l : List ℕ). bumps l es) ea in
+        let v : t ≡ pad st (take st (seconds es)) =
+        ap (λ (y : ℕ × List ℕ × List ℕ). y.2) g.2 ∙ ap (λ (l : List ℕ). sets l 0 (seconds es)) eb ∙ put_front 0 st (seconds es) in
+        rw g.1 (edges-of k u v)
+      where
+        edges-of : {k m : ℕ} {c d t u : List ℕ} → k ≡ m → c ≡ d → t ≡ u → edge_outcome (gives k) c t ≡ edge_outcome (gives m) d u
+        edges-of p q r = cc
 
-  edges-zero : (r : Refusal) → x ≡ Err r → length c ≡ length a → length t ≡ length b → (d u : List ℕ)
-      → d ≡ replicate (length c) 0 → u ≡ replicate (length t) 0
-      → edge_outcome (refuses r) d u ≡ edge_call undirected most place s sc st
-  edges-zero r q kc kt d u ed eu =
-      rw (mapped-refuses (numbered_into place a b 0) (edges_of undirected most place s) r (ap (λ y. edges_left y c t) (sym q) ∙ told))
-      (ap₂ (λ (l m : List ℕ). edge_outcome (refuses r) l m) (ed ∙ again 0 sc a c ea kc) (eu ∙ again 0 st b t eb kt))
+    edges-zero : (r : Refusal) → x ≡ Err r → length c ≡ length a → length t ≡ length b → (d u : List ℕ)
+        → d ≡ replicate (length c) 0 → u ≡ replicate (length t) 0
+        → edge_outcome (refuses r) d u ≡ edge_call undirected most place s sc st
+    edges-zero r q kc kt d u ed eu =
+        rw (mapped-refuses (numbered_into place a b 0) (edges_of undirected most place s) r (ap (λ y. edges_left y c t) (sym q) ∙ told))
+        (ap₂ (λ (l m : List ℕ). edge_outcome (refuses r) l m) (ed ∙ again 0 sc a c ea kc) (eu ∙ again 0 st b t eb kt))
 
-  pub edges-kept : is_err x ≡ false → edge_outcome (said x) c t ≡ edge_call undirected most place s sc st
-  edges-kept h = go x refl h
-    where
-      go : (y : Result ℕ Refusal) → x ≡ y → is_err y ≡ false → edge_outcome (said y) c t ≡ edge_call undirected most place s sc st
-      go (Ok n) q h = edges-lines n q
-      go (Err r) q h = no-case cc
+    pub edges-kept : is_err x ≡ false → edge_outcome (said x) c t ≡ edge_call undirected most place s sc st
+    edges-kept h = go x refl h
+      where
+        go : (y : Result ℕ Refusal) → x ≡ y → is_err y ≡ false → edge_outcome (said y) c t ≡ edge_call undirected most place s sc st
+        go (Ok n) q h = edges-lines n q
+        go (Err r) q h = no-case cc
 
-  pub edges-cleared : is_err x ≡ true → length c ≡ length a → length t ≡ length b → (d u : List ℕ)
-      → d ≡ replicate (length c) 0 → u ≡ replicate (length t) 0 → edge_outcome (said x) d u ≡ edge_call undirected most place s sc st
-  edges-cleared h kc kt d u ed eu = go x refl h
-    where
-      go : (y : Result ℕ Refusal) → x ≡ y → is_err y ≡ true → edge_outcome (said y) d u ≡ edge_call undirected most place s sc st
-      go (Ok n) q h = no-case cc
-      go (Err r) q h = edges-zero r q kc kt d u ed eu
+    pub edges-cleared : is_err x ≡ true → length c ≡ length a → length t ≡ length b → (d u : List ℕ)
+        → d ≡ replicate (length c) 0 → u ≡ replicate (length t) 0 → edge_outcome (said x) d u ≡ edge_call undirected most place s sc st
+    edges-cleared h kc kt d u ed eu = go x refl h
+      where
+        go : (y : Result ℕ Refusal) → x ≡ y → is_err y ≡ true → edge_outcome (said y) d u ≡ edge_call undirected most place s sc st
+        go (Ok n) q h = no-case cc
+        go (Err r) q h = edges-zero r q kc kt d u ed eu
 
 pub stays-clear : (a e : List ℕ) → a ≡ replicate (length e) 0 → length a ≡ length e → a ≡ replicate (length a) 0
 stays-clear a e p q = p ∙ ap (λ (k : ℕ). replicate k 0) (sym q)

@@ -23,7 +23,8 @@ use Rattle.graph.specs.Arcs.{Arc}
 use Rattle.graph.specs.Find.{is_there}
 use Rattle.lists.specs.declared.Lines.{Lines}
 use Rattle.lists.specs.Files.{vertex_test, is_above, vertex_number, edge_test, numbered}
-use Rattle.lists.specs.Steps.{before_of, above_last, lines_at, counted, step_by, vertex_step, order_fault, looked_by, with_numbers, edge_step}
+use Rattle.lists.specs.Steps.{before_of, above_last, lines_at, counted, step_by}
+use Rattle.lists.specs.Steps.{vertex_step, order_fault, looked_by, with_numbers, edge_step}
 use Rattle.lists.proofs.Orders.{by_number, by_pair, above-vertex, above-edge}
 
 -- ---- one line more, by what is read at the reader's place

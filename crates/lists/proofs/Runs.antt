@@ -77,7 +77,8 @@ module _ {A : Type 0} (form : Form A) (file most : ℕ) (test : Before A → A �
             ∙ by (fault_of file most test c.passed (before_of c.last) v) h
           where
             by : (f : ℕ) → refuses r ≡ unless f file (c.passed + 1) (gave (Some v) (past v next))
-                → unless f file (c.passed + 1) (mapped (λ vs. v ∷ vs) (left form file most test s (c.passed + 1) (after v) next)) ≡ refuses r
+                → unless f file (c.passed + 1) (mapped (λ vs. v ∷ vs) (left form file most test s (c.passed + 1) (after v) next))
+                ≡ refuses r
             by zero h = no-case cc
             by (suc f) h = cc
 

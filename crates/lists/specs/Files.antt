@@ -1,4 +1,4 @@
--- 01 "Lists": the identifiers that a vertex file lists, and the edges that an edge file lists.
+-- The rules "Lists": the identifiers that a vertex file lists, and the edges that an edge file lists.
 use Rattle.std.specs.Prelude.{Option, Some, None, ℕ, Bool, true, cond, ◌&&◌, ◌||◌, List, [], ◌∷◌, ℤ}
 use Rattle.std.specs.Int.Signed.{lt_z}
 use Rattle.basis.specs.Refusal.{Said, not_above, self_edge, larger_first, unknown_vertex, vertex_file, edge_file}

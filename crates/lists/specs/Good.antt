@@ -1,5 +1,5 @@
--- 01 "Lists": the files that are accepted, said of their bytes and of the identifiers in them, with no word on how they are read; and the
--- arcs that an edge file lists.
+-- The rules "Lists": the files that are accepted, said of their bytes and of the identifiers in them, with no word on how they are read;
+-- and the arcs that an edge file lists.
 use Rattle.std.specs.Prelude.{ℕ, ◌≤◌, ◌≡◌, Bool, true, false, not, ◌&&◌, ◌||◌, List, [], ◌∷◌, ℤ, length}
 use Rattle.std.specs.Int.Signed.{lt_z}
 use Rattle.basis.specs.Order.{same_z, rising_by, rising_z}

@@ -14,6 +14,7 @@ use graph::find::find;
 use text::line::Cursor;
 
 // The number of the fault of an edge in its order; its vertices are not looked up yet.
+// Stays: `undirected` as a flag, here and below. It says what the file's edges are, as the definitions do, and is tested here alone.
 fn order_fault(undirected: bool, last: Option<(i64, i64)>, edge: (i64, i64)) -> Option<usize>
     ensures { result ≡ order_fault undirected (before_of last) edge }
 {

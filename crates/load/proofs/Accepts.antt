@@ -1,4 +1,4 @@
--- A load is accepted exactly when both files have the form and order that 01 asks for and the areas have room. Assumes nothing.
+-- A load is accepted exactly when both files have the form and order that the rules ask for and the areas have room. Assumes nothing.
 use Prim.Native.Nat.{ℕ}
 use mathlib.Core.Path.{◌≡◌, sym, subst, ◌∙◌}
 use mathlib.Core.Logic.{◌↔◌}
@@ -80,6 +80,6 @@ module _ (limits : Limits) (mode : ℕ) (room : Room) (vertices edges : List ℕ
         ← l.arcs_are,
       )
 
-  -- a load is accepted exactly where both files have the form and order that 01 asks for, and there is room
+  -- a load is accepted exactly where both files have the form and order that the rules ask for, and there is room
   pub load-accepted : (loaded limits mode room vertices edges ≡ gives g) ↔ GoodLoad limits mode room vertices edges g
   load-accepted = (load-good, good-load)

@@ -1,4 +1,4 @@
--- Loads by computation: the sheet's graph of 01, a small undirected one, and some that are refused.
+-- Loads by computation: the sheet's graph of the rules, a small undirected one, and some that are refused.
 use mathlib.Core.Path.{◌≡◌, refl}
 use mathlib.Core.List.{List, [], ◌∷◌}
 use Prim.Native.Nat.{ℕ}

@@ -116,7 +116,7 @@ module _ (limits : Limits) (mode : ℕ) (room : Room) (vertices edges : List ℕ
         e,
       )
 
-  -- a load is refused exactly by the first check that fails, in the order of 01
+  -- a load is refused exactly by the first check that fails, in the order of the rules
   pub load-refused : (loaded limits mode room vertices edges ≡ refuses r) ↔ RefusedLoad limits mode room vertices edges r
   unfolding loaded
   load-refused = (λ h. refused_why (leb mode 1) refl h, why-refused)

@@ -1,5 +1,5 @@
--- 01 "Lists": the files that a load accepts, and why it refuses others, said of their bytes and of the identifiers in them, with no word on
--- how they are read.
+-- The rules "Lists": the files that a load accepts, and why it refuses others, said of their bytes and of the identifiers in them, with no
+-- word on how they are read.
 use Rattle.std.specs.Prelude.{ℕ, ◌≤◌, ◌<◌, ◌≡◌, true, false, List, ℤ, length}
 use Rattle.basis.specs.declared.refusal.Refusal.{Refusal}
 use Rattle.basis.specs.Refusal.{plain, no_room, unknown_number, vertex_file, edge_file}

@@ -1,4 +1,4 @@
--- 01 "Lists", "The loaded graph": what a load answers, and what stands in the five areas then.
+-- The rules "Lists", "The loaded graph": what a load answers, and what stands in the five areas then.
 use Rattle.std.specs.Prelude.{ℕ, ◌+◌, min, Bool, ◌&&◌, List, ℤ, pos, length, eqb, leb, ltb}
 use Rattle.basis.specs.Refusal.{Said, gives, no_room, unknown_number, onward, mapped, check}
 use Rattle.basis.specs.Area.{area_of}

@@ -8,13 +8,15 @@ use crate::Limits;
 use basis::Refusal;
 use basis::area::copy;
 use basis::refusal::{NO_ROOM, UNKNOWN_NUMBER};
-use graph::Size;
+use graph::{Size, Way};
 use lists::edges::read_edges;
 use lists::vertices::read_vertices;
+use store::HeldEdges;
 use store::spread::{lacks, spread};
 use store::sums::sum_up;
 
 // The edges of a file: stored by their first ends in one pair of areas as they are read, and their arcs the other way in the other pair.
+// Stays: `undirected` as a flag, here and below. It says what the file's edges are, as the definitions do.
 fn arrange(
     s: &[u8],
     most: usize,
@@ -36,7 +38,13 @@ fn arrange(
         return Err(Refusal::plain(NO_ROOM));
     }
     sum_up(offsets, n + 1);
-    spread(back, sources, offsets, targets, undirected, n);
+    let way = Way { offsets, targets };
+    let edges = HeldEdges {
+        way,
+        vertices: n,
+        undirected,
+    };
+    spread(back, sources, edges);
     Ok(m)
 }
 

@@ -1,4 +1,4 @@
--- What is said of a claim, on its bytes: each answer exactly where the bytes are of its kind, by any of 000's three methods.
+-- What is said of a claim, on its bytes: each answer exactly where the bytes are of its kind, by any of Graphalytics' three methods.
 -- Assumes nothing.
 use Rattle.std.specs.Prelude.{Option}
 use mathlib.Core.Path.{◌≡◌, refl, sym, ap, ◌∙◌, subst}
@@ -182,7 +182,7 @@ module _ {A : Type 0} (form : Form A) (R : RightStop form) (z : A) (most : ℕ) 
         );
       }
 
--- ---- 000's three methods, beside reference outputs of one value for each vertex
+-- ---- Graphalytics' three methods, beside reference outputs of one value for each vertex
 module _ (most : ℕ) (ids : List ℤ) (rises : rising_z ids ≡ true) where
   -- "Exact match"
   pub exact-judged : (reference : List ℤ) → length reference ≡ length ids → (s : List ℕ)

@@ -1,4 +1,4 @@
--- What the verdicts mean: a complete claim is accepted exactly when it matches, by 000's rule, at every vertex. Assumes nothing.
+-- What the verdicts mean: a complete claim is accepted exactly when it matches, by Graphalytics' rule, at every vertex. Assumes nothing.
 use Rattle.std.specs.Prelude.{Some}
 use mathlib.Core.Path.{◌≡◌, refl, sym, ap, ap₂, ◌∙◌, subst}
 use mathlib.Core.Bool.{Bool, true, false, cond, beq, ◌&&◌}

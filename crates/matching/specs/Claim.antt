@@ -1,4 +1,4 @@
--- 01 "Claims and verdicts": the lines of a claim. "All lines are read for 1, 2 and 3 first".
+-- The rules "Claims and verdicts": the lines of a claim. "All lines are read for 1, 2 and 3 first".
 use Rattle.std.specs.Prelude.{ℕ, List, [], ◌∷◌, ℤ}
 use Rattle.basis.specs.Refusal.{Said, claim_file}
 use Rattle.text.specs.Line.{LineSaid, claim_line, coefficient_line}

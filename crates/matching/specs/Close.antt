@@ -1,4 +1,4 @@
--- 000, 2.4, "Epsilon match", and 01 "Claims and verdicts": when a decimal matches a fraction, over their exact values.
+-- Graphalytics, 2.4, "Epsilon match", and the rules "Claims and verdicts": when a decimal matches a fraction, over their exact values.
 use Rattle.std.specs.Prelude.{ℕ, ◌+◌, ◌-◌, ◌*◌, ◌^◌, Bool, leb}
 use Rattle.text.specs.declared.decimal.Decimal.{Decimal}
 

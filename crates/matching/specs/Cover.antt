@@ -1,4 +1,4 @@
--- 02 "Claims in any order": which line of a claim is a vertex's, and whether its lines name "each vertex exactly once".
+-- Change K7 "Claims in any order": which line of a claim is a vertex's, and whether its lines name "each vertex exactly once".
 use Rattle.std.specs.Prelude.{ℕ, zero, suc, ◌+◌, Bool, false, not, cond, List, [], ◌∷◌, ℤ, pos, length, get_or, take, eqb}
 use Rattle.std.specs.Prelude.{Option, Some, None}
 use Rattle.basis.specs.Area.{column}

@@ -1,5 +1,5 @@
--- 01 "Claims and verdicts" and 02 "Claims in any order": when a claim is complete, when its values match, and where they first do not, with
--- no word on how they are judged; at the end 01's rule as it was before 02's, beside which it is held.
+-- The rules "Claims and verdicts" and change K7 "Claims in any order": when a claim is complete, when its values match, and where they
+-- first do not, with no word on how they are judged; at the end the rule for claims as it was before change K7, beside which it is held.
 use Rattle.std.specs.Prelude.{ℕ, suc, ◌≤◌, ◌<◌, ◌≡◌, Bool, true, false, ◌↔◌, ◌⊎◌, List, [], ℤ, pos, length, get_or}
 use Rattle.basis.specs.declared.refusal.Refusal.{Refusal}
 use Rattle.basis.specs.Refusal.{Said, gives, refuses, claim_file}
@@ -32,7 +32,7 @@ pub data Differs {A B : Type 0} (alike : A → B → Bool) (x : A) (y : B) (xs :
 abbrev pub EqualWhere : ℕ → (ℕ → ℕ → Type 0) → List ℤ → Type 0
 EqualWhere n Together claims = (i j : ℕ) → i < n → j < n → (get_or claims i (pos 0) ≡ get_or claims j (pos 0)) ↔ Together i j
 
--- 000 "Equivalence match": "a two-way mapping should exists that maps the system's output to be identical to reference output",
+-- Graphalytics "Equivalence match": "a two-way mapping should exists that maps the system's output to be identical to reference output",
 -- and its inverse
 pub record TwoWay (reference output : List ℤ) : Type 0 where
   pub there : ℤ → ℤ
@@ -130,8 +130,8 @@ pub record Shuffled (s t : List ℕ) : Type 0 where
   pub unbroken : (i : ℕ) → i < length lines → mem lf (get_or lines i []) ≡ false
   pub order : Reordered [] lines others
 
--- 01's rule for a claim "in vertex order", which 02's stands "in place of": "the first line whose identifier isn't the graph's at that
--- place, or the first missing or surplus line"; then "a mismatch at its first line"
+-- the rule for a claim "in vertex order", which that of change K7 stands "in place of": "the first line whose identifier isn't the graph's
+-- at that place, or the first missing or surplus line"; then "a mismatch at its first line"
 abbrev pub line_by_line : {A : Type 0} → List ℤ → (List A → ℕ) → Said (List (ℤ × A)) → Said Verdict
 line_by_line ids mismatch (gives l) = gives (verdict_of (first_place same_z 1 ids (ids_of l)) (mismatch (claimed_of l)))
 line_by_line ids mismatch (refuses r) = refuses r

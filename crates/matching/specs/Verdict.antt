@@ -1,4 +1,5 @@
--- 01 "Claims and verdicts", 02 "Claims in any order" and 000, 2.4: what a claim's lines are worth beside a reference output.
+-- The rules "Claims and verdicts", change K7 "Claims in any order" and Graphalytics, 2.4: what a claim's lines are worth beside a reference
+-- output.
 use Rattle.std.specs.Prelude.{ℕ, zero, suc, ◌+◌, Bool, cond, List, [], ◌∷◌, ℤ, pos, length, get_or, Result, Ok, Err, Option}
 use Rattle.std.specs.Bool.{beq}
 use Rattle.basis.specs.Refusal.{Said, gives, refuses, claim_file}
@@ -51,12 +52,12 @@ first_place alike k [] (y ∷ ys) = k
 first_place alike k (x ∷ xs) [] = k
 first_place alike k (x ∷ xs) (y ∷ ys) = cond (alike x y) (first_place alike (k + 1) xs ys) k
 
--- 000 "Exact match": "the vertex values of the system's output should be identical to the reference output";
+-- Graphalytics "Exact match": "the vertex values of the system's output should be identical to the reference output";
 -- the first vertex, counted from 1, of which they are not
 abbrev pub unequal_vertex : List ℤ → List ℤ → ℕ
 unequal_vertex reference claimed = first_place same_z 1 reference claimed
 
--- 000 "Equivalence match": two vertices agree in kind, "all vertices which have the same label in the system's output
+-- Graphalytics "Equivalence match": two vertices agree in kind, "all vertices which have the same label in the system's output
 -- also have the same label in the reference output, and vice versa"
 unfoldable pub same_kind : List ℤ → List ℤ → ℕ → ℕ → Bool
 same_kind labels claims i j =
@@ -74,7 +75,7 @@ unlike_vertex labels claims = failing_place (agrees labels claims) (length label
 abbrev pub Fraction : Type 0
 Fraction = ℕ × ℕ
 
--- 000 "Epsilon match", as 01 has it: "10,000 times |r-s| at most r"
+-- Graphalytics "Epsilon match", as the rules have it: "10,000 times |r-s| at most r"
 abbrev pub near : Fraction → Decimal → Bool
 near r s = is_close r.0 r.1 s
 

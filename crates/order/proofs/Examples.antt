@@ -1,4 +1,4 @@
--- A shift worked in two orders: heads and walks that differ, and the answers that agree (02 K11). Assumes nothing.
+-- A shift worked in two orders: heads and walks that differ, and the answers that agree (change K11). Assumes nothing.
 use mathlib.Core.Path.{◌≡◌, refl, ap}
 use mathlib.Core.List.Memᴰ
 use mathlib.Core.List.{List, [], ◌∷◌, Memᴰ}

@@ -1,4 +1,4 @@
--- 02 K11: the order of entry changes no group, and no further call separates two of one group. Both follow from demand 3.
+-- Change K11: the order of entry changes no group, and no further call separates two of one group. Both follow from demand 3.
 -- Assumes nothing.
 use mathlib.Core.Path.{◌≡◌, refl, sym, ap, ◌∙◌, subst}
 use mathlib.Core.List.Memᴰ

@@ -1,4 +1,4 @@
--- 02 K11, "Entry order of a shift": "Two clerks enter the same slips in different orders, and the lists must agree."
+-- Change K11, "Entry order of a shift": "Two clerks enter the same slips in different orders, and the lists must agree."
 use Rattle.std.specs.Prelude.{◌≡◌, List, ◌∷◌, true, ◌⊎◌, ◌↔◌, ℕ, ◌≤◌, ℤ, length}
 use Rattle.basis.specs.Limits.{most_vertices}
 use Rattle.basis.specs.Refusal.{gives}

@@ -1,4 +1,4 @@
--- 01 "Layers, desk program, host call": the sheets that the check accepts, said of their bytes, with no word on how they are read.
+-- The rules "Layers, desk program, host call": the sheets that the check accepts, said of their bytes, with no word on how they are read.
 use Rattle.std.specs.Prelude.{ℕ, ◌+◌, ◌≤◌, ◌≡◌, Bool, true, false, List, ◌∷◌, ◌++◌, length}
 use Rattle.basis.specs.Limits.{desk_vertices, desk_edges}
 use Rattle.text.specs.Word.{Word, value, count_of}

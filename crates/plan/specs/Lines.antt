@@ -1,4 +1,4 @@
--- 01 "Layers, desk program, host call": the lines of a sheet.
+-- The rules "Layers, desk program, host call": the lines of a sheet.
 use Rattle.std.specs.Prelude.{ℕ, suc, ◌+◌, Bool, true, false, ◌&&◌, List, [], ◌∷◌, take, eqb}
 use Rattle.basis.specs.Refusal.{Said, gives, refuses, at, bad_form, sheet_file}
 use Rattle.basis.specs.declared.refusal.Refusal.{Refusal}
@@ -15,7 +15,7 @@ lfs (b ∷ l) = elim (eqb b lf) [ true ↦ suc (lfs l) | false ↦ lfs l ]
 abbrev pub line_number : List ℕ → ℕ → ℕ
 line_number s place = 1 + lfs (take place s)
 
--- "line by line, with file 4"; 02 K2: "the column is 0 except for refusal 2 of a vertex, edge or claim line"
+-- "line by line, with file 4"; change K2: "the column is 0 except for refusal 2 of a vertex, edge or claim line"
 abbrev pub sheet_fault : List ℕ → ℕ → ℕ → Refusal
 sheet_fault s place number = at number sheet_file (line_number s place)
 

@@ -26,6 +26,7 @@ pub struct Block {
 }
 
 // Whether the graph is directed, and where the three sections stand.
+// Stays: `directed` as a flag. It is what the first line says, and the load takes it as the number of its mode.
 #[derive(Clone, Copy, Debug, PartialEq, Eq)]
 pub struct Plan {
     pub directed: bool,

@@ -35,7 +35,7 @@ use Rattle.listing.specs.Listing.{pair_text, fraction_text, ratio_text, pair_lin
 use Rattle.sheet.specs.Desk.{plan_text, desk_output}
 use Rattle.sheet.specs.Jobs.{bfs_text, wcc_text, cdlp_text, lcc_text, jobs_text}
 
--- 01's sheet
+-- The rules' sheet
 abbrev paper_sheet : List ℕ
 paper_sheet = bytes "directed\n5\n-3\n2\n5\n9\n20\n5\n2 5\n2 9\n5 2\n5 9\n9 20\n4\nbfs 2\nwcc\ncdlp 2\nlcc\n"
 

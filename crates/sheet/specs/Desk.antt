@@ -1,4 +1,4 @@
--- 01 "Layers, desk program, host call": the whole output of the desk program for the bytes of a sheet.
+-- The rules "Layers, desk program, host call": the whole output of the desk program for the bytes of a sheet.
 use Rattle.std.specs.Prelude.{ℕ, ◌+◌, ◌*◌, Bool, cond, List, ℤ, take}
 use Rattle.basis.specs.Refusal.{Said, gives, refuses}
 use Rattle.basis.specs.Area.{between}

@@ -1,4 +1,4 @@
--- 01 "Layers, desk program, host call": what a job prints.
+-- The rules "Layers, desk program, host call": what a job prints.
 use Rattle.std.specs.Prelude.{ℕ, zero, suc, List, [], ◌++◌, ℤ, pos, replicate}
 use Rattle.basis.specs.Refusal.{Said, gives, refuses}
 use Rattle.basis.specs.Area.{between}

@@ -1,5 +1,5 @@
--- SSSP on the sheet's graph of 01 with weights 4 and 10 from its second vertex, 4 and 3 from the third and 0 from the fourth, computed
--- through the call; and each refusal. Assumes nothing.
+-- SSSP on the sheet's graph of the rules with weights 4 and 10 from its second vertex, 4 and 3 from the third and 0 from the fourth,
+-- computed through the call; and each refusal. Assumes nothing.
 use Prim.Native.Nat.{ℕ}
 use mathlib.Core.Path.{◌≡◌, refl}
 use mathlib.Core.Bool.{true, false}

@@ -1,4 +1,4 @@
--- 02 K3: what the SSSP call answers, and what it leaves in the areas lent for writing.
+-- Change K3: what the SSSP call answers, and what it leaves in the areas lent for writing.
 use Rattle.std.specs.Prelude.{ℕ, Bool, ◌&&◌, Option, Some, None, List, [], ℤ, pos, length, leb}
 use Rattle.basis.specs.Refusal.{Said, gives, refuses, plain, check, no_room, unsound, not_there, unweighted}
 use Rattle.basis.specs.Area.{leaves, cleared, cleared_z}

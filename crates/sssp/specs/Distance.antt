@@ -1,4 +1,4 @@
--- 02 K3: "Shortest weighted routes": the least sums of weights over walks along outgoing arcs, in whole millionths.
+-- Change K3: "Shortest weighted routes": the least sums of weights over walks along outgoing arcs, in whole millionths.
 use Rattle.std.specs.Prelude.{ℕ, zero, suc, ◌+◌, min, cond, List, [], ◌∷◌, ℤ, pos, get_or, eqb}
 use Rattle.basis.specs.Area.{infinity, column}
 use Rattle.graph.specs.Weights.{Leg}

@@ -1,4 +1,4 @@
--- What a distance is, and what a call of the kernel means, apart from how it is computed: 02 K3.
+-- What a distance is, and what a call of the kernel means, apart from how it is computed: change K3.
 use Rattle.std.specs.Prelude.{ℕ, zero, suc, ◌+◌, ◌*◌, ◌≤◌, ◌<◌, ◌≡◌, ◌↔◌, true, false, List, ℤ, pos, length, get_or}
 use Rattle.basis.specs.Refusal.{gives, unsound, unweighted, not_there, no_room}
 use Rattle.basis.specs.Area.{infinity, unreachable, cleared}

@@ -12,6 +12,7 @@ use graph::Way;
 use graph::part::part;
 
 // The edges that one way of a graph holds: how many vertices it has, and whether each edge stands for two arcs.
+// Stays: `undirected` as a flag, here and in `spread` and `weigh`. It says what the edges are, as the definitions do, and no step to run.
 #[derive(Clone, Copy)]
 pub struct HeldEdges<'a> {
     pub way: Way<'a>,

@@ -41,7 +41,7 @@ vertex-lines =
       past_the_end = refl;
     }
 
--- 02 K2, where in the line: of vertex lines, edge lines, claim lines of their form, and lines of an LCC claim
+-- Change K2, where in the line: of vertex lines, edge lines, claim lines of their form, and lines of an LCC claim
 pub record WhereInLine : Type 0 where
   pub empty-line : vertex_line (bytes "\n") 0 ≡ fault 2 1 0
   pub file-ends : vertex_line (bytes "12") 0 ≡ fault 2 3 0
@@ -130,7 +130,7 @@ pub record CoefficientLines : Type 0 where
   pub whole : coefficient_line (bytes "2 1\n") 0 ≡ line (pos 2, decimal 1 0 0) 4
   pub scientific : coefficient_line (bytes "-3 3.25e-01\n") 0 ≡ line (negsuc 2, decimal 325 0 3) 12
   pub large : coefficient_line (bytes "7 1e+02\n") 0 ≡ line (pos 7, decimal 1 2 0) 8
-  -- 000's own example "2.476533217845853e-08", and the largest number of 17 digits
+  -- Graphalytics' own example "2.476533217845853e-08", and the largest number of 17 digits
   pub sixteen : coefficient_line (bytes "7 2.476533217845853e-08\n") 0 ≡ line (pos 7, decimal 2476533217845853 0 23) 24
   pub seventeen : coefficient_line (bytes "7 99999999999999999e+99\n") 0 ≡ line (pos 7, decimal 99999999999999999 99 0) 24
   pub seventeen-with-zero : coefficient_line (bytes "7 0.1234567890123456\n") 0 ≡ line (pos 7, decimal 1234567890123456 0 16) 21

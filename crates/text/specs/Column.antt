@@ -1,5 +1,5 @@
--- 02 K2 "Say where in the line": what the column of a refused line means, said of good lines as byte strings, with no word on how they are
--- read.
+-- Change K2 "Say where in the line": what the column of a refused line means, said of good lines as byte strings, with no word on how they
+-- are read.
 use Rattle.std.specs.Prelude.{ℕ, ◌-◌, ◌<◌, ◌≡◌, ◌↔◌, ◌⊎◌, Bool, true, false, cond, List, [], ◌∷◌, ◌++◌, length, take, drop}
 use Rattle.basis.specs.Refusal.{bad_form}
 use Rattle.basis.specs.Scan.{mem}
@@ -65,7 +65,7 @@ pub record TellsColumn {A : Type 0} (Right : List ℕ → Type 0) (read : List �
 abbrev pub PlainEdge : List ℕ → Type 0
 PlainEdge = TwoWords (Formed ident_of) (Formed ident_of)
 
--- 02 K3: "Edge lines may carry a third field, a weight"
+-- Change K3: "Edge lines may carry a third field, a weight"
 abbrev pub WeighedEdge : List ℕ → Type 0
 WeighedEdge = TwoWords (Formed ident_of) (TwoWords (Formed ident_of) IsWeight)
 

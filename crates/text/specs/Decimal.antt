@@ -1,11 +1,11 @@
--- 01 "Claims and verdicts": "a plain or scientific decimal: `0` or digits without a leading zero, optionally `.` and at least one digit,
--- optionally `e`, a sign and two digits. It has no minus before it".
+-- The rules "Claims and verdicts": "a plain or scientific decimal: `0` or digits without a leading zero, optionally `.` and at least one
+-- digit, optionally `e`, a sign and two digits. It has no minus before it".
 use Rattle.std.specs.Prelude.{ℕ, ◌+◌, ◌-◌, ◌*◌, List, Bool, cond, ◌&&◌, ◌||◌, length, get_or, drop, ltb, leb, eqb}
 use Rattle.text.specs.Bytes.{zero_digit, plus_sign, minus_sign, point_mark, power_mark}
 use Rattle.text.specs.Word.{Word, malformed, value, is_digit, run_len, run_val}
 use Rattle.text.specs.declared.decimal.Decimal.{Decimal}
 
--- 02 K1: "Admit up to 17 digits before any `e`, so that usual double-precision output passes."
+-- Change K1: "Admit up to 17 digits before any `e`, so that usual double-precision output passes."
 abbrev pub digit_limit : ℕ
 digit_limit = 17
 

@@ -1,4 +1,4 @@
--- 02 K3: "a claim, written in the coefficients' decimal form, matches within one part in ten thousand, or as `infinity` exactly where
+-- Change K3: "a claim, written in the coefficients' decimal form, matches within one part in ten thousand, or as `infinity` exactly where
 -- unreachable": the bytes of a claimed distance, and a line of such a claim.
 use Rattle.std.specs.Prelude.{ℕ, suc, ◌+◌, List, [], ◌∷◌, Bool, true, false, cond, ◌&&◌, get_or, eqb, ℤ, Option, Result}
 use Rattle.text.specs.Bytes.{bytes, lf}

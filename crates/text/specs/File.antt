@@ -1,4 +1,4 @@
--- 01 "Lists", "Claims and verdicts": a file line by line. "The first fault met is the answer."
+-- The rules "Lists", "Claims and verdicts": a file line by line. "The first fault met is the answer."
 use Rattle.std.specs.Prelude.{ℕ, zero, suc, ◌+◌, ◌≤◌, ◌<◌, ◌≡◌, true, false, cond, List, [], ◌∷◌, ◌++◌, length, leb}
 use Rattle.basis.specs.declared.refusal.Refusal.{Refusal}
 use Rattle.basis.specs.Refusal.{Said, gives, refuses, at_column, at, too_many, bad_form, out_of_range, mapped}

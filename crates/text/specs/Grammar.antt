@@ -1,4 +1,4 @@
--- 01 "Claims and verdicts": a decimal as a grammar, its bytes by its parts, with no word on how they are scanned.
+-- The rules "Claims and verdicts": a decimal as a grammar, its bytes by its parts, with no word on how they are scanned.
 use Rattle.std.specs.Prelude.{ℕ, ◌+◌, ◌^◌, ◌≤◌, ◌<◌, ◌≡◌, Bool, true, List, [], ◌∷◌, ◌++◌, length}
 use Rattle.basis.specs.Scan.{each}
 use Rattle.text.specs.Bytes.{zero_digit, one_digit, nine_digit, minus_sign, plus_sign, point_mark, power_mark}
@@ -67,7 +67,7 @@ abbrev pub leads_well : WholePart → Bool
 leads_well nought = true
 leads_well (number b bs) = within one_digit nine_digit b
 
--- what the parts must be: digits where digits stand, no leading zero, 02 K1 "up to 17 digits before any `e`"
+-- what the parts must be: digits where digits stand, no leading zero, change K1 "up to 17 digits before any `e`"
 pub record GoodParts (p : Parts) : Type 0 where
   pub leading : leads_well p.whole ≡ true
   pub wholes : each is_digit (whole_digits p.whole) ≡ true
@@ -103,7 +103,7 @@ pub record DecimalForm (s : List ℕ) (d : Decimal) : Type 0 where
   pub bytes : s ≡ part_bytes parts
   pub says : d ≡ parts_say parts
 
--- how large a decimal's numbers can be: 02 K1 "up to 17 digits before any `e`", one of them at least before the point, and "two digits"
+-- how large a decimal's numbers can be: change K1 "up to 17 digits before any `e`", one of them at least before the point, and "two digits"
 -- in its power
 pub record SmallDecimal (d : Decimal) : Type 0 where
   pub mantissa : d.digits < 10 ^ digit_limit

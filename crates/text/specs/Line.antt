@@ -1,4 +1,4 @@
--- 01 "Lists", "Claims and verdicts": the lines of a file, on the bytes from a place on.
+-- The rules "Lists", "Claims and verdicts": the lines of a file, on the bytes from a place on.
 use Rattle.std.specs.Prelude.{ℕ, ◌+◌, List, [], ◌∷◌, true, false, cond, ◌&&◌, length, drop, leb, eqb, ℤ}
 use Rattle.std.specs.Prelude.{Option, None, Some, Result, Ok, Err}
 use Rattle.basis.specs.Refusal.{bad_form, out_of_range}
@@ -33,11 +33,12 @@ pub record Form (A : Type 0) : Type 0 where
   pub word : List ℕ → Word A
   pub stop : List ℕ → ℕ
 
--- 02 K2: "the column, from 1, of the first byte at which no good line could go on; the end of the line or file counts as the next column"
+-- Change K2: "the column, from 1, of the first byte at which no good line could go on; the end of the line or file counts as the next
+-- column"
 abbrev pub column_in : {A : Type 0} → Form A → List ℕ → ℕ → ℕ
 column_in form s at = form.stop (up_to lf (drop at s)) + 1
 
--- a line that began at `at` and ends before `next`, by what its bytes say; 02 K2: "the column is 0 except for refusal 2"
+-- a line that began at `at` and ends before `next`, by what its bytes say; change K2: "the column is 0 except for refusal 2"
 abbrev pub line_says : {A : Type 0} → ℕ → ℕ → ℕ → Word A → LineSaid A
 line_says at next column malformed = fault bad_form column at
 line_says at next column outside = fault out_of_range 0 at

@@ -1,4 +1,4 @@
--- 02 K3: "Edge lines may carry a third field, a weight"; "A file has weights on all lines or none".
+-- Change K3: "Edge lines may carry a third field, a weight"; "A file has weights on all lines or none".
 use Rattle.std.specs.Prelude.{ℕ, List, Bool, true, false, eqb, ℤ, Option, None, Some, Result, Ok, Err}
 use Rattle.basis.specs.Refusal.{bad_form}
 use Rattle.text.specs.Word.{Word, malformed, outside, value}

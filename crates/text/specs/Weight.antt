@@ -1,5 +1,5 @@
--- 02 K3: "a weight: `0` or digits without a leading zero, optionally `.` and one to six digits, no sign, from 0 to 100000"; "Weights are
--- held as whole millionths".
+-- Change K3: "a weight: `0` or digits without a leading zero, optionally `.` and one to six digits, no sign, from 0 to 100000"; "Weights
+-- are held as whole millionths".
 use Rattle.std.specs.Prelude.{
   ℕ,
   suc,

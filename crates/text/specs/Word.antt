@@ -1,4 +1,4 @@
--- 01 "Lists": what a word, the bytes of a whole field, says.
+-- The rules "Lists": what a word, the bytes of a whole field, says.
 use Rattle.std.specs.Prelude.{ℕ, ◌+◌, ◌-◌, ◌*◌, ◌^◌, List, [], ◌∷◌, Bool, true, false, cond, ◌&&◌, leb, eqb, ℤ, pos, neg_ℤ}
 use Rattle.basis.specs.Scan.{each}
 use Rattle.text.specs.Bytes.{zero_digit, one_digit, nine_digit, minus_sign}

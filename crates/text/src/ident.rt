@@ -5,6 +5,7 @@ ghost use Rattle.text.specs.Scan.{count_at, ranged_at, signed_at, ident_at, fiel
 use crate::count::{MINUS, Scan, ZERO, count, has};
 
 // A number with its sign, that ends before the place `next`; no value where it is outside the range of i64.
+// Stays: `negative` as a flag, here and below. It is the sign of the number, and no step to run.
 fn ranged(n: u64, next: usize, negative: bool) -> Scan<Option<i64>>
     ensures { ranged_says result ≡ ranged_at negative n next }
 {

@@ -21,7 +21,7 @@ module _ (r : Refusal) (s : Small wide r) where
   pub line-back : line_in (placed r) ≡ r.line
   line-back = omega arith
 
--- so two refusals that have one code differ in their columns alone: 02 K2, "The host call keeps its number without the column"
+-- so two refusals that have one code differ in their columns alone: change K2, "The host call keeps its number without the column"
 pub placed_one : (r s : Refusal) → Small wide r → Small wide s → placed r ≡ placed s → r.column ≡ s.column → r ≡ s
 placed_one r s p q e c =
     let n : r.number ≡ s.number = sym (number-back r p) ∙ ap number_in e ∙ number-back s q in

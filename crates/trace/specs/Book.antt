@@ -1,4 +1,4 @@
--- 01 "The group book": the seven calls, their answers as numbers.
+-- The rules "The group book": the seven calls, their answers as numbers.
 use Rattle.std.specs.Prelude.{ℕ, ◌+◌, ◌*◌, Bool, List, ℤ}
 use Rattle.basis.specs.Scan.{bit}
 use Rattle.book.specs.Rules.{WalkEnd, Joining, merged, same, Outcome}

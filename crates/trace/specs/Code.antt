@@ -48,7 +48,7 @@ host_file_in code = code / 100000 % 10
 abbrev pub host_line_in : ℕ → ℕ
 host_line_in code = code % 100000
 
--- what can be taken out of a number again: 01 has numbers up to 21, files up to 4, and lines that have room below the file
+-- what can be taken out of a number again: the rules have numbers up to 21, files up to 4, and lines that have room below the file
 pub record Small (room : ℕ) (r : Refusal) : Type 0 where
   pub number : r.number ≤ 21
   pub file : r.file ≤ 4

@@ -1,4 +1,5 @@
--- 01 "Layers, desk program, host call": "A C or Rust host calls the verdict with byte slices for the two lists and the claim, and numbers".
+-- The rules "Layers, desk program, host call": "A C or Rust host calls the verdict with byte slices for the two lists and the claim, and
+-- numbers".
 use Rattle.std.specs.Prelude.{ℕ, Bool, cond, ◌&&◌, List, ℤ, length, eqb, leb}
 use Rattle.basis.specs.Limits.{desk_vertices}
 use Rattle.basis.specs.Refusal.{Said, unknown_number, onward, mapped, check}

@@ -1,4 +1,4 @@
--- 01 "Kernels": the four kernels on a lent graph, their answers as numbers, 0 where the results stand in the areas.
+-- The rules "Kernels": the four kernels on a lent graph, their answers as numbers, 0 where the results stand in the areas.
 use Rattle.std.specs.Prelude.{ℕ, List, ℤ}
 use Rattle.graph.specs.declared.Size.{Size}
 use Rattle.bfs.specs.Call as Bfs

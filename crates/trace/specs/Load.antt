@@ -1,4 +1,4 @@
--- 01 "Lists": the load at library limits, its answer as a number.
+-- The rules "Lists": the load at library limits, its answer as a number.
 use Rattle.std.specs.Prelude.{ℕ, ◌+◌, ◌*◌, List, ℤ}
 use Rattle.graph.specs.declared.Size.{Size}
 use Rattle.load.specs.Load.{Outcome}

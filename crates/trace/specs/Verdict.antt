@@ -1,4 +1,4 @@
--- 01 "Claims and verdicts": the verdict on a lent graph at library limits, as a number.
+-- The rules "Claims and verdicts": the verdict on a lent graph at library limits, as a number.
 use Rattle.std.specs.Prelude.{ℕ, List, ℤ}
 use Rattle.basis.specs.declared.refusal.Refusal.{Refusal}
 use Rattle.basis.specs.Refusal.{Said, gives, refuses, at}

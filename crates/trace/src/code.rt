@@ -33,6 +33,7 @@ pub(crate) fn refusal_code(r: Refusal) -> u64
 }
 
 // The host call's number of a verdict or refusal, in which lines have less room.
+// Stays: beside `refusal_code`, since each is one line and a constant for the room would need a bound of its own.
 pub(crate) fn host_code(r: Refusal) -> u64
     requires { Small narrow r }
     ensures { result ≡ host_code r }

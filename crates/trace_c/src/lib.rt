@@ -1,5 +1,6 @@
 // Layer host. The calls for a C or Rust host, exported: each is the call of that name in `trace`, with its clauses. A library exports
 // nothing by itself, so hosts link the archive of this crate (`tools/library`).
+// Stays: what C calls takes each area, mode and kernel as a parameter of its own, here and in `trace`.
 #![tactic(auto)]
 
 ghost use Rattle.std.specs.Prelude.{◌≡◌, length};

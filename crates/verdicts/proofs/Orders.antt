@@ -114,7 +114,7 @@ module _ (most : ℕ) (g : Graph) (parameter : ℤ) (R C : List ℤ) (F S T L : 
     lcc-same-fault = same-fault (lcc-judged most g parameter s R C F S T L sound room)
         (lcc-judged most g parameter t R C F S T L sound room) h
 
-  -- ---- a claim that names the vertices in vertex order: 01's verdict, line by line
+  -- ---- a claim that names the vertices in vertex order: the rules' verdict, line by line
   module _ (s : List ℕ) where
     many : length (names g) ≡ g.vertices
     many = names-length g (sound-of g sound)

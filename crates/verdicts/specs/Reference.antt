@@ -1,4 +1,5 @@
--- 01 "Claims and verdicts" and 000, 2.4: what each kernel brings to a verdict, its reference output and the rule by which a claim matches.
+-- The rules "Claims and verdicts" and Graphalytics, 2.4: what each kernel brings to a verdict, its reference output and the rule by which a
+-- claim matches.
 use Rattle.std.specs.Prelude.{ℕ, Bool, true, List, [], ℤ, pos, nat_abs, length}
 use Rattle.basis.specs.Refusal.{Said, not_there, bad_rounds}
 use Rattle.basis.specs.Area.{column}

@@ -22,6 +22,7 @@ fn settle<T: Zero>(judged: &Result<Verdict, Refusal>, area: &mut [T])
 }
 
 // What is said of a claim of numbers: a kernel's refusal, then that of areas that are too short, then the claim's.
+// Stays: `room` as a flag, here, below and in `each`. It is what a test of all six areas answered before the kernel used them.
 fn numbers_said(
     answer: Result<(), Refusal>,
     room: bool,

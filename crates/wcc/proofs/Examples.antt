@@ -1,4 +1,4 @@
--- WCC on the sheet's graph of 01, computed through the call; refusals; a path against its arcs. Assumes nothing.
+-- WCC on the sheet's graph of the rules, computed through the call; refusals; a path against its arcs. Assumes nothing.
 use mathlib.Core.Path.{◌≡◌, refl}
 use mathlib.Core.List.{[], ◌∷◌}
 use lib.IntN.{pos, negsuc}

@@ -1,4 +1,4 @@
--- What the labels of a sound graph mean: document 000, 2.3.3 and 01's house label. Assumes nothing.
+-- What the labels of a sound graph mean: Graphalytics 1.0.4, 2.3.3 and the rules' house label. Assumes nothing.
 use Prim.Native.Nat.{ℕ, ◌≤◌, ◌<◌}
 use mathlib.Core.Path.{◌≡◌, refl, sym, ap, ◌∙◌}
 use mathlib.Core.Logic.{◌↔◌}

@@ -1,4 +1,4 @@
--- 01 "Kernels" and document 000, 2.3.3: components and their labels, over the arcs that leave each of n vertices.
+-- The rules "Kernels" and Graphalytics 1.0.4, 2.3.3: components and their labels, over the arcs that leave each of n vertices.
 use Rattle.std.specs.Prelude.{ℕ, zero, suc, ◌<◌, ◌≡◌, Bool, true, ◌&&◌, ◌||◌, List, ℤ, pos, get_or, eqb}
 use Rattle.basis.specs.Area.{column}
 use Rattle.basis.specs.Closure.{Linked}

@@ -1,4 +1,4 @@
--- What a call of the kernel means, apart from how it is computed: 01 "Kernels" and document 000, 2.3.3.
+-- What a call of the kernel means, apart from how it is computed: the rules "Kernels" and Graphalytics 1.0.4, 2.3.3.
 use Rattle.std.specs.Prelude.{ℕ, ◌<◌, ◌≡◌, ◌↔◌, true, false, List, ℤ, pos, length, get_or}
 use Rattle.std.specs.Int.Signed.{lt_z}
 use Rattle.basis.specs.Refusal.{gives, unsound, no_room}

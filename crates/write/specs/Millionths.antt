@@ -1,4 +1,4 @@
--- 02 K3: "printed as the shortest plain decimal": the bytes of a number of millionths.
+-- Change K3: "printed as the shortest plain decimal": the bytes of a number of millionths.
 use Rattle.std.specs.Prelude.{ℕ, zero, suc, ◌+◌, ◌/◌, ◌%◌, ◌^◌, true, false, List, [], ◌∷◌, ◌++◌, eqb}
 use Rattle.text.specs.Bytes.{zero_digit, point_mark}
 use Rattle.text.specs.Weight.{most_places, million}

@@ -1,5 +1,5 @@
-//! "Say where in the line" (02 K2): the first byte at which no good line could go on, by a table of states. From every state some good line
-//! can still be reached, so that byte is the first that the table has no row for.
+//! "Say where in the line" (change K2): the first byte at which no good line could go on, by a table of states. From every state some good
+//! line can still be reached, so that byte is the first that the table has no row for.
 
 use crate::lists::{self, Line};
 use crate::{at, claims, Refusal};

@@ -16,7 +16,8 @@ returns-in_err-id c =
 
 pub returns-in_default : goal.returns-in_default
 returns-in_default c =
-    numbers-end _ _ _ c.loop-k.invariant c.requires.ids_in_bounds.0 _ _ c.claim-line.ensures c.in_ok-id.ensures c.in_default.is c.ended.ensures
+    numbers-end _ _ _ c.loop-k.invariant c.requires.ids_in_bounds.0 _ _ c.claim-line.ensures c.in_ok-id.ensures c.in_default.is
+    c.ended.ensures
 
 pub keep-requires : goal.keep-requires
 keep-requires c =
