@@ -77,6 +77,8 @@ fn weight_of(s: &[u8]) -> Result<Scan<u64>, usize>
 }
 
 // The weight from a place to the end of its line, with the place past that line; or the place of the byte at which it breaks off.
+// Stays: `decimal_rest` is like it, but its reader has no place beside a good word; one function over both readers would need a clause on
+// the places of a closure's answers.
 pub(crate) fn weight_rest(s: &[u8], at: usize) -> Result<Scan<u64>, usize>
     requires { at ≤ length s.now }
     ensures { read_says result ≡ last_at weight_form s.now at }

@@ -14,3 +14,6 @@ offset_bounds-lines-v-2 c = search (rules, found_below, to_z-of_z, c.in_ok-v.was
 
 pub bounds-lines-v-2 : goal.bounds-lines-v-2
 bounds-lines-v-2 c = search (found_below, to_z-of_z, c.in_ok-v.was)
+
+pub returns-then-lines-v-ne0-clause-value : goal.returns-then-lines-v-ne0-clause-value
+returns-then-lines-v-ne0-clause-value c = search rules
