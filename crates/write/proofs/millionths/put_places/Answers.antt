@@ -1,6 +1,9 @@
 use Rattle.write.proofs.Places.{placed-start, placed-length, placed-unit, placed-digit, placed-more, placed_end, placed-out}
 use Rattle.write.proofs.millionths.put_places.Goals as goal
 
+pub loop-unit-preserved : goal.loop-unit-preserved
+loop-unit-preserved c = search placed-more
+
 pub loop-unit-init : goal.loop-unit-init
 loop-unit-init c = search placed-start
 
@@ -15,9 +18,6 @@ digit-requires c = search placed-digit
 
 pub nonzero_rem-left : goal.nonzero_rem-left
 nonzero_rem-left c = search placed-unit
-
-pub loop-unit-preserved : goal.loop-unit-preserved
-loop-unit-preserved c = search placed-more
 
 pub shape_of-out : goal.shape_of-out
 shape_of-out c = search placed-length
