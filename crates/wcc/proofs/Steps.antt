@@ -5,24 +5,27 @@ use mathlib.Core.List.{List}
 use native.Mathlib.Omega.{arith}
 use native.Mathlib.Numerals.{add-one}
 use lib.IntN.{ℤ, pos}
-use lib.ListN.{length, get_or, set}
+use lib.ListN.{get_or, set}
+use Rattle.std.specs.Prelude.{Result, Ok, Err}
 use Rattle.basis.specs.declared.refusal.Refusal.{Refusal}
-use Rattle.basis.specs.Refusal.{Said, gives, refuses}
+use Rattle.basis.specs.Refusal.{Said}
 use Rattle.basis.specs.Area.{column}
-use Rattle.book.specs.Rules.{walk_end, Outcome, outcome, head_of, open_book, Each, EachOutcome, each_outcome, join_each}
+use Rattle.book.specs.declared.Head.{Head}
+use Rattle.book.specs.Rules.{Outcome, outcome, head_of, open_book, Each, EachOutcome, each_outcome, join_each}
 use Rattle.book.specs.One.{one, one_book}
+use Rattle.book.specs.Says.{says_headed}
 use Rattle.book.specs.Series.{head_in}
 use Rattle.wcc.specs.Steps.{head_here, join_arcs, grouped, marked, taken_over, Within}
 
 -- ---- the head that a call gives
-module _ (xs : List ℤ) (v : ℕ) where
-  pub head-given : (h moves : ℕ) → gives (walk_end h moves) ≡ head_of (one xs) v → h ≡ head_here xs v
+module _ (xs : List ℤ) (v : ℕ) (r : Result Head Refusal) (e : says_headed r ≡ head_of (one xs) v) where
+  pub head-given : (h : Head) → r ≡ Ok h → h.head ≡ head_here xs v
   unfolding head_here
-  head-given h moves e = ap head_in e
+  head-given h f = ap (λ (x : Result Head Refusal). head_in (says_headed x)) (sym f) ∙ ap head_in e
 
-  pub head-refused : (r : Refusal) → refuses r ≡ head_of (one xs) v → 0 ≡ head_here xs v
+  pub head-refused : (q : Refusal) → r ≡ Err q → 0 ≡ head_here xs v
   unfolding head_here
-  head-refused r e = ap head_in e
+  head-refused q f = ap (λ (x : Result Head Refusal). head_in (says_headed x)) (sym f) ∙ ap head_in e
 
 -- ---- joins
 module _ (out : ℕ → List ℕ) (a : List ℤ) where
@@ -54,17 +57,17 @@ module _ (g : ℕ → ℕ) where
   pub head-below : (n m v : ℕ) → Within n g → m ≡ n → v < n → g v < m
   head-below n m v w e l = let k = w v l in omega arith
 
-  -- what is left to mark when k vertices are left is those
-  pub mark-more : (ids R T : List ℤ) (k h : ℕ) (z : ℤ) → 0 < k → h ≡ g (k - 1) → z ≡ get_or ids (k - 1) (pos 0) → marked g ids k R ≡ T
-      → marked g ids (k - 1) (set R h z) ≡ T
+  -- a turn marks the last of the vertices that are left
+  pub mark-more : (ids R T : List ℤ) (n h : ℕ) (z : ℤ) → 0 < n → h ≡ g (n - 1) → z ≡ get_or ids (n - 1) (pos 0) → marked g ids n R ≡ T
+      → marked g ids (n - 1) (set R h z) ≡ T
   unfolding marked
-  mark-more ids R T k h z l q f e =
-      let s : k ≡ suc (k - 1) = omega arith in
-      ap (λ (x : List ℤ). marked g ids (k - 1) x) (ap₂ (set R) q f) ∙ ap (λ (k : ℕ). marked g ids k R) (sym s) ∙ e
+  mark-more ids R T n h z l q f e =
+      let s : n ≡ suc (n - 1) = omega arith in
+      ap (λ (x : List ℤ). marked g ids (n - 1) x) (ap₂ (set R) q f) ∙ ap (λ (k : ℕ). marked g ids k R) (sym s) ∙ e
 
-  pub mark-end : (ids R T : List ℤ) (k : ℕ) → k ≤ 0 → marked g ids k R ≡ T → R ≡ T
+  pub mark-end : (ids R T : List ℤ) (n : ℕ) → n ≤ 0 → marked g ids n R ≡ T → R ≡ T
   unfolding marked
-  mark-end ids R T k l e = let q : 0 ≡ k = omega arith in ap (λ (k : ℕ). marked g ids k R) q ∙ e
+  mark-end ids R T n l e = let q : 0 ≡ n = omega arith in ap (λ (k : ℕ). marked g ids k R) q ∙ e
 
   pub take_none : (R : List ℤ) → R ≡ taken_over g 0 R
   unfolding taken_over
@@ -73,6 +76,3 @@ module _ (g : ℕ → ℕ) where
   pub take_more : (R S : List ℤ) (v : ℕ) (z : ℤ) → z ≡ get_or S (g v) (pos 0) → S ≡ taken_over g v R → set S v z ≡ taken_over g (v + 1) R
   unfolding taken_over
   take_more R S v z f e = rw add-one (ap (set S v) f ∙ ap (λ (X : List ℤ). set X v (get_or X (g v) (pos 0))) e)
-
-  pub take-end : (R S : List ℤ) (v n : ℕ) → v ≤ n → n ≤ v → n ≡ length R → S ≡ taken_over g v R → S ≡ taken_over g (length R) R
-  take-end R S v n l h q e = let p : v ≡ length R = omega arith in e ∙ ap (λ (x : ℕ). taken_over g x R) p

@@ -15,7 +15,7 @@ fn head_of(entries: &[i64], v: usize) -> usize
     ensures { result ≡ head_here entries.now v }
 {
     match head(entries, v) {
-        Ok(at) => at.head,
+        Ok(h) => h.head,
         Err(_) => 0,
     }
 }
@@ -31,21 +31,21 @@ fn note_heads(entries: &[i64], heads: &mut [usize])
 
 // Joins along every outward arc of n vertices. In a book of n vertices just opened every join is accepted, since the arcs name its
 // vertices: what `join_each` answers is `Ok` for each of them (law `Joins.arcs-accepted`), and is not looked at.
-fn join_arcs(n: usize, out: Way, entries: &mut [i64])
-    ensures { entries.new ≡ join_arcs (part_of n out.entry.offsets.now out.entry.targets.now) n entries.old }
+fn join_arcs(n: usize, way: Way, entries: &mut [i64])
+    ensures { entries.new ≡ join_arcs (part_of n way.entry.offsets.now way.entry.targets.now) n entries.old }
 {
     for u in 0..n {
-        let _ = join_each(entries, u, neighbours(out.targets, out.offsets, n, u));
+        let _joined = join_each(entries, u, neighbours(way.targets, way.offsets, n, u));
     }
 }
 
 // The head of each vertex in the book of the groups that the arcs of n vertices make; `entries` holds that book.
-pub(crate) fn find_heads(n: usize, out: Way, entries: &mut [i64], heads: &mut [usize])
+pub(crate) fn find_heads(n: usize, way: Way, entries: &mut [i64], heads: &mut [usize])
     ensures { heads.new
-        ≡ column (head_here (grouped (part_of n out.entry.offsets.now out.entry.targets.now) n entries.old)) 0
+        ≡ column (head_here (grouped (part_of n way.entry.offsets.now way.entry.targets.now) n entries.old)) 0
         (length heads.old) }
 {
-    let _ = open_book(entries);
-    join_arcs(n, out, entries);
+    let _opened = open_book(entries);
+    join_arcs(n, way, entries);
     note_heads(entries, heads);
 }
