@@ -54,5 +54,7 @@ pub fn copy(from: &[usize], n: usize, to: &mut [usize])
     ensures { to.new ≡ copied n from.now to.old }
 {
     let most = lesser(n, lesser(from.len(), to.len()));
-    to[..most].copy_from_slice(&from[..most]);
+    for i in 0..most {
+        to[i] = from[i];
+    }
 }

@@ -7,8 +7,8 @@ use native.Mathlib.Omega.{arith}
 use native.Mathlib.Numerals.{add-one}
 use lib.ListN.{length, get_or, set, drop, replicate}
 use lib.Dec.{eqb, ltb}
-use Rattle.basis.specs.Area.{column}
-use Rattle.basis.proofs.Areas.{column-none, column-more, column-end}
+use Rattle.basis.specs.Area.{column, copied}
+use Rattle.basis.proofs.Areas.{column-none, column-more, column-end, column-length, copied_all}
 use Rattle.basis.specs.Scan.{all_below}
 use Rattle.basis.proofs.Scans.{below-append}
 use Rattle.graph.specs.Sound.{Graph, inward, outward}
@@ -81,9 +81,12 @@ module _ {g : Graph} {L N C : List ℕ} (s : Runnable g L N C) where
 
 -- one round more: the labels are what was copied into them, the next labels
 module _ (g : Graph) (L : List ℕ) where
-  pub round-on : (L' M X : List ℕ) (k : ℕ) → L' ≡ numbers_after g L k → M ≡ next_numbers g L' → X ≡ M → X ≡ numbers_after g L (k + 1)
-  unfolding rounds
-  round-on L' M X k e m q = q ∙ m ∙ ap (next_numbers g) e ∙ rw (add-one k) refl
+  pub round-on : (L' M X : List ℕ) (k : ℕ) → L' ≡ numbers_after g L k → length L' ≡ g.vertices → M ≡ next_numbers g L'
+      → X ≡ copied (length M) M L' → X ≡ numbers_after g L (k + 1)
+  unfolding rounds one_round
+  round-on L' M X k e l m q =
+      let f = next_at eqb ltb 0 (around_in g) g.vertices L' in
+      q ∙ copied_all M L' (l ∙ sym (ap length m ∙ column-length f 0 g.vertices)) ∙ m ∙ ap (next_numbers g) e ∙ rw (add-one k) refl
 
   pub round-none : L ≡ numbers_after g L 0
   unfolding rounds

@@ -6,7 +6,7 @@ ghost use Rattle.cdlp.specs.Rounds.{labels_at, cdlp_of};
 ghost use Rattle.cdlp.specs.Steps.{Runnable, next_numbers, numbers_after, Fitting, Nameable};
 
 use crate::label::settle;
-use basis::area::clear;
+use basis::area::{clear, copy};
 use graph::Lent;
 use view::neighbours;
 
@@ -50,7 +50,7 @@ fn turns(g: Lent, k: usize, labels: &mut [usize], next: &mut [usize], counts: &m
 {
     for _ in 0..k {
         round(g, labels, next, counts);
-        labels.copy_from_slice(next);
+        copy(next, next.len(), labels);
     }
 }
 
