@@ -1,5 +1,5 @@
 -- Laws of the area: an opening, for each `return` of the code, and a head's size as the code reads it. Assumes nothing.
-use mathlib.Core.Path.{◌≡◌, refl, ap, ◌∙◌}
+use mathlib.Core.Path.{◌≡◌, ap, ◌∙◌}
 use mathlib.Core.List.{List}
 use mathlib.Core.Bool.{Bool, true, false}
 use Prim.Native.Nat.{ℕ, ◌+◌, ◌≤◌, ◌<◌, min}
@@ -7,16 +7,12 @@ use native.Mathlib.Omega.{arith}
 use lib.IntN.{ℤ, pos, negsuc}
 use lib.ListN.{length, get_or, replicate}
 use lib.Dec.{leb}
-use lib.Signed.{lt_z}
-use borrow.Author.Tests.{leb-true, le-ltb}
-use Rattle.std.specs.List.{filter}
-use Rattle.std.proofs.lemmas.List.Sums.{length-filter}
-use Rattle.book.proofs.Tally.{tally-list, tally-same}
+use borrow.Author.Tests.{leb-true}
 use Rattle.basis.specs.Limits.{most_vertices}
 use Rattle.basis.proofs.Tests.{failed, held, no-case}
 use Rattle.basis.specs.declared.refusal.Refusal.{Refusal}
 use Rattle.basis.specs.Refusal.{gives, refuses, plain, no_room, unsound}
-use Rattle.book.specs.Rules.{stop, is_stop, tally, walk_end, outcome, open_book, head_of, group_size}
+use Rattle.book.specs.Rules.{stop, walk_end, outcome, open_book, head_of, group_size}
 use Rattle.book.specs.One.{next_of, size_of, next_here, size_here, one, one_book}
 use Rattle.book.specs.Steps.{AtHead}
 use Rattle.book.proofs.Calls.{size_below, size-large, size_is, limit-size}
@@ -30,17 +26,6 @@ module _ (xs : List ℤ) (t : Bool) (e : t ≡ leb (length xs) most_vertices) wh
   pub open-ready : (ys : List ℤ) → t ≡ true → ys ≡ replicate (length xs) (negsuc 0) → outcome (gives tt) ys ≡ open_book one_book xs
   unfolding open_book one
   open-ready ys f p = rw (held t _ e f, p)
-
--- ---- the heads among the entries
-pub heads-counted : (xs : List ℤ) → length (filter (λ z. lt_z z (pos 0)) xs) ≡ tally (λ v. is_stop (next_here xs v)) (length xs)
-unfolding next_here
-heads-counted xs =
-    length-filter (λ z. lt_z z (pos 0)) xs ∙ tally-list (λ z. lt_z z (pos 0)) (pos 0) xs
-    ∙ tally-same _ _ (length xs) (λ v l. sign (get_or xs v (pos 0)))
-  where
-    sign : (z : ℤ) → lt_z z (pos 0) ≡ is_stop (next_of z)
-    sign (pos n) = le-ltb n 0 (omega arith)
-    sign (negsuc k) = refl
 
 -- ---- the size at a head, or one more than the length where it is above the length
 pub size-pos : (xs : List ℤ) (h : ℕ) → AtHead xs h → 0 < size_here xs h

@@ -2,17 +2,19 @@
 use mathlib.Core.Path.{◌≡◌, refl, sym, ap, ap₂, ◌∙◌}
 use mathlib.Core.Bool.{Bool, true, false, ◌&&◌}
 use mathlib.Core.Logic.{◌⊎◌, inl, inr}
-use Prim.Native.Nat.{ℕ, ◌≤◌, ◌<◌}
+use Prim.Native.Nat.{ℕ, suc, ◌+◌, ◌≤◌, ◌<◌}
 use native.Mathlib.Omega.{arith}
 use native.Mathlib.Decide.{dec_lt}
+use native.Mathlib.Numerals.{add-one}
 use lib.Dec.{leb, ltb, eqb}
 use borrow.Author.Tests.{ltb-true, leb-true, lt-ltb, le-ltb, le-leb, lt-leb}
 use Rattle.basis.proofs.Saids.{refused-given, given-one, check-on, check-off, check-passed, onward-passed}
 use Rattle.basis.specs.declared.refusal.Refusal.{Refusal}
 use Rattle.basis.specs.Refusal.{Said, gives, refuses, plain, no_room, unsound, not_there, onward}
 use Rattle.basis.proofs.Tests.{and_first, and_second, and_both, and-off, failed, held}
-use Rattle.book.specs.Rules.{most_moves, stop, View, WalkEnd, walk_end, Heads, heads, walk_from, head_of, pair, heads_of, one_head}
+use Rattle.book.specs.Rules.{most_moves, Next, stop, View, WalkEnd, walk_end, Heads, heads, walk_from, head_of, pair, heads_of, one_head}
 use Rattle.book.specs.Rules.{same_group, size_at, group_size, tally, is_stop, group_count, largest, limit_of, step_limit}
+use Rattle.book.proofs.Tally.{tally-yes, tally-no}
 use Rattle.book.proofs.Walks.{walk_from-in}
 
 -- ---- the head
@@ -181,7 +183,14 @@ module _ (w : View) (v : ℕ) where
     pub limit-size : (w.fit ≡ true) × (0 < s) × (s ≤ w.count)
     limit-size = size-inside s (sym e)
 
--- ---- the count
+-- ---- the count: t says whether i is a head
+module _ (next : ℕ → Next) (i : ℕ) (t : Bool) (e : t ≡ is_stop (next i)) where
+  pub count_head : t ≡ true → tally (λ v. is_stop (next v)) (i + 1) ≡ suc (tally (λ v. is_stop (next v)) i)
+  count_head h = rw add-one (tally-yes (λ v. is_stop (next v)) i (sym e ∙ h))
+
+  pub count-other : t ≡ false → tally (λ v. is_stop (next v)) (i + 1) ≡ tally (λ v. is_stop (next v)) i
+  count-other h = rw add-one (tally-no (λ v. is_stop (next v)) i (sym e ∙ h))
+
 module _ (w : View) (t : Bool) (e : t ≡ w.fit) where
   pub count-unlent : (x : Refusal) → t ≡ false → x ≡ plain no_room → refuses x ≡ group_count w
   unfolding group_count

@@ -1,18 +1,19 @@
 -- Laws of an entry: a signed number as the machine reads it off the area, and a size as it is written there. Assumes nothing.
-use mathlib.Core.Path.{◌≡◌, refl, sym, ap, ◌∙◌}
-use mathlib.Core.Bool.{false}
+use mathlib.Core.Path.{◌≡◌, refl, sym, ap, ap₂, ◌∙◌}
+use mathlib.Core.Bool.{true, false}
 use mathlib.Core.List.{List}
-use Prim.Native.Nat.{ℕ, zero, suc, ◌+◌, ◌^◌, ◌<◌, min}
+use Prim.Native.Nat.{ℕ, zero, suc, ◌+◌, ◌^◌, ◌≤◌, ◌<◌, min}
 use native.Mathlib.Omega.{arith}
-use lib.IntN.{ℤ, pos, negsuc, neg_ℤ, nat_abs}
+use lib.IntN.{ℤ, pos, negsuc, neg_ℤ, nat_abs, ◌-ℤ◌, +ℤ_idl}
 use lib.Signed.{mag, lt_z, non_neg}
 use lib.Dec.{T, ltb}
 use lib.ListN.{length, get_or}
 use mir.Syntax.{w64}
-use mir.Val.{Fits, to_z, of_z}
+use mir.Val.{Fits, SFits, to_z, of_z}
 use mir.Facts.{to_z-of_z}
-use borrow.Author.Tests.{ltb-true, lt-ltb, le-ltb}
+use borrow.Author.Tests.{ltb-true, ltb-false, lt-ltb, le-ltb}
 use Rattle.basis.proofs.Tests.{clash, no-case, same_test}
+use Rattle.basis.proofs.Minus.{minus-fits, minus-again}
 use Rattle.book.specs.Rules.{stop, to, is_stop}
 use Rattle.book.specs.One.{next_of, size_of, next_here, size_here}
 use Rattle.book.specs.Steps.{AtHead}
@@ -70,13 +71,41 @@ module _ (xs : List ℤ) (v : ℕ) (f : mag (get_or xs v (pos 0)) < 2 ^ 63) wher
 
   -- v is a head of an area that is well lent
   module _ (x : AtHead xs v) where
-    size-unsigned : nat_abs (to_z w64 (of_z w64 z)) ≡ size_here xs v
-    unfolding next_here size_here
-    size-unsigned = ap nat_abs again ∙ go z x.head
-      where
-        go : (y : ℤ) → next_of y ≡ stop → nat_abs y ≡ size_of y
-        go (pos p) e = no-case cc
-        go (negsuc k) e = refl
+    few : length xs < 2 ^ 63
+    few = omega (arith, x.lent)
 
-    pub size-least : (s m : ℕ) → s ≡ nat_abs (to_z w64 (of_z w64 z)) → m ≡ min s (length xs + 1) → m ≡ min (size_here xs v) (length xs + 1)
-    size-least s m p q = q ∙ ap (λ (k : ℕ). min k (length xs + 1)) (p ∙ size-unsigned)
+    pub length-fits : SFits w64 (pos 0 -ℤ to_z w64 (length xs))
+    length-fits = minus-fits (length xs) few
+
+    below-minus : lt_z (to_z w64 (of_z w64 z)) (to_z w64 (of_z w64 (pos 0 -ℤ to_z w64 (length xs)))) ≡ ltb (length xs) (size_here xs v)
+    unfolding next_here size_here
+    below-minus = ap₂ lt_z again (minus-again (length xs) few) ∙ low-entry z (length xs) x.head
+
+    pub size_above : lt_z (to_z w64 (of_z w64 z)) (to_z w64 (of_z w64 (pos 0 -ℤ to_z w64 (length xs)))) ≡ true
+        → length xs + 1 ≡ min (size_here xs v) (length xs + 1)
+    size_above t = let d = ltb-true (length xs) (size_here xs v) (sym below-minus ∙ t) in omega arith
+
+    module _ (t : lt_z (to_z w64 (of_z w64 z)) (to_z w64 (of_z w64 (pos 0 -ℤ to_z w64 (length xs)))) ≡ false) where
+      within : size_here xs v ≤ length xs
+      within = ltb-false (length xs) (size_here xs v) (sym below-minus ∙ t)
+
+      turned : pos 0 -ℤ to_z w64 (of_z w64 z) ≡ pos (size_here xs v)
+      unfolding next_here size_here
+      turned = ap (λ (y : ℤ). pos 0 -ℤ y) again ∙ +ℤ_idl (neg_ℤ z) ∙ go z x.head
+        where
+          go : (y : ℤ) → next_of y ≡ stop → neg_ℤ y ≡ pos (size_of y)
+          go (pos p) e = no-case cc
+          go (negsuc k) e = refl
+
+      pub size_fits : SFits w64 (pos 0 -ℤ to_z w64 (of_z w64 z))
+      size_fits = rw turned (record { sfits = omega (arith, within, few) })
+
+      size-again : to_z w64 (of_z w64 (pos 0 -ℤ to_z w64 (of_z w64 z))) ≡ pos (size_here xs v)
+      size-again = to_z-of_z size_fits ∙ turned
+
+      pub size-cast : T (non_neg (to_z w64 (of_z w64 (pos 0 -ℤ to_z w64 (of_z w64 z)))))
+          × Fits w64 (nat_abs (to_z w64 (of_z w64 (pos 0 -ℤ to_z w64 (of_z w64 z)))))
+      size-cast = rw size-again (tt, record { fits = omega (arith, within, few) })
+
+      pub size-read : nat_abs (to_z w64 (of_z w64 (pos 0 -ℤ to_z w64 (of_z w64 z)))) ≡ min (size_here xs v) (length xs + 1)
+      size-read = ap nat_abs size-again ∙ omega (arith, within)

@@ -1,16 +1,10 @@
 -- Laws of `tally`, the count of the numbers below n that pass a test. Assumes nothing.
-use mathlib.Core.Path.{◌≡◌, refl, sym, ap, ◌∙◌}
+use mathlib.Core.Path.{◌≡◌, refl, ap, ◌∙◌}
 use mathlib.Core.Bool.{Bool, true, false, cond}
 use Prim.Native.Nat.{ℕ, zero, suc, ◌+◌, ◌≤◌, ◌<◌}
 use native.Mathlib.Omega.{arith}
 use native.Mathlib.Decide.{ℕ_discrete}
-use native.Mathlib.Numerals.{add-one}
-use mathlib.Core.List.{List}
 use lib.Dec.{eqb}
-use lib.ListN.{length, get_or, take}
-use Rattle.std.specs.List.{count_by}
-use Rattle.std.proofs.Math.Seq.{take-length}
-use Rattle.std.proofs.lemmas.List.Sums.{count_by_more_yes, count_by_more_no}
 use borrow.Author.Tests.{eq-eqb, ne_eqb}
 use Rattle.basis.specs.Scan.{bit}
 use Rattle.book.specs.Rules.{tally}
@@ -96,21 +90,3 @@ tally-less p q y n l a b h = omega (arith, tally-one y n l, tally-sum p (λ x. e
     go : (x : ℕ) → Dec (x ≡ y) → bit (q x) ≡ bit (p x) + bit (eqb x y)
     go x (yes r) = simp (eq-eqb _ _ r, ap q r ∙ b, ap p r ∙ a)
     go x (no r) = simp (ne_eqb _ _ r, h x r) (omega arith)
-
--- a list's count of what passes a test is the count of the places that hold it
-pub tally-list : {A : Type 0} (p : A → Bool) (d : A) (xs : List A) → count_by p xs ≡ tally (λ v. p (get_or xs v d)) (length xs)
-tally-list p d xs = ap (count_by p) (sym (take-length xs)) ∙ go (length xs) (omega arith)
-  where
-    q : ℕ → Bool
-    q v = p (get_or xs v d)
-
-    go : (n : ℕ) → n ≤ length xs → count_by p (take n xs) ≡ tally q n
-    go zero l = tally-zero q
-    go (suc n) l = at (p (get_or xs n d)) refl (go n (omega arith))
-      where
-        at : (b : Bool) → p (get_or xs n d) ≡ b → count_by p (take n xs) ≡ tally q n
-            → count_by p (take (suc n) xs) ≡ tally q (suc n)
-        at true e ih =
-            ap (λ (k : ℕ). count_by p (take k xs)) (sym (add-one n)) ∙ count_by_more_yes p xs n d l e ∙ omega (arith, ih, tally-yes q n e)
-        at false e ih =
-            ap (λ (k : ℕ). count_by p (take k xs)) (sym (add-one n)) ∙ count_by_more_no p xs n d l e ∙ ih ∙ sym (tally-no q n e)

@@ -20,11 +20,15 @@ pub(crate) fn parent(entries: &[i64], v: usize) -> usize
     entries[v] as usize
 }
 
-// The size at the head `h`, or one more than the length where its entry is below minus the length, a size that no group has.
+// The size at the head `h`, or one more than the length where its entry is below minus the length, a size that no group has. The entry is
+// compared before it is negated: the least number has no negative.
 pub(crate) fn size_at(entries: &[i64], h: usize) -> usize
     requires { AtHead entries.now h }
     ensures { result ≡ min (size_here entries.now h) (length entries.now + 1) }
 {
-    let size = entries[h].unsigned_abs() as usize;
-    size.min(entries.len() + 1)
+    let entry = entries[h];
+    if entry < -(entries.len() as i64) {
+        return entries.len() + 1;
+    }
+    -entry as usize
 }

@@ -5,7 +5,7 @@ ghost use Rattle.book.specs.Rules.{head_of, same_group, group_size, group_count,
 ghost use Rattle.book.specs.One.{one};
 ghost use Rattle.book.specs.Says.{says_headed, says_compared, says_reading};
 
-use super::entry::size_at;
+use super::entry::{is_head, size_at};
 use super::{Head, heads, walk, well_lent};
 use basis::Refusal;
 use basis::refusal::{NO_ROOM, NOT_THERE, UNSOUND};
@@ -49,7 +49,13 @@ pub fn group_count(entries: &[i64]) -> Result<usize, Refusal>
     if !well_lent(entries) {
         return Err(Refusal::plain(NO_ROOM));
     }
-    Ok(entries.iter().filter(|entry| **entry < 0).count())
+    let mut count = 0;
+    for v in 0..entries.len() {
+        if is_head(entries, v) {
+            count += 1;
+        }
+    }
+    Ok(count)
 }
 
 // The largest k with 2 to the k at most `size`.
