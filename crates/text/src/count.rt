@@ -73,7 +73,11 @@ fn step(n: u64, b: u8) -> u64
     requires { (zero_digit ≤ b) × (b ≤ nine_digit) }
     ensures { result ≡ cut_number (with_digit n b) }
 {
-    cut(n.saturating_mul(10).saturating_add((b - ZERO) as u64))
+    if n <= CAP / 10 {
+        n * 10 + (b - ZERO) as u64
+    } else {
+        CAP
+    }
 }
 
 // The digits at a place, written after those of `start`.
