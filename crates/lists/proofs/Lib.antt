@@ -1,7 +1,6 @@
 -- Laws of reading the two lists, then what is accepted and what is refused.
 pub mod Handed
 pub mod Lookups
-pub mod Orders
 pub mod Reading
 pub mod Runs
 pub mod Gathers

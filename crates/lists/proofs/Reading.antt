@@ -1,8 +1,8 @@
 -- Laws of reading one line of a file. Assumes nothing.
 use Rattle.std.specs.Prelude.{Option, Some, None, Result, Ok, Err}
 use Prim.Native.Nat.{ℕ, ◌+◌}
-use mathlib.Core.Path.{◌≡◌, refl, sym, ap, ◌∙◌}
-use mathlib.Core.Bool.{Bool, true, false, cond, ◌&&◌}
+use mathlib.Core.Path.{◌≡◌, refl, sym, ap, ap₂, ◌∙◌}
+use mathlib.Core.Bool.{Bool, true, false, cond, ◌&&◌, ◌||◌}
 use mathlib.Core.List.{List}
 use borrow.Author.Tests.{eqb-true}
 use lib.Dec.{leb, eqb}
@@ -11,9 +11,6 @@ use lib.Signed.{lt_z}
 use Rattle.basis.specs.Refusal.{Said, gives, refuses, at, onward, too_many, not_above, vertex_file, edge_file}
 use Rattle.basis.specs.Order.{same_z}
 use Rattle.basis.specs.declared.refusal.Refusal.{Refusal}
-use mir.Val.{of_z, to_z}
-use mir.Syntax.{w64}
-use Rattle.basis.proofs.Orders.{signed-order}
 use Rattle.basis.proofs.Tests.{no-case, clash, and-off}
 use Rattle.text.specs.Line.{none, reader_says, vertex_line, edge_line}
 use Rattle.text.specs.File.{Before, first, after, unless}
@@ -23,9 +20,8 @@ use Rattle.graph.specs.Arcs.{Arc}
 use Rattle.graph.specs.Find.{is_there}
 use Rattle.lists.specs.declared.Lines.{Lines}
 use Rattle.lists.specs.Files.{vertex_test, is_above, vertex_number, edge_test, numbered}
-use Rattle.lists.specs.Steps.{before_of, above_last, lines_at, counted, step_by}
+use Rattle.lists.specs.Steps.{before_of, lines_at, counted, step_by}
 use Rattle.lists.specs.Steps.{vertex_step, order_fault, looked_by, with_numbers, edge_step}
-use Rattle.lists.proofs.Orders.{by_number, by_pair, above-vertex, above-edge}
 
 -- ---- one line more, by what is read at the reader's place
 module _ {A : Type 0} (file most : ℕ) (test : Before A → A → ℕ) (c : Lines A) (k : Cursor) where
@@ -66,13 +62,10 @@ module _ (s : List ℕ) (most : ℕ) (c : Lines ℤ) (k : Cursor) where
 
     -- the number v, handed on as z
     module _ (v : ℤ) (h : gives v ≡ counted vertex_file most c.passed x) (z : ℤ) (q : z ≡ v) (t : Bool)
-        (g : t ≡ above_last by_number (before_of c.last) z) where
-      passes : eqb (vertex_test (before_of c.last) v) 0 ≡ t
-      passes = rw q at (sym (g ∙ above-vertex (before_of c.last) z))
-
+        (g : t ≡ eqb (vertex_test (before_of c.last) z) 0) where
       pub vertex-fault : t ≡ false → (r : Refusal) → r ≡ at not_above vertex_file (c.passed + 1) → refuses r ≡ vertex_step s most c
       vertex-fault f r o =
-          let n : vertex_test (before_of c.last) v ≡ 4 = low (before_of c.last) (passes ∙ f) in
+          let n : vertex_test (before_of c.last) v ≡ 4 = low (before_of c.last) (rw q at (sym g ∙ f)) in
           ap refuses o ∙ rw n at (by-vertex (gives v) h)
         where
           low : (b : Before ℤ) → eqb (vertex_test b v) 0 ≡ false → vertex_test b v ≡ 4
@@ -85,45 +78,49 @@ module _ (s : List ℕ) (most : ℕ) (c : Lines ℤ) (k : Cursor) where
 
       pub vertex-more : t ≡ true → gives (Some z, record { at = k; passed = c.passed + 1; last = Some z }) ≡ vertex_step s most c
       vertex-more f =
-          let n : vertex_test (before_of c.last) v ≡ 0 = eqb-true (vertex_test (before_of c.last) v) 0 (passes ∙ f) in
+          let n : vertex_test (before_of c.last) v ≡ 0 = eqb-true (vertex_test (before_of c.last) v) 0 (rw q at (sym g ∙ f)) in
           rw q (rw n at (by-vertex (gives v) h))
 
--- ---- the order of an edge; a number that is handed on is marked
-module _ (undirected : Bool) (before : Before (ℤ × ℤ)) (e : ℤ × ℤ) where
-  pub order-self : to_z w64 (of_z w64 e.0) ≡ e.0 → to_z w64 (of_z w64 e.1) ≡ e.1 → of_z w64 e.0 ≡ of_z w64 e.1
-      → Some 5 ≡ order_fault undirected before e
+-- ---- whether an edge is above the one before it, by its first number, and by its second where the first ones are the same
+module _ (last : Option (ℤ × ℤ)) (e : ℤ × ℤ) (p q : ℤ) (s : last ≡ Some (p, q)) (x a : ℤ) (t : Bool) (l : t ≡ lt_z x a) (hx : x ≡ p)
+    (ha : a ≡ e.0) (f : t ≡ false) (y b : ℤ) (u : Bool) (g : u ≡ same_z y b) (hy : y ≡ p) (hb : b ≡ e.0) (h : u ≡ true) where
+  second : is_above (before_of last) e ≡ lt_z q e.1
+  second =
+      ap (λ (o : Option (ℤ × ℤ)). is_above (before_of o) e) s
+      ∙ ap (λ (z : Bool). z || (same_z p e.0 && lt_z q e.1)) (sym (ap₂ lt_z hx ha) ∙ sym l ∙ f)
+      ∙ ap (λ (z : Bool). z && lt_z q e.1) (sym (ap₂ same_z hy hb) ∙ sym g ∙ h)
+
+  pub above-second : (z c : ℤ) (v : Bool) → v ≡ lt_z z c → z ≡ q → c ≡ e.1 → v ≡ is_above (before_of last) e
+  above-second z c v o hz hc = o ∙ ap₂ lt_z hz hc ∙ sym second
+
+-- ---- the order of an edge; a and b are its numbers as they are handed on, t says whether they are the same
+module _ (undirected : Bool) (before : Before (ℤ × ℤ)) (e : ℤ × ℤ) (a b : ℤ) (t : Bool) (s : t ≡ same_z a b) (ha : a ≡ e.0)
+    (hb : b ≡ e.1) where
+  self : same_z e.0 e.1 ≡ t
+  self = rw (← ha, ← hb) (sym s)
+
+  pub order-self : t ≡ true → Some 5 ≡ order_fault undirected before e
   unfolding order_fault
-  order-self p q h =
-      let n : e.0 ≡ e.1 = sym p ∙ ap (to_z w64) h ∙ q in
-      let m : same_z e.0 e.1 ≡ true = rw n (signed-order.same_refl e.1) in
-      rw m refl
+  order-self f = rw (self, f) refl
 
-  module _ (d : of_z w64 e.0 ≡ of_z w64 e.1 → ⊥) where
-    apart : same_z e.0 e.1 ≡ false
-    apart = go (same_z e.0 e.1) refl
-      where
-        go : (t : Bool) → same_z e.0 e.1 ≡ t → same_z e.0 e.1 ≡ false
-        go true q = absurd (d (ap (of_z w64) (signed-order.same-eq e.0 e.1 q)))
-        go false q = q
-
-    pub order-way : undirected ≡ true → (b a : ℤ) → b ≡ e.1 → a ≡ e.0 → lt_z b a ≡ true → Some 6 ≡ order_fault undirected before e
+  module _ (f : t ≡ false) where
+    pub order-way : undirected ≡ true → (c d : ℤ) (u : Bool) → u ≡ lt_z c d → c ≡ e.1 → d ≡ e.0 → u ≡ true
+        → Some 6 ≡ order_fault undirected before e
     unfolding order_fault
-    order-way u b a p q h = let m : lt_z e.1 e.0 ≡ true = rw (← p, ← q) h in rw (apart, u, m) refl
+    order-way g c d u l hc hd h = let m : lt_z e.1 e.0 ≡ true = rw (← hc, ← hd) (sym l ∙ h) in rw (self, f, g, m) refl
 
-    pub way-off : (b a : ℤ) → b ≡ e.1 → a ≡ e.0 → lt_z b a ≡ false → (undirected && lt_z e.1 e.0) ≡ false
-    way-off b a p q h = and-off undirected (lt_z e.1 e.0) (rw (← p, ← q) h)
-
-    module _ (w : (undirected && lt_z e.1 e.0) ≡ false) (t : Bool) (g : t ≡ above_last by_pair before e) where
-      above : is_above before e ≡ t
-      above = sym (g ∙ above-edge before e)
-
-      pub order-rises : t ≡ true → None ≡ order_fault undirected before e
+    module _ (w : (undirected && lt_z e.1 e.0) ≡ false) (v : Bool) (g : v ≡ is_above before e) where
+      pub order-rises : v ≡ true → None ≡ order_fault undirected before e
       unfolding order_fault
-      order-rises h = let m : is_above before e ≡ true = above ∙ h in rw (apart, w, m) refl
+      order-rises h = let m : is_above before e ≡ true = sym g ∙ h in rw (self, f, w, m) refl
 
-      pub order-falls : t ≡ false → Some 4 ≡ order_fault undirected before e
+      pub order-falls : v ≡ false → Some 4 ≡ order_fault undirected before e
       unfolding order_fault
-      order-falls h = let m : is_above before e ≡ false = above ∙ h in rw (apart, w, m) refl
+      order-falls h = let m : is_above before e ≡ false = sym g ∙ h in rw (self, f, w, m) refl
+
+pub way-off : (undirected : Bool) (e : ℤ × ℤ) (c d : ℤ) (u : Bool) → u ≡ lt_z c d → c ≡ e.1 → d ≡ e.0 → u ≡ false
+    → (undirected && lt_z e.1 e.0) ≡ false
+way-off undirected e c d u l hc hd h = and-off undirected (lt_z e.1 e.0) (rw (← hc, ← hd) (sym l ∙ h))
 
 -- ---- the test of an edge: its order, then its vertices
 abbrev number_of : Option ℕ → ℕ → ℕ

@@ -1,9 +1,7 @@
 -- What the loops over a file's lines do with one line, and what they keep.
-use Rattle.std.specs.Prelude.{Option, Some, None, ℕ, Result, Ok, Err, ◌+◌, Bool, true, cond, ◌&&◌, List, ℤ, length, leb}
+use Rattle.std.specs.Prelude.{Option, Some, None, ℕ, Result, Ok, Err, ◌+◌, Bool, cond, ◌&&◌, List, ℤ, length, leb}
 use Rattle.std.proofs.lemmas.List.Edits.{sets}
 use Rattle.std.specs.Int.Signed.{lt_z}
-use Rattle.std.specs.declared.cmp.Ordering.{Ordering}
-use Rattle.std.specs.Ordering.{partial_lt}
 use Rattle.basis.specs.declared.refusal.Refusal.{Refusal}
 use Rattle.basis.specs.Refusal.{Said, gives, refuses, at, mapped, too_many, not_above, self_edge, larger_first, vertex_file, edge_file}
 use Rattle.basis.specs.Order.{same_z}
@@ -18,11 +16,6 @@ use Rattle.lists.specs.Files.{vertex_test, is_above, edge_test, edges_of, number
 abbrev pub before_of : {A : Type 0} → Option A → Before A
 before_of None = first
 before_of (Some v) = after v
-
--- a value is above the one before it, by an order; the first line has none before it and passes
-abbrev pub above_last : {A : Type 0} → (A → A → Option Ordering) → Before A → A → Bool
-above_last order first v = true
-above_last order (after u) v = partial_lt order u v
 
 -- a reader at a place, which passed k lines
 abbrev pub lines_at : {A : Type 0} → ℕ → ℕ → Option A → Lines A

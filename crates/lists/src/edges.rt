@@ -3,15 +3,29 @@ ghost use Rattle.std.specs.Prelude.{◌≡◌, ◌-◌, ◌<◌, ◌^◌, length
 ghost use Rattle.basis.specs.Area.{cleared};
 ghost use Rattle.basis.specs.Refusal.{said};
 ghost use Rattle.graph.specs.Find.{bisected};
+ghost use Rattle.lists.specs.Files.{is_above};
 ghost use Rattle.lists.specs.Calls.{edge_outcome, edge_call};
 ghost use Rattle.lists.specs.Steps.{before_of, order_fault, looked_by, numbered_step, step_says, edges_scanned, edges_left};
 
-use crate::{Lines, counted, is_above, put};
+use crate::{Lines, counted, put};
 use basis::Refusal;
 use basis::area::{clear, number_at};
+use basis::order::{less, same};
 use basis::refusal::{EDGE_FILE, LARGER_FIRST, NOT_ABOVE, SELF_EDGE, UNKNOWN_VERTEX};
 use graph::find::find;
 use text::line::Cursor;
+
+// Whether an edge is above the one before it, if there is one.
+// Stays: by `less` and `same`, beside the vertex file's test. With one generic test by `<` no order that is read would go by these two.
+fn is_above(last: Option<(i64, i64)>, edge: (i64, i64)) -> bool
+    ensures { result ≡ is_above (before_of last) edge }
+{
+    let (a, b) = edge;
+    match last {
+        None => true,
+        Some((p, q)) => less(p, a) || same(p, a) && less(q, b),
+    }
+}
 
 // The number of the fault of an edge in its order; its vertices are not looked up yet.
 // Stays: `undirected` as a flag, here and below. It says what the file's edges are, as the definitions do, and is tested here alone.
@@ -19,10 +33,10 @@ fn order_fault(undirected: bool, last: Option<(i64, i64)>, edge: (i64, i64)) -> 
     ensures { result ≡ order_fault undirected (before_of last) edge }
 {
     let (a, b) = edge;
-    if a == b {
+    if same(a, b) {
         return Some(SELF_EDGE);
     }
-    if undirected && b < a {
+    if undirected && less(b, a) {
         return Some(LARGER_FIRST);
     }
     if is_above(last, edge) {

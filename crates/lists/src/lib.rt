@@ -6,7 +6,7 @@ pub mod vertices;
 
 ghost use Rattle.std.specs.Prelude.{◌≡◌, ◌-◌, ◌<◌, ◌^◌, set};
 ghost use Rattle.basis.specs.Refusal.{said};
-ghost use Rattle.lists.specs.Steps.{before_of, above_last, counted};
+ghost use Rattle.lists.specs.Steps.{counted};
 
 use basis::Refusal;
 use basis::refusal::TOO_MANY;
@@ -34,16 +34,6 @@ pub(crate) fn counted<T: Copy>(
         return Err(Refusal::at(TOO_MANY, file, k + 1));
     }
     line.map_err(|fault| Refusal::at_column(fault.number, file, k + 1, fault.column))
-}
-
-// Whether what a line says is above what the line before it says, if there is one.
-pub(crate) fn is_above<T: Copy + PartialOrd>(last: Option<T>, value: T) -> bool
-    ensures { result ≡ above_last T.partial_cmp (before_of last) value }
-{
-    match last {
-        None => true,
-        Some(before) => before < value,
-    }
 }
 
 // A value is stored where there is room for it.

@@ -1,15 +1,26 @@
 // The vertex file, line by line.
-ghost use Rattle.std.specs.Prelude.{◌≡◌, ◌-◌, ◌<◌, ◌^◌, length};
+ghost use Rattle.std.specs.Prelude.{◌≡◌, eqb, ◌-◌, ◌<◌, ◌^◌, length};
 ghost use Rattle.basis.specs.Refusal.{said, mapped};
-ghost use Rattle.lists.specs.Files.{identifiers};
+ghost use Rattle.lists.specs.Files.{vertex_test, identifiers};
 ghost use Rattle.lists.specs.Calls.{vertex_outcome, vertex_call};
-ghost use Rattle.lists.specs.Steps.{step_says, vertex_step, ids_into, ids_left};
+ghost use Rattle.lists.specs.Steps.{before_of, step_says, vertex_step, ids_into, ids_left};
 
-use crate::{Lines, counted, is_above, put};
+use crate::{Lines, counted, put};
 use basis::Refusal;
 use basis::area::clear;
+use basis::order::less;
 use basis::refusal::{NOT_ABOVE, VERTEX_FILE};
 use text::line::Cursor;
+
+// Whether an identifier is above the one before it, if there is one.
+fn is_above(last: Option<i64>, z: i64) -> bool
+    ensures { result ≡ eqb (vertex_test (before_of last) z) 0 }
+{
+    match last {
+        None => true,
+        Some(y) => less(y, z),
+    }
+}
 
 // One vertex line more: its identifier, or none where no line is left.
 fn next_vertex(lines: &mut Lines<i64>, s: &[u8], most: usize) -> Result<Option<i64>, Refusal>

@@ -5,11 +5,13 @@ ghost use Rattle.basis.specs.Order.{same_z};
 ghost use Rattle.matching.specs.Verdict.{unlike_vertex};
 ghost use Rattle.matching.specs.Steps.{counted};
 
+use basis::order::same;
+
 // Two claims are the same and the labels of their vertices are not, or the other way round.
 fn unlike(claim: i64, smaller_claim: i64, label: i64, smaller_label: i64) -> bool
     ensures { result ≡ not (beq (same_z claim smaller_claim) (same_z label smaller_label)) }
 {
-    (claim == smaller_claim) != (label == smaller_label)
+    same(claim, smaller_claim) != same(label, smaller_label)
 }
 
 // The smallest vertex that disagrees in kind with a smaller one.

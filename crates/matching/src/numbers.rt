@@ -11,6 +11,7 @@ use crate::kinds::first_unlike;
 use crate::reading::read_numbers;
 use basis::Refusal;
 use basis::area::clear;
+use basis::order::same;
 use basis::refusal::NO_ROOM;
 
 // The methods for numbers: exact match, for BFS and CDLP, and equivalence match, for WCC.
@@ -25,7 +26,7 @@ fn first_unequal(a: &[i64], b: &[i64]) -> Option<usize>
     requires { length a.now ≡ length b.now }
     ensures { result ≡ position (λ x. not (same_z x.0 x.1)) (zip a.now b.now) }
 {
-    a.iter().zip(b).position(|(x, y)| x != y)
+    a.iter().zip(b).position(|(x, y)| !same(*x, *y))
 }
 
 // The smallest vertex at fault by a rule.
