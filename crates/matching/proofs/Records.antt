@@ -50,10 +50,11 @@ module _ (lines : List ℕ) (n k : ℕ) where
     told : every n (is_recorded lines) ≡ not t
     told = sym (ap not (e ∙ any-missing lines n l) ∙ not-not (every n (is_recorded lines)))
 
-    pub end-missing : (stray : Option ℕ) → is_some stray ≡ false → t ≡ true → suc k ≡ end_line lines n k (counted stray)
+    -- m is the place that the code answers
+    pub end-missing : (stray : Option ℕ) → is_some stray ≡ false → t ≡ true → (m : ℕ) → m ≡ k → suc m ≡ end_line lines n k (counted stray)
     unfolding end_line
-    end-missing (Some i) h p = cc
-    end-missing None h p = rw (told, p) (sym (add-one k))
+    end-missing (Some i) h p m q = cc
+    end-missing None h p m q = ap suc q ∙ rw (told, p) (sym (add-one k))
 
     pub end_whole : (stray : Option ℕ) → t ≡ false → counted stray ≡ end_line lines n k (counted stray)
     unfolding end_line

@@ -1,3 +1,4 @@
+use native.Mathlib.Omega.{arith}
 use Rattle.matching.proofs.Records.{end-missing, end_whole, end-stray}
 use Rattle.matching.proofs.reading.ended.Goals as goal
 use Rattle.matching.proofs.reading.ended.Goals.{else-is_none-via-then-is_none+else-contains, else-is_none-via-else-is_none}
@@ -5,7 +6,7 @@ use Rattle.matching.proofs.reading.ended.Goals.{else-is_none-via-then-is_none+el
 pub returns-then-contains : goal.returns-then-contains
 returns-then-contains c =
     end-missing c.args.lines.now c.args.n c.args.k c.requires c.contains.ensures.value c.args.stray c.if-is_none.ensures
-    c.if-contains.true
+    c.if-contains.true _ (omega arith)
 
 pub returns : goal.returns
 returns c =
