@@ -9,10 +9,6 @@ use borrow.Author.Tests.{eq-eqb, ne_eqb}
 use Rattle.basis.specs.Scan.{bit}
 use Rattle.book.specs.Rules.{tally}
 
-tally-zero : (p : ℕ → Bool) → 0 ≡ tally p 0
-unfolding tally
-tally-zero p = refl
-
 pub tally-yes : (p : ℕ → Bool) (i : ℕ) → p i ≡ true → tally p (suc i) ≡ suc (tally p i)
 unfolding tally
 tally-yes p i e = simp e

@@ -2,7 +2,7 @@
 use Rattle.std.specs.Prelude.{Option, Some, None, Result, Ok, Err}
 use Prim.Native.Nat.{ℕ, ◌+◌}
 use mathlib.Core.Path.{◌≡◌, refl, sym, ap, ap₂, ◌∙◌}
-use mathlib.Core.Bool.{Bool, true, false, cond, ◌&&◌, ◌||◌}
+use mathlib.Core.Bool.{Bool, true, false, cond, ◌&&◌}
 use mathlib.Core.List.{List}
 use borrow.Author.Tests.{eqb-true}
 use lib.Dec.{leb, eqb}
@@ -81,17 +81,14 @@ module _ (s : List ℕ) (most : ℕ) (c : Lines ℤ) (k : Cursor) where
           let n : vertex_test (before_of c.last) v ≡ 0 = eqb-true (vertex_test (before_of c.last) v) 0 (rw q at (sym g ∙ f)) in
           rw q (rw n at (by-vertex (gives v) h))
 
--- ---- whether an edge is above the one before it, by its first number, and by its second where the first ones are the same
-module _ (last : Option (ℤ × ℤ)) (e : ℤ × ℤ) (p q : ℤ) (s : last ≡ Some (p, q)) (x a : ℤ) (t : Bool) (l : t ≡ lt_z x a) (hx : x ≡ p)
-    (ha : a ≡ e.0) (f : t ≡ false) (y b : ℤ) (u : Bool) (g : u ≡ same_z y b) (hy : y ≡ p) (hb : b ≡ e.0) (h : u ≡ true) where
-  second : is_above (before_of last) e ≡ lt_z q e.1
-  second =
-      ap (λ (o : Option (ℤ × ℤ)). is_above (before_of o) e) s
-      ∙ ap (λ (z : Bool). z || (same_z p e.0 && lt_z q e.1)) (sym (ap₂ lt_z hx ha) ∙ sym l ∙ f)
-      ∙ ap (λ (z : Bool). z && lt_z q e.1) (sym (ap₂ same_z hy hb) ∙ sym g ∙ h)
+-- ---- whether an edge is above the one before it, by its second number where the first ones, p and a as they are handed on, are the same
+module _ (last : Option (ℤ × ℤ)) (e : ℤ × ℤ) (p q : ℤ) (s : last ≡ Some (p, q)) (x a : ℤ) (hx : x ≡ p) (ha : a ≡ e.0) where
+  second : lt_z x a ≡ false → same_z x a ≡ true → is_above (before_of last) e ≡ lt_z q e.1
+  second f h = rw (s, ← hx, ← ha, f, h) refl
 
-  pub above-second : (z c : ℤ) (v : Bool) → v ≡ lt_z z c → z ≡ q → c ≡ e.1 → v ≡ is_above (before_of last) e
-  above-second z c v o hz hc = o ∙ ap₂ lt_z hz hc ∙ sym second
+  pub above-second : (t u : Bool) → t ≡ lt_z x a → t ≡ false → u ≡ same_z x a → u ≡ true
+      → (y b : ℤ) (v : Bool) → v ≡ lt_z y b → y ≡ q → b ≡ e.1 → v ≡ is_above (before_of last) e
+  above-second t u l f g h y b v o hy hb = o ∙ ap₂ lt_z hy hb ∙ sym (second (sym l ∙ f) (sym g ∙ h))
 
 -- ---- the order of an edge; a and b are its numbers as they are handed on, t says whether they are the same
 module _ (undirected : Bool) (before : Before (ℤ × ℤ)) (e : ℤ × ℤ) (a b : ℤ) (t : Bool) (s : t ≡ same_z a b) (ha : a ≡ e.0)
